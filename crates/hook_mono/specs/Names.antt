@@ -1,0 +1,68 @@
+-- The name of a hook.
+use Rattle.std.specs.Prelude.{◌≡◌, ℕ, List, [], ◌∷◌, ◌++◌, codes, map}
+use Rattle.wasm_num.specs.declared.ValType.{ValType}
+use Rattle.wasm_num.specs.declared.ValType.TheVariants.{I32, I64}
+use Rattle.module_ast.specs.declared.ops.VarOp.{VarOp}
+use Rattle.module_ast.specs.declared.ops.VarOp.TheVariants.{Get, Set, Tee}
+use Rattle.wasm_num.specs.Names.{num_name}
+use Rattle.module_ast.specs.OpNames.{load_name, store_name}
+use Rattle.hook_select.specs.declared.GroupName.{GroupName}
+use Rattle.hook_select.specs.declared.GroupName.TheVariants as groups
+use Rattle.hook_select.specs.Kinds.{kind_name}
+use Rattle.hook_mono.specs.declared.HookKey.{HookKey}
+use Rattle.hook_mono.specs.declared.HookKey.TheVariants.{Plain, Begin, End, Const, Num, Drop, Select, Local, Global, Load, Store, CallPre, IndirectPre, CallPost, Return}
+use Rattle.hook_mono.specs.Keys.{IsProper}
+
+-- i for i32, l for i64
+abbrev pub letter : ValType → ℕ
+letter I32 = 105
+letter I64 = 108
+
+abbrev pub letters : List ValType → List ℕ
+letters ts = map letter ts
+
+abbrev pub plain_name : GroupName → List ℕ
+plain_name groups.Start = codes "start"
+plain_name groups.Nop = codes "nop"
+plain_name groups.Unreachable = codes "unreachable"
+plain_name groups.If = codes "if"
+plain_name groups.Br = codes "br"
+plain_name groups.BrIf = codes "br_if"
+plain_name groups.BrTable = codes "br_table"
+plain_name groups.MemorySize = codes "memory.size"
+plain_name groups.MemoryGrow = codes "memory.grow"
+plain_name _ = []
+
+abbrev pub const_name : ValType → List ℕ
+const_name I32 = codes "i32.const"
+const_name I64 = codes "i64.const"
+
+abbrev pub var_name : VarOp → List ℕ
+var_name Get = codes "get_"
+var_name Set = codes "set_"
+var_name Tee = codes "tee_"
+
+abbrev pub name_of : HookKey → List ℕ
+name_of (Plain g) = plain_name g
+name_of (Begin kind) = codes "begin_" ++ kind_name kind
+name_of (End kind) = codes "end_" ++ kind_name kind
+name_of (Const t) = const_name t
+name_of (Num op) = num_name op
+name_of (Drop t) = codes "drop_" ++ letter t ∷ []
+name_of (Select t) = codes "select_" ++ letter t ∷ []
+name_of (Local op t) = codes "local." ++ var_name op ++ letter t ∷ []
+name_of (Global op t) = codes "global." ++ var_name op ++ letter t ∷ []
+name_of (Load op) = load_name op
+name_of (Store op) = store_name op
+name_of (CallPre ts) = codes "call_pre_" ++ letters ts
+name_of (IndirectPre ts) = codes "call_indirect_pre_" ++ letters ts
+name_of (CallPost ts) = codes "call_post_" ++ letters ts
+name_of (Return ts) = codes "return_" ++ letters ts
+
+-- the proper key of this name
+abbrev pub IsNamed : List ℕ → HookKey → Type 0
+IsNamed name key = IsProper key × (name_of key ≡ name)
+
+-- two proper keys with one name are one
+abbrev pub NamesDiffer : Type 0
+NamesDiffer = (a b : HookKey) → IsProper a → IsProper b → name_of a ≡ name_of b → a ≡ b

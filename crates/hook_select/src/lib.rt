@@ -1,0 +1,292 @@
+// Hook groups and events.
+#![tactic(auto)]
+
+ghost use Rattle.std.specs.Prelude.{◌≡◌, false};
+
+use module_ast::module::Loc;
+use module_ast::ops::{LoadOp, StoreOp, VarOp};
+use wasm_num::{BlockKind, NumOp, Value, Values};
+
+/// The groups of hooks, in their fixed order.
+#[derive(Clone, Copy, Debug, PartialEq, Eq)]
+pub enum GroupName {
+    Start,
+    Nop,
+    Unreachable,
+    If,
+    Br,
+    BrIf,
+    BrTable,
+    Begin,
+    End,
+    Const,
+    Unary,
+    Binary,
+    Drop,
+    Select,
+    Local,
+    Global,
+    Load,
+    Store,
+    MemorySize,
+    MemoryGrow,
+    Call,
+    Return,
+}
+
+/// What one step of a run shows. `Stray` is a hook call that the information does not explain.
+#[derive(Debug, Drop)]
+pub enum Event {
+    Start {
+        loc: Loc,
+    },
+    Nop {
+        loc: Loc,
+    },
+    Unreachable {
+        loc: Loc,
+    },
+    If {
+        loc: Loc,
+        cond: u32,
+    },
+    Br {
+        loc: Loc,
+        label: u32,
+        target: i32,
+    },
+    BrIf {
+        loc: Loc,
+        label: u32,
+        target: i32,
+        cond: u32,
+    },
+    BrTable {
+        loc: Loc,
+        index: u32,
+        label: u32,
+        target: i32,
+    },
+    Begin {
+        loc: Loc,
+        kind: BlockKind,
+    },
+    End {
+        loc: Loc,
+        kind: BlockKind,
+        begin: i32,
+    },
+    Const {
+        loc: Loc,
+        value: Value,
+    },
+    Unary {
+        loc: Loc,
+        op: NumOp,
+        a: Value,
+        result: Value,
+    },
+    Binary {
+        loc: Loc,
+        op: NumOp,
+        a: Value,
+        b: Value,
+        result: Value,
+    },
+    Drop {
+        loc: Loc,
+        value: Value,
+    },
+    Select {
+        loc: Loc,
+        first: Value,
+        second: Value,
+        cond: u32,
+    },
+    Local {
+        loc: Loc,
+        op: VarOp,
+        index: u32,
+        value: Value,
+    },
+    Global {
+        loc: Loc,
+        op: VarOp,
+        index: u32,
+        value: Value,
+    },
+    Load {
+        loc: Loc,
+        op: LoadOp,
+        offset: u32,
+        address: u32,
+        value: Value,
+    },
+    Store {
+        loc: Loc,
+        op: StoreOp,
+        offset: u32,
+        address: u32,
+        value: Value,
+    },
+    MemorySize {
+        loc: Loc,
+        pages: u32,
+    },
+    MemoryGrow {
+        loc: Loc,
+        by: u32,
+        previous: u32,
+    },
+    CallPre {
+        loc: Loc,
+        callee: u32,
+        args: Values,
+    },
+    IndirectPre {
+        loc: Loc,
+        ty: u32,
+        slot: u32,
+        callee: Option<u32>,
+        args: Values,
+    },
+    CallPost {
+        loc: Loc,
+        results: Values,
+    },
+    Return {
+        loc: Loc,
+        results: Values,
+    },
+    Stray {
+        hook: u32,
+    },
+}
+
+/// A set of groups: a flag for each.
+#[derive(Clone, Copy, Debug, PartialEq, Eq)]
+pub struct Hooks {
+    pub start: bool,
+    pub nop: bool,
+    pub unreachable: bool,
+    pub if_: bool,
+    pub br: bool,
+    pub br_if: bool,
+    pub br_table: bool,
+    pub begin: bool,
+    pub end: bool,
+    pub const_: bool,
+    pub unary: bool,
+    pub binary: bool,
+    pub drop: bool,
+    pub select: bool,
+    pub local: bool,
+    pub global: bool,
+    pub load: bool,
+    pub store: bool,
+    pub memory_size: bool,
+    pub memory_grow: bool,
+    pub call: bool,
+    pub return_: bool,
+}
+
+impl Hooks {
+    ghost use Rattle.hook_select.specs.Groups.{has, hooks_of};
+
+    /// No group.
+    pub const fn none() -> Hooks
+        ensures { result ≡ hooks_of (λ g. false) }
+    {
+        Hooks {
+            start: false,
+            nop: false,
+            unreachable: false,
+            if_: false,
+            br: false,
+            br_if: false,
+            br_table: false,
+            begin: false,
+            end: false,
+            const_: false,
+            unary: false,
+            binary: false,
+            drop: false,
+            select: false,
+            local: false,
+            global: false,
+            load: false,
+            store: false,
+            memory_size: false,
+            memory_grow: false,
+            call: false,
+            return_: false,
+        }
+    }
+
+    /// Whether the group is in the set.
+    pub fn has(&self, group: GroupName) -> bool
+        ensures { result ≡ has self.now group }
+    {
+        match group {
+            GroupName::Start => self.start,
+            GroupName::Nop => self.nop,
+            GroupName::Unreachable => self.unreachable,
+            GroupName::If => self.if_,
+            GroupName::Br => self.br,
+            GroupName::BrIf => self.br_if,
+            GroupName::BrTable => self.br_table,
+            GroupName::Begin => self.begin,
+            GroupName::End => self.end,
+            GroupName::Const => self.const_,
+            GroupName::Unary => self.unary,
+            GroupName::Binary => self.binary,
+            GroupName::Drop => self.drop,
+            GroupName::Select => self.select,
+            GroupName::Local => self.local,
+            GroupName::Global => self.global,
+            GroupName::Load => self.load,
+            GroupName::Store => self.store,
+            GroupName::MemorySize => self.memory_size,
+            GroupName::MemoryGrow => self.memory_grow,
+            GroupName::Call => self.call,
+            GroupName::Return => self.return_,
+        }
+    }
+}
+
+impl Event {
+    ghost use Rattle.hook_select.specs.Events.{group_of};
+
+    /// The event's group; none for a `Stray`.
+    pub fn group(&self) -> Option<GroupName>
+        ensures { result ≡ group_of self.now }
+    {
+        match self {
+            Event::Start { .. } => Some(GroupName::Start),
+            Event::Nop { .. } => Some(GroupName::Nop),
+            Event::Unreachable { .. } => Some(GroupName::Unreachable),
+            Event::If { .. } => Some(GroupName::If),
+            Event::Br { .. } => Some(GroupName::Br),
+            Event::BrIf { .. } => Some(GroupName::BrIf),
+            Event::BrTable { .. } => Some(GroupName::BrTable),
+            Event::Begin { .. } => Some(GroupName::Begin),
+            Event::End { .. } => Some(GroupName::End),
+            Event::Const { .. } => Some(GroupName::Const),
+            Event::Unary { .. } => Some(GroupName::Unary),
+            Event::Binary { .. } => Some(GroupName::Binary),
+            Event::Drop { .. } => Some(GroupName::Drop),
+            Event::Select { .. } => Some(GroupName::Select),
+            Event::Local { .. } => Some(GroupName::Local),
+            Event::Global { .. } => Some(GroupName::Global),
+            Event::Load { .. } => Some(GroupName::Load),
+            Event::Store { .. } => Some(GroupName::Store),
+            Event::MemorySize { .. } => Some(GroupName::MemorySize),
+            Event::MemoryGrow { .. } => Some(GroupName::MemoryGrow),
+            Event::CallPre { .. } => Some(GroupName::Call),
+            Event::IndirectPre { .. } => Some(GroupName::Call),
+            Event::CallPost { .. } => Some(GroupName::Call),
+            Event::Return { .. } => Some(GroupName::Return),
+            Event::Stray { .. } => None,
+        }
+    }
+}

@@ -1,0 +1,36 @@
+// Function indices with the hooks put behind the imports.
+#![tactic(auto)]
+
+ghost use Rattle.std.specs.Prelude.{◌≡◌, ◌+◌, ◌^◌, ◌<◌};
+
+/// An index below `imports` stays, any other rises by `added`.
+#[derive(Clone, Copy, Debug, PartialEq, Eq)]
+pub struct Remap {
+    pub imports: u32,
+    pub added: u32,
+}
+
+impl Remap {
+    ghost use Rattle.index_remap.specs.Remap.{map_index, unmap_index};
+
+    /// The index in the output of a function of the original.
+    pub fn map(&self, f: u32) -> u32
+        requires { f + self.now.added < 2 ^ 32 }
+        ensures { result ≡ map_index self.now f }
+    {
+        if f < self.imports { f } else { f + self.added }
+    }
+
+    /// The index in the original of a function of the output: none exactly for a hook's.
+    pub fn unmap(&self, f: u32) -> Option<u32>
+        ensures { result ≡ unmap_index self.now f }
+    {
+        if f < self.imports {
+            return Some(f);
+        }
+        if f - self.imports < self.added {
+            return None;
+        }
+        Some(f - self.added)
+    }
+}

@@ -1,0 +1,5 @@
+pub mod Output
+pub mod Shell
+pub mod Same
+pub mod Made
+pub mod Nops

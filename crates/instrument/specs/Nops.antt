@@ -1,0 +1,50 @@
+-- The modules of one function of nops, which is exported, and the sets of groups that they are told with.
+use Rattle.std.specs.Prelude.{◌≡◌, ℕ, zero, suc, ◌^◌, ◌<◌, ◌≤◌, ◌⊎◌, List, [], ◌∷◌, length, None, IsUtf8}
+use Rattle.module_ast.specs.declared.module.ExportKind.TheVariants.{Func}
+use Rattle.module_ast.specs.declared.module.Module.{Module}
+use Rattle.module_ast.specs.Tree.{Tree, done, plain, nop}
+use Rattle.module_ast.specs.Canonical.{module_bytes}
+use Rattle.hook_select.specs.declared.GroupName.TheVariants.{Nop}
+use Rattle.hook_select.specs.declared.Hooks.{Hooks}
+use Rattle.hook_select.specs.Groups.{hooks_of, is_among}
+
+-- so many nops before a sequence
+abbrev pub nops : ℕ → Tree → Tree
+nops zero k = k
+nops (suc n) k = plain nop (nops n k)
+
+-- one function without parameters and results, exported under a name, whose body is so many nops
+abbrev pub nop_module : (name : List ℕ) → (count : ℕ) → Module
+nop_module name count = record {
+  types = record { params = []; results = [] } ∷ [];
+  imports = [];
+  funcs = 0 ∷ [];
+  tables = [];
+  memories = [];
+  globals = [];
+  exports = record { name = name; kind = Func; index = 0 } ∷ [];
+  start = None;
+  elements = [];
+  bodies = record { groups = []; code = nops count done } ∷ [];
+  segments = [];
+  customs = [];
+}
+
+-- no group, or the group of nop alone
+abbrev pub no_groups : Hooks
+no_groups = hooks_of (is_among [])
+
+abbrev pub nop_group : Hooks
+nop_group = hooks_of (is_among (Nop ∷ []))
+
+abbrev pub IsNopChoice : Hooks → Type 0
+IsNopChoice hooks = (hooks ≡ no_groups) ⊎ (hooks ≡ nop_group)
+
+-- the greatest file that gets hooks, in bytes
+abbrev pub narrow_file : ℕ
+narrow_file = 16777216
+
+-- a module of nops whose file is short enough
+pub record IsNopModule (name : List ℕ) (count : ℕ) : Type 0 where
+  pub text : IsUtf8 name
+  pub short : length (module_bytes (nop_module name count)) ≤ narrow_file

@@ -1,0 +1,4 @@
+// Modules with hooks.
+#![tactic(auto)]
+
+pub mod nops;

@@ -1,0 +1,173 @@
+// Modules.
+
+ghost use Rattle.std.specs.Prelude.{◌≡◌};
+
+use crate::code::Code;
+use crate::name::Name;
+use crate::seq::Seq;
+use wasm_num::ValType;
+
+/// The parameters and results of a function. (Standard, 2.3.3)
+#[derive(Debug, Drop)]
+pub struct FuncType {
+    pub params: Seq<ValType>,
+    pub results: Seq<ValType>,
+}
+
+/// The size of a table, in slots, or of a memory, in pages of 65,536 bytes. (Standard, 2.3.4)
+#[derive(Clone, Copy, Debug, PartialEq, Eq)]
+pub struct Range {
+    pub min: u32,
+    pub max: Option<u32>,
+}
+
+/// (Standard, 2.3.7)
+#[derive(Clone, Copy, Debug, PartialEq, Eq)]
+pub struct GlobalType {
+    pub ty: ValType,
+    pub mutable: bool,
+}
+
+/// What is imported: a function by its type's index, a table, a memory or a global. (Standard, 2.5.11)
+#[derive(Clone, Copy, Debug, PartialEq, Eq)]
+pub enum Item {
+    Func(u32),
+    Table(Range),
+    Memory(Range),
+    Global(GlobalType),
+}
+
+#[derive(Debug, Drop)]
+pub struct Import {
+    pub module: Name,
+    pub name: Name,
+    pub item: Item,
+}
+
+/// (Standard, 2.5.6)
+#[derive(Debug, Drop)]
+pub struct GlobalDef {
+    pub ty: GlobalType,
+    pub init: Code,
+}
+
+#[derive(Clone, Copy, Debug, PartialEq, Eq)]
+pub enum ExportKind {
+    Func,
+    Table,
+    Memory,
+    Global,
+}
+
+/// (Standard, 2.5.10)
+#[derive(Debug, Drop)]
+pub struct Export {
+    pub name: Name,
+    pub kind: ExportKind,
+    pub index: u32,
+}
+
+/// Functions for the slots of a table from an offset on. (Standard, 2.5.7)
+#[derive(Debug, Drop)]
+pub struct Element {
+    pub table: u32,
+    pub offset: Code,
+    pub funcs: Seq<u32>,
+}
+
+/// Bytes for a memory from an offset on. (Standard, 2.5.8)
+#[derive(Debug, Drop)]
+pub struct Segment {
+    pub memory: u32,
+    pub offset: Code,
+    pub bytes: Seq<u8>,
+}
+
+/// So many locals of one type, as a body lists them. (Standard, 5.4.6)
+#[derive(Clone, Copy, Debug, PartialEq, Eq)]
+pub struct Group {
+    pub count: u32,
+    pub ty: ValType,
+}
+
+/// (Standard, 2.5.3)
+#[derive(Debug, Drop)]
+pub struct Body {
+    pub groups: Seq<Group>,
+    pub code: Code,
+}
+
+/// A module. Its functions are `funcs`, by their type's index, with the body of each in `bodies`; `customs` are the
+/// names of its custom sections in file order. (Standard, 2.5)
+#[derive(Debug, Drop)]
+pub struct Module {
+    pub types: Seq<FuncType>,
+    pub imports: Seq<Import>,
+    pub funcs: Seq<u32>,
+    pub tables: Seq<Range>,
+    pub memories: Seq<Range>,
+    pub globals: Seq<GlobalDef>,
+    pub exports: Seq<Export>,
+    pub start: Option<u32>,
+    pub elements: Seq<Element>,
+    pub bodies: Seq<Body>,
+    pub segments: Seq<Segment>,
+    pub customs: Seq<Name>,
+}
+
+/// A place in the original module: a function, imports counted first, and a position, -1 for the entry.
+#[derive(Clone, Copy, Debug, PartialEq, Eq)]
+pub struct Loc {
+    pub func: u32,
+    pub instr: i32,
+}
+
+/// The greatest number of each counted quantity.
+#[derive(Clone, Copy, Debug, PartialEq, Eq)]
+pub struct Limits {
+    pub functions: u32,
+    pub types: u32,
+    pub parameters: u32,
+    pub locals: u32,
+    pub nesting: u32,
+}
+
+impl Limits {
+    ghost use Rattle.module_ast.specs.Limits.{narrow, wide};
+
+    /// The limits of a module that gets hooks.
+    pub const fn narrow() -> Limits
+        ensures { result ≡ narrow }
+    {
+        Limits {
+            functions: 100_000,
+            types: 100_000,
+            parameters: 400,
+            locals: 50_000,
+            nesting: 1_000,
+        }
+    }
+
+    /// The limits of a module that has hooks, or that is checked or run.
+    pub const fn wide() -> Limits
+        ensures { result ≡ wide }
+    {
+        Limits {
+            functions: 600_000,
+            types: 600_000,
+            parameters: 900,
+            locals: 60_000,
+            nesting: 1_002,
+        }
+    }
+}
+
+/// The counted quantities, in the order in which they are tried.
+#[derive(Clone, Copy, Debug, PartialEq, Eq)]
+pub enum Which {
+    Functions,
+    Types,
+    Parameters,
+    Locals,
+    Nesting,
+}

@@ -1,0 +1,73 @@
+-- What is outside: files by their names, and text that is printed.
+use Rattle.std.specs.Prelude.{◌≡◌, ◌≢◌, ℕ, ◌^◌, ◌-◌, ◌<◌, ◌≤◌, ◌⊎◌, List, ◌++◌, length, Option, Some, None}
+
+-- what stands under each name, where something does
+abbrev pub Contents : Type 0
+Contents = List ℕ → Option (List ℕ)
+
+-- the greatest value of a count of faults, where it stands still
+abbrev pub last_count : ℕ
+last_count = 2 ^ 64 - 1
+
+-- a count rose, as far as it can tell
+abbrev pub Rose : (old new : ℕ) → Type 0
+Rose old new = (old < new) ⊎ (new ≡ last_count)
+
+-- a fact about the contents, where they are told
+abbrev pub WhereTold : Option Contents → (Contents → Type 0) → Type 0
+WhereTold None P = Unit {0}
+WhereTold (Some held) P = P held
+
+-- both times told, or both times untold, and this holds of what was and is there
+abbrev pub Changes : (old new : Option Contents) → (Contents → Contents → Type 0) → Type 0
+Changes None None P = Unit {0}
+Changes (Some old) (Some new) P = P old new
+Changes _ _ P = ⊥
+
+-- each name as before
+abbrev pub SameContents : (old new : Contents) → Type 0
+SameContents old new = (name : List ℕ) → new name ≡ old name
+
+-- each name but this as before
+abbrev pub SameElsewhere : List ℕ → (old new : Contents) → Type 0
+SameElsewhere name old new = (other : List ℕ) → other ≢ name → new other ≡ old other
+
+-- the contents were not touched
+abbrev pub Unchanged : (old new : Option Contents) → Type 0
+Unchanged old new = Changes old new SameContents
+
+abbrev pub IsPrefixOf : (front all : List ℕ) → Type 0
+IsPrefixOf front all = (rest : List ℕ) × (front ++ rest ≡ all)
+
+-- the name has these bytes now, and all else is as before
+abbrev pub Wrote : (name bytes : List ℕ) → (old new : Option Contents) → Type 0
+Wrote name bytes old new = Changes old new (λ was is. (is name ≡ Some bytes) × SameElsewhere name was is)
+
+-- the name is as before or has a prefix of the bytes, and all else is as before
+abbrev pub WrotePart : (name bytes : List ℕ) → (old new : Option Contents) → Type 0
+WrotePart name bytes old new =
+    Changes old new (λ was is. ((is name ≡ was name) ⊎ ((part : List ℕ) × (is name ≡ Some part) × IsPrefixOf part bytes)) × SameElsewhere name was is)
+
+-- where contents are told, the name has these bytes
+abbrev pub Holds : Option Contents → (name bytes : List ℕ) → Type 0
+Holds contents name bytes = WhereTold contents (λ held. held name ≡ Some bytes)
+
+-- the name is not there; where contents are untold, the count rose
+abbrev pub IsMissing : Option Contents → (name : List ℕ) → (old new : ℕ) → Type 0
+IsMissing None name old new = Rose old new
+IsMissing (Some held) name old new = held name ≡ None
+
+-- the name has more bytes than the cap, so many; where contents are untold, the count rose
+abbrev pub IsTooLong : Option Contents → (name : List ℕ) → (cap long : ℕ) → (old new : ℕ) → Type 0
+IsTooLong None name cap long old new = Rose old new
+IsTooLong (Some held) name cap long old new = (bytes : List ℕ) × (held name ≡ Some bytes) × (long ≡ length bytes) × (cap < length bytes)
+
+-- the printed bytes, where they are told, have grown by these
+abbrev pub Printed : List ℕ → (old new : Option (List ℕ)) → Type 0
+Printed bytes None None = Unit {0}
+Printed bytes (Some old) (Some new) = new ≡ old ++ bytes
+Printed bytes _ _ = ⊥
+
+-- by a prefix of these
+abbrev pub PrintedPart : List ℕ → (old new : Option (List ℕ)) → Type 0
+PrintedPart bytes old new = (part : List ℕ) × IsPrefixOf part bytes × Printed part old new

@@ -1,0 +1,55 @@
+// The information that a module's hook calls are read with.
+#![tactic(auto)]
+
+ghost use Rattle.std.specs.Prelude.{◌≡◌, ◌^◌, ◌<◌, length};
+
+use branch_resolve::Block;
+use hook_mono::HookKey;
+use hook_select::Hooks;
+use index_remap::Remap;
+use module_ast::name::Name;
+use module_ast::seq::Seq;
+use wasm_num::ValType;
+
+/// A br_table: its position, and its labels with the default last.
+#[derive(Debug, Drop)]
+pub struct TableInfo {
+    pub pos: i32,
+    pub labels: Seq<u32>,
+}
+
+/// A function of the original. An imported one has no blocks and no tables.
+#[derive(Debug, Drop)]
+pub struct FuncInfo {
+    pub params: Seq<ValType>,
+    pub results: Seq<ValType>,
+    pub defined: bool,
+    pub blocks: Seq<Block>,
+    pub tables: Seq<TableInfo>,
+}
+
+/// The selected groups, the number of imported functions of the original, the hooks in import order, the functions of
+/// the original, and the names of its custom sections.
+#[derive(Debug, Drop)]
+pub struct Info {
+    pub groups: Hooks,
+    pub imports: u32,
+    pub hooks: Seq<HookKey>,
+    pub functions: Seq<FuncInfo>,
+    pub dropped: Seq<Name>,
+}
+
+impl Info {
+    ghost use Rattle.static_info.specs.Read.{info_remap};
+
+    /// The map of function indices from the original to the output.
+    pub fn remap(&self) -> Remap
+        requires { length self.now.hooks < 2 ^ 32 }
+        ensures { result ≡ info_remap self.now }
+    {
+        Remap {
+            imports: self.imports,
+            added: self.hooks.as_slice().len() as u32,
+        }
+    }
+}

@@ -1,0 +1,7 @@
+mod Examples
+mod Falling
+mod Refusing
+mod Runs
+mod Straight
+mod TypedExample
+mod Values
