@@ -1,7 +1,8 @@
+pub mod Chosen
 mod Examples
 mod Falling
 mod Refusing
-mod Runs
+pub mod Runs
 mod Straight
 mod TypedExample
 mod Values
