@@ -4,3 +4,4 @@ pub mod Same
 pub mod Made
 pub mod Nops
 pub mod Accepted
+pub mod Laws

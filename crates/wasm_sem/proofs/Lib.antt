@@ -1,7 +1,10 @@
+pub mod Chosen
+pub mod Ended
 mod Examples
 mod Falling
 mod Refusing
-mod Runs
+pub mod Runs
+pub mod Steady
 mod Straight
 mod TypedExample
 mod Values
