@@ -11,7 +11,12 @@ use std::alloc::{AllocError, Global};
 
 /// The bytes of the module of `count` nops under `name` with the hooks of these groups: a valid module that does what
 /// the original does, and whose hook calls read as the original's events of these groups.
-pub fn write_nops(alloc: Global, name: &str, count: u32, hooks: &Hooks) -> Result<Vec<u8>, AllocError>
+pub fn write_nops(
+    alloc: Global,
+    name: &str,
+    count: u32,
+    hooks: &Hooks,
+) -> Result<Vec<u8>, AllocError>
     requires known { IsNopModule name.now count }
     requires choice { IsNopChoice hooks.now }
     ensures written { IfOk result (λ bytes. bytes.items ≡ output_bytes (nop_module name.now count) hooks.now) }

@@ -1,0 +1,3 @@
+pub mod NopOutput
+pub mod NopValid
+pub mod NopShell
