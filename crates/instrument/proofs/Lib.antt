@@ -1,3 +1,9 @@
 pub mod NopOutput
 pub mod NopValid
 pub mod NopShell
+pub mod Sim
+pub mod SimFollow
+pub mod NopSteps
+pub mod NopLinks
+pub mod NopRuns
+pub mod NopMatch

@@ -3,6 +3,6 @@ mod Examples
 mod Falling
 mod Refusing
 pub mod Runs
-mod Straight
+pub mod Straight
 mod TypedExample
 mod Values

@@ -1,0 +1,65 @@
+-- Runs of the module of nops: where it stands after each step.
+use Rattle.std.proofs.Common.{◌≡◌, ℕ, zero, suc, ◌+◌, ◌^◌, ◌<◌, ◌≤◌, pos, List, [], ◌∷◌, ◌++◌, length, Option, Some, None, Bool, true, false, cond, nat_lt, slice_get, refl, sym, ap, subst, ◌∙◌, arith}
+use Rattle.wasm_num.specs.declared.Value.{Value}
+use Rattle.module_ast.specs.Positions.{Scope, function_scope}
+use Rattle.module_ast.specs.Tree.{Tree, done, i32_const, call, nop}
+use Rattle.hook_select.specs.Groups.{has}
+use Rattle.wasm_sem.specs.declared.Script.{Script}
+use Rattle.wasm_sem.specs.declared.Answer.TheVariants.{Returned}
+use Rattle.wasm_sem.specs.declared.Trap.TheVariants.{Depth}
+use Rattle.wasm_sem.specs.Link.{Entry, Instance, link, instance}
+use Rattle.wasm_sem.specs.Machine.{Label, Frame, behind, Phase, starting, calling, over, Env, State, stands, goes, traps, enter_phase, enter_entry, call_entry, step, settle, run, env_after}
+use Rattle.wasm_sem.specs.Events.{Item, entry, shown_begins, shown_begun, shown_begin, shown_start}
+use Rattle.wasm_sem.specs.Trace.{items, chosen_items, told_begins, told_begun}
+use Rattle.wasm_sem.proofs.Straight.{Leads, straight_runs}
+use Rattle.static_info.specs.Items.{read}
+use Rattle.rewrite.specs.Rewrite.{live_code}
+use Rattle.instrument.specs.Nops.{nops, nop_module, nop_group}
+use Rattle.instrument.specs.Same.{map_slots}
+use Rattle.instrument.proofs.NopOutput.{hooked_module, told_nops}
+use Rattle.instrument.proofs.NopLinks.{nop_entry, hooked_entry, Alike, no_call, a_call, linked_alike, returned_alike}
+use Rattle.instrument.proofs.NopSteps.{nop_info, nop_remap, nop_setting, nop_reads, nop_straight, live_told}
+use Rattle.instrument.proofs.Sim.{Sim, sim, no_frame, a_frame, no_label, map_env, HasRoom, Reaches, one_step}
+
+-- ---- where a run of the module of nops stands
+
+-- inside the function, with so many nops left
+abbrev pub nop_label : (count p left : ℕ) → Label
+nop_label count p left = record { scope = function_scope (nops count done); arity = 0; cont = behind; ops = []; at = p; rest = nops left done }
+
+abbrev pub nop_frame : (count pending p left : ℕ) → Frame
+nop_frame count pending p left = record { func = 0; locals = []; pending = pending; top = nop_label count p left; outer = [] }
+
+pub data Stands (count : ℕ) : State → Type 0 where
+  between : (e : Env) → Stands count (stands e [])
+  inside : (e : Env) (pending p left : ℕ) → p + left ≡ count → Stands count (stands e (nop_frame count pending p left ∷ []))
+
+module _ (name : List ℕ) (count : ℕ) (s : Script) where
+  abbrev pub nop_instance : Instance
+  nop_instance = instance (nop_module name count) s
+
+  abbrev pub hooked_instance : Instance
+  hooked_instance = instance (hooked_module name count) s
+
+  entered_stands : (e : Env) (is_within : Bool) → Stands count (settle nop_instance (stands e []) (cond is_within (goes (stands e (nop_frame count 0 0 count ∷ []))) (traps Depth)))
+  entered_stands e true = inside e 0 0 count (omega arith)
+  entered_stands e false = between _
+
+  call_stands : (e : Env) {a b : Option (Option Entry)} → Alike a b → Stands count (settle nop_instance (stands e []) (enter_entry nop_instance e (call_entry a)))
+  call_stands e no_call = between e
+  call_stands e a_call = entered_stands e (nat_lt 0 s.depth)
+
+  module _ (linked : link (nop_module name count) s ≡ None) where
+    enter_stands : (e : Env) (ph : Phase) → Stands count (settle nop_instance (stands e []) (enter_phase nop_instance e ph))
+    enter_stands e starting = between e
+    enter_stands e (calling n) = call_stands e (linked_alike name count s linked n)
+    enter_stands e over = between e
+
+    step_stands : (c : State) → Stands count c → Stands count (settle nop_instance c (step nop_instance c))
+    step_stands c (between e) = enter_stands e e.phase
+    step_stands c (inside e pending p zero h) = between _
+    step_stands c (inside e pending p (suc left) h) = inside e p (p + 1) left (omega (arith, h))
+
+    pub run_stands : (k : ℕ) (c : State) → Stands count c → Stands count (run nop_instance k c)
+    run_stands zero c h = h
+    run_stands (suc k) c h = run_stands k (settle nop_instance c (step nop_instance c)) (step_stands c h)
