@@ -7,3 +7,5 @@ pub mod NopSteps
 pub mod NopLinks
 pub mod NopRuns
 pub mod NopMatch
+pub mod Reports
+pub mod Whole
