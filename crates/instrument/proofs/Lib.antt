@@ -7,5 +7,8 @@ pub mod NopSteps
 pub mod NopLinks
 pub mod NopRuns
 pub mod NopMatch
+pub mod NopQuiet
+pub mod NopCount
 pub mod Reports
 pub mod Whole
+pub mod NopSame

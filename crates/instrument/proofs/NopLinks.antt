@@ -1,5 +1,5 @@
 -- The module of nops and the one with hooks link with the same scripts, whose calls they answer alike.
-use Rattle.std.proofs.Common.{◌≡◌, ℕ, zero, suc, ℤ, List, [], ◌∷◌, length, map, Option, Some, None, Bool, true, false, cond, bytes_eq, nat_lt, nat_le, slice_get, refl, sym, ap, ap₂, subst, ◌∙◌}
+use Rattle.std.proofs.Common.{◌≡◌, ℕ, zero, suc, ℤ, List, [], ◌∷◌, map, Option, Some, None, Bool, true, false, cond, bytes_eq, nat_lt, nat_le, slice_get, refl, sym, ap, ap₂, ◌∙◌}
 use Rattle.std.proofs.lemmas.List.{length-map}
 use Rattle.index_remap.specs.declared.Remap.{Remap}
 use Rattle.wasm_sem.specs.declared.Call.{Call}

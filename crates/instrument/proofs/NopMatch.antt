@@ -1,5 +1,5 @@
 -- Each step of the module of nops is matched by the one with hooks.
-use Rattle.std.proofs.Common.{◌≡◌, ℕ, zero, suc, ◌+◌, ◌^◌, ◌<◌, ◌≤◌, pos, List, [], ◌∷◌, ◌++◌, length, Option, Some, None, Bool, true, false, cond, nat_lt, slice_get, refl, sym, ap, subst, ◌∙◌, arith}
+use Rattle.std.proofs.Common.{◌≡◌, ℕ, zero, suc, ◌+◌, ◌^◌, ◌<◌, ◌≤◌, pos, List, [], ◌∷◌, Option, None, Bool, true, false, cond, nat_lt, refl, sym, subst, arith}
 use Rattle.wasm_num.specs.declared.Value.{Value}
 use Rattle.wasm_num.specs.declared.Value.TheVariants.{I32}
 use Rattle.wasm_sem.specs.Store.{modulo}
@@ -9,18 +9,18 @@ use Rattle.hook_select.specs.Groups.{has}
 use Rattle.wasm_sem.specs.declared.Script.{Script}
 use Rattle.wasm_sem.specs.declared.Answer.TheVariants.{Returned}
 use Rattle.wasm_sem.specs.declared.Trap.TheVariants.{Depth}
-use Rattle.wasm_sem.specs.Link.{Entry, Instance, link, instance}
-use Rattle.wasm_sem.specs.Machine.{Label, Frame, behind, Phase, starting, calling, over, Env, State, stands, goes, traps, enter_phase, enter_entry, call_entry, step, settle, run, env_after}
-use Rattle.wasm_sem.specs.Events.{Item, entry, hook_call, shown_begins, shown_begun, shown_begin, shown_start}
+use Rattle.wasm_sem.specs.Link.{Entry, Instance, link}
+use Rattle.wasm_sem.specs.Machine.{Frame, behind, Phase, starting, calling, over, Env, State, stands, goes, traps, enter_phase, enter_entry, call_entry, step, settle, env_after}
+use Rattle.wasm_sem.specs.Events.{Item, entry, hook_call, shown_begins, shown_begun, shown_begin}
 use Rattle.wasm_sem.specs.Trace.{items, chosen_items, told_begins, told_begun}
 use Rattle.wasm_sem.proofs.Straight.{Leads, straight_runs}
 use Rattle.static_info.specs.Items.{read}
 use Rattle.rewrite.specs.Rewrite.{live_code}
 use Rattle.instrument.specs.Nops.{nops, nop_module, nop_group}
 use Rattle.instrument.specs.Same.{map_slots}
-use Rattle.instrument.proofs.NopOutput.{hooked_module, told_nops}
+use Rattle.instrument.proofs.NopOutput.{told_nops}
 use Rattle.instrument.proofs.NopRuns.{nop_label, nop_frame, Stands, between, inside, nop_instance, hooked_instance}
-use Rattle.instrument.proofs.NopLinks.{nop_entry, hooked_entry, Alike, no_call, a_call, linked_alike, returned_alike}
+use Rattle.instrument.proofs.NopLinks.{nop_entry, Alike, no_call, a_call, linked_alike, returned_alike}
 use Rattle.instrument.proofs.NopSteps.{nop_info, nop_remap, nop_setting, nop_reads, nop_straight, live_told}
 use Rattle.instrument.proofs.Sim.{Sim, sim, no_frame, a_frame, no_label, a_label, map_env, HasRoom, Reaches, one_step}
 

@@ -1,25 +1,14 @@
 -- Runs of the module of nops: where it stands after each step.
-use Rattle.std.proofs.Common.{◌≡◌, ℕ, zero, suc, ◌+◌, ◌^◌, ◌<◌, ◌≤◌, pos, List, [], ◌∷◌, ◌++◌, length, Option, Some, None, Bool, true, false, cond, nat_lt, slice_get, refl, sym, ap, subst, ◌∙◌, arith}
-use Rattle.wasm_num.specs.declared.Value.{Value}
-use Rattle.module_ast.specs.Positions.{Scope, function_scope}
-use Rattle.module_ast.specs.Tree.{Tree, done, i32_const, call, nop}
-use Rattle.hook_select.specs.Groups.{has}
+use Rattle.std.proofs.Common.{◌≡◌, ℕ, zero, suc, ◌+◌, List, [], ◌∷◌, Option, None, Bool, true, false, cond, nat_lt, arith}
+use Rattle.module_ast.specs.Positions.{function_scope}
+use Rattle.module_ast.specs.Tree.{done}
 use Rattle.wasm_sem.specs.declared.Script.{Script}
-use Rattle.wasm_sem.specs.declared.Answer.TheVariants.{Returned}
 use Rattle.wasm_sem.specs.declared.Trap.TheVariants.{Depth}
 use Rattle.wasm_sem.specs.Link.{Entry, Instance, link, instance}
-use Rattle.wasm_sem.specs.Machine.{Label, Frame, behind, Phase, starting, calling, over, Env, State, stands, goes, traps, enter_phase, enter_entry, call_entry, step, settle, run, env_after}
-use Rattle.wasm_sem.specs.Events.{Item, entry, shown_begins, shown_begun, shown_begin, shown_start}
-use Rattle.wasm_sem.specs.Trace.{items, chosen_items, told_begins, told_begun}
-use Rattle.wasm_sem.proofs.Straight.{Leads, straight_runs}
-use Rattle.static_info.specs.Items.{read}
-use Rattle.rewrite.specs.Rewrite.{live_code}
-use Rattle.instrument.specs.Nops.{nops, nop_module, nop_group}
-use Rattle.instrument.specs.Same.{map_slots}
-use Rattle.instrument.proofs.NopOutput.{hooked_module, told_nops}
-use Rattle.instrument.proofs.NopLinks.{nop_entry, hooked_entry, Alike, no_call, a_call, linked_alike, returned_alike}
-use Rattle.instrument.proofs.NopSteps.{nop_info, nop_remap, nop_setting, nop_reads, nop_straight, live_told}
-use Rattle.instrument.proofs.Sim.{Sim, sim, no_frame, a_frame, no_label, map_env, HasRoom, Reaches, one_step}
+use Rattle.wasm_sem.specs.Machine.{Label, Frame, behind, Phase, starting, calling, over, Env, State, stands, goes, traps, enter_phase, enter_entry, call_entry, step, settle, run}
+use Rattle.instrument.specs.Nops.{nops, nop_module}
+use Rattle.instrument.proofs.NopOutput.{hooked_module}
+use Rattle.instrument.proofs.NopLinks.{Alike, no_call, a_call, linked_alike}
 
 -- ---- where a run of the module of nops stands
 
@@ -55,7 +44,7 @@ module _ (name : List ℕ) (count : ℕ) (s : Script) where
     enter_stands e (calling n) = call_stands e (linked_alike name count s linked n)
     enter_stands e over = between e
 
-    step_stands : (c : State) → Stands count c → Stands count (settle nop_instance c (step nop_instance c))
+    pub step_stands : (c : State) → Stands count c → Stands count (settle nop_instance c (step nop_instance c))
     step_stands c (between e) = enter_stands e e.phase
     step_stands c (inside e pending p zero h) = between _
     step_stands c (inside e pending p (suc left) h) = inside e p (p + 1) left (omega (arith, h))

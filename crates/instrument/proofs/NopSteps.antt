@@ -1,40 +1,32 @@
 -- The module of nops and the one with hooks, a step at a time.
-use Rattle.std.proofs.Common.{◌≡◌, ℕ, zero, suc, ◌+◌, ◌*◌, ◌^◌, ◌<◌, ◌≤◌, pos, List, [], ◌∷◌, ◌++◌, length, map, Option, Some, None, Bool, true, false, cond, nat_lt, slice_get, refl, sym, ap, ap₂, subst, ◌∙◌, arith}
+use Rattle.std.proofs.Common.{◌≡◌, ℕ, zero, suc, ◌+◌, ◌^◌, ◌<◌, pos, List, [], ◌∷◌, ◌++◌, map, Option, Some, refl, ap, ◌∙◌, arith}
 use Rattle.std.specs.Int.{w32, cast_signed}
 use Rattle.std.proofs.lemmas.Int.{to_z-of_z}
 use Rattle.wasm_num.specs.declared.Value.{Value}
 use Rattle.wasm_num.specs.declared.Value.TheVariants.{I32}
-use Rattle.wasm_num.specs.declared.ValType.TheVariants as types
-use Rattle.module_ast.specs.declared.module.FuncType.{FuncType}
 use Rattle.module_ast.specs.declared.module.Module.{Module}
-use Rattle.module_ast.specs.Positions.{Scope, function_scope}
-use Rattle.module_ast.specs.Tree.{Tree, done, plain, i32_const, call, nop}
+use Rattle.module_ast.specs.Positions.{Scope}
+use Rattle.module_ast.specs.Tree.{done, plain, i32_const, call, nop}
 use Rattle.hook_select.specs.declared.Event.TheVariants as events
 use Rattle.hook_select.specs.declared.GroupName.TheVariants.{Nop}
 use Rattle.hook_select.specs.declared.Hooks.{Hooks}
-use Rattle.hook_select.specs.Groups.{has}
 use Rattle.hook_mono.specs.declared.HookKey.{HookKey}
 use Rattle.hook_mono.specs.declared.HookKey.TheVariants.{Plain}
 use Rattle.hook_mono.specs.Needed.{import_count, site_of}
 use Rattle.module_ast.specs.Spaces.{imported_funcs}
 use Rattle.index_remap.specs.declared.Remap.{Remap}
 use Rattle.wasm_sem.specs.declared.Script.{Script}
-use Rattle.wasm_sem.specs.declared.Answer.{Answer}
 use Rattle.wasm_sem.specs.Store.{Store, modulo}
-use Rattle.wasm_sem.specs.Link.{Entry, Instance, instance}
-use Rattle.wasm_sem.specs.Machine.{Label, Frame, behind, Phase, starting, calling, over, Env, State, stands, Next, goes, step, settle, run, env_after}
-use Rattle.wasm_sem.specs.Events.{Item, entry, event, hook_call, loc}
-use Rattle.wasm_sem.specs.Trace.{items, chosen_items}
-use Rattle.wasm_sem.proofs.Straight.{Comes, stay, more, straight, straight_runs}
+use Rattle.wasm_sem.specs.Link.{instance}
+use Rattle.wasm_sem.specs.Events.{event, hook_call, loc}
+use Rattle.wasm_sem.proofs.Straight.{straight}
 use Rattle.static_info.specs.declared.Info.{Info}
 use Rattle.static_info.specs.Info.{imported_info, defined_infos}
 use Rattle.static_info.specs.Items.{read}
 use Rattle.rewrite.specs.Setting.{Setting}
 use Rattle.rewrite.specs.Rewrite.{live_code}
 use Rattle.instrument.specs.Nops.{nops, nop_module, nop_group}
-use Rattle.instrument.specs.Output.{hook_remap}
 use Rattle.instrument.proofs.NopOutput.{told_nops, hooked_module}
-use Rattle.instrument.proofs.Sim.{Sim, sim, no_frame, a_frame, no_label, map_env, Reaches}
 
 -- the information with these hooks
 abbrev pub info_with : Module → Hooks → List HookKey → Info

@@ -3,7 +3,7 @@ use Rattle.std.proofs.Common.{◌≡◌, ℕ, zero, suc, ◌+◌, ◌*◌, ◌�
 use Rattle.hook_select.specs.Groups.{has}
 use Rattle.index_remap.specs.declared.Remap.{Remap}
 use Rattle.wasm_sem.specs.Link.{Instance}
-use Rattle.wasm_sem.specs.Machine.{Frame, Env, State, stands, step, settle, run}
+use Rattle.wasm_sem.specs.Machine.{State, step, settle, run}
 use Rattle.wasm_sem.specs.Events.{Item}
 use Rattle.wasm_sem.specs.Trace.{items, trace, chosen_items}
 use Rattle.wasm_sem.proofs.Straight.{comes_run, comes_trace}
@@ -12,9 +12,6 @@ use Rattle.static_info.specs.Items.{read}
 use Rattle.rewrite.specs.Setting.{Setting}
 use Rattle.instrument.specs.Same.{Match, env_in}
 use Rattle.instrument.proofs.Sim.{Sim, sim, Reaches, arrived, reaches_then}
-
-
-
 
 no_more : (most : ℕ) → 0 ≡ most * 0
 no_more most = omega arith
@@ -49,7 +46,10 @@ module _ (info : Info) (r : Remap) (settings : ℕ → Setting) (slots : List (O
       let x = follow n like ready in
       let at = comes_run out x.comes in
       let tr = comes_trace out has_hooks x.comes in
-      let m = sim_match info r settings slots x.told (trace inst n c) x.like x.reads in
-      (x.count, x.enough, x.within,
-      subst (λ t. Match info r (env_in (run inst n c)) (env_in (run out x.count c')) (trace inst n c) t) (sym tr)
-      (subst (λ s. Match info r (env_in (run inst n c)) (env_in s) (trace inst n c) x.told) (sym at) m))
+      let m = sim_match info r settings slots x.told (trace inst n c) x.like x.reads in (
+        x.count,
+        x.enough,
+        x.within,
+        subst (λ t. Match info r (env_in (run inst n c)) (env_in (run out x.count c')) (trace inst n c) t) (sym tr)
+            (subst (λ s. Match info r (env_in (run inst n c)) (env_in s) (trace inst n c) x.told) (sym at) m),
+      )
