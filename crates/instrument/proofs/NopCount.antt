@@ -7,10 +7,11 @@ use Rattle.module_ast.specs.Canonical.{code_bytes, expr_bytes, body_bytes, sized
 use Rattle.leb_binary.specs.Shortest.{unsigned_bytes}
 use Rattle.instrument.specs.Nops.{nops, nop_module, IsNopModule}
 
--- at least so many bytes stand in a list where they stand in a part of it
+-- a list is no shorter than its last part
 behind_some : (xs ys : List ℕ) (n : ℕ) → n ≤ length ys → n ≤ length (xs ++ ys)
 behind_some xs ys n h = omega (arith, h, length-append xs ys)
 
+-- the same of its first part
 before_some : (xs ys : List ℕ) (n : ℕ) → n ≤ length xs → n ≤ length (xs ++ ys)
 before_some xs ys n h = omega (arith, h, length-append xs ys)
 
@@ -23,6 +24,7 @@ code_counts (suc n) = omega (arith, code_counts n)
 abbrev body_section : (count : ℕ) → List ℕ
 body_section count = vec_section 10 (λ b. sized_bytes (body_bytes b)) (record { groups = []; code = nops count done } ∷ [])
 
+-- a byte of it for each nop
 body_counts : (n : ℕ) → n ≤ length (body_section n)
 body_counts n =
     let body = body_bytes (record { groups = []; code = nops n done }) in
@@ -47,6 +49,7 @@ front_bytes m =
     ++ start_bytes m.start
     ++ vec_section 9 element_bytes m.elements
 
+-- and so of the module
 module_counts : (name : List ℕ) (n : ℕ) → n ≤ length (module_bytes (nop_module name n))
 module_counts name n =
     let front = front_bytes (nop_module name n) in

@@ -29,25 +29,30 @@ use Rattle.instrument.proofs.NopSteps.{info_with}
 abbrev pub still : (imports : ℕ) → Remap
 still imports = record { imports = imports; added = 0 }
 
+-- no index changes
 mapped_still : (f : ℕ) (is_import : Bool) → cond is_import f (f + 0) ≡ f
 mapped_still f true = refl
 mapped_still f false = omega arith
 
+-- nor does one that is read back
 unmapped_still : (f : ℕ) (is_import is_hook : Bool) → unwrap_or (cond is_import (Some f) (cond is_hook None (Some (f - 0)))) f ≡ f
 unmapped_still f true b = refl
 unmapped_still f false true = refl
 unmapped_still f false false = omega arith
 
+-- nor a slot
 slot_still : (imports : ℕ) (slot : Option ℕ) → option_map (map_index (still imports)) slot ≡ slot
 slot_still imports None = refl
 slot_still imports (Some f) = ap Some (mapped_still f (nat_lt f imports))
 
+-- nor the table
 slots_still : (imports : ℕ) (slots : List (Option ℕ)) → map_slots (still imports) slots ≡ slots
 slots_still imports [] = refl
 slots_still imports (slot ∷ slots) = ap₂ (λ (x : Option ℕ) (xs : List (Option ℕ)). x ∷ xs) (slot_still imports slot) (slots_still imports slots)
 
 -- ---- a trace of no selected event
 
+-- no group is selected
 no_group : (g : Option GroupName) → has_group (has no_groups) g ≡ false
 no_group None = refl
 no_group (Some Start) = refl
@@ -98,26 +103,31 @@ matches_itself m hooks imports e shown quiet = record {
 -- ---- the module of no nop
 
 module _ (name : List ℕ) (s : Script) (linked : link (nop_module name 0) s ≡ None) where
+  -- the function is entered: its begin is not selected
   entered_quiet : (is_within : Bool)
       → chosen_items (has no_groups) (entry nop_entry ∷ cond is_within (shown_begin 0 (function_scope (nops 0 done)) ∷ []) []) ≡ chosen_items (has nop_group) (entry nop_entry ∷ cond is_within (shown_begin 0 (function_scope (nops 0 done)) ∷ []) [])
   entered_quiet true = refl
   entered_quiet false = refl
 
+  -- a call of the script, or none
   call_quiet : (e : Env) {a b : Option (Option Entry)} → Alike a b
       → chosen_items (has no_groups) (shown_begun (nop_instance name 0 s) e (call_entry a)) ≡ chosen_items (has nop_group) (shown_begun (nop_instance name 0 s) e (call_entry a))
   call_quiet e no_call = refl
   call_quiet e a_call = entered_quiet (nat_lt 0 s.depth)
 
+  -- whatever comes next
   begins_quiet : (e : Env) (ph : Phase) → chosen_items (has no_groups) (shown_begins (nop_instance name 0 s) e ph) ≡ chosen_items (has nop_group) (shown_begins (nop_instance name 0 s) e ph)
   begins_quiet e starting = refl
   begins_quiet e (calling n) = call_quiet e (linked_alike name 0 s linked n)
   begins_quiet e over = refl
 
+  -- each step
   step_quiet : (c : State) → Stands 0 c → chosen_items (has no_groups) (items (nop_instance name 0 s) c) ≡ chosen_items (has nop_group) (items (nop_instance name 0 s) c)
   step_quiet c (between e) = begins_quiet e e.phase
   step_quiet c (inside e pending p zero sum) = refl
   step_quiet c (inside e pending p (suc left) sum) = absurd (omega (arith, sum))
 
+  -- each run
   pub trace_quiet : (n : ℕ) (c : State) → Stands 0 c → chosen_items (has no_groups) (trace (nop_instance name 0 s) n c) ≡ chosen_items (has nop_group) (trace (nop_instance name 0 s) n c)
   trace_quiet zero c h = refl
   trace_quiet (suc n) c h =

@@ -32,6 +32,7 @@ use Rattle.instrument.proofs.Whole.{same_runs}
 four_fit : (k n width nesting : ℕ) → k ≤ 4 * n → k ≤ (64 + 16 * width + 8 * nesting) * (n + 1)
 four_fit k n width nesting h = omega (arith, h)
 
+-- and so is one
 own_fits : (n width nesting : ℕ) → n ≤ (64 + 16 * width + 8 * nesting) * (n + 1)
 own_fits n width nesting = omega arith
 
@@ -56,9 +57,11 @@ opens_alike name count s =
     subst (λ (ph : Phase). Sim nop_remap (nop_setting name count) [] (stands (record { phase = ph; started = None; answers = []; store = opening_store m s }) []) (opening m s))
     (sym (next_alike name count s 0)) (sim _ refl no_frame)
 
+-- a script lets at least one call be entered
 deep_enough : (depth : ℕ) → 1 ≤ depth → nat_lt 0 depth ≡ true
 deep_enough depth h = lt-ltb 0 depth h
 
+-- every moment of the original is matched within four steps for one
 hooked_each : (name : List ℕ) (c : ℕ) → IsNopModule name (suc c) → (s : Script) → IsScriptInRange s → link (nop_module name (suc c)) s ≡ None
     → EachMoment (nop_module name (suc c)) nop_group (hooked_module name (suc c)) s
 hooked_each name c nop s range linked n =
@@ -77,6 +80,7 @@ hooked_each name c nop s range linked n =
 
 -- ---- all
 
+-- the output links with the same scripts
 pub nop_links : (name : List ℕ) (count : ℕ) → IsNopModule name count → (hooks : Hooks) → IsNopChoice hooks → (s : Script) → link (output (nop_module name count) hooks) s ≡ link (nop_module name count) s
 nop_links name count nop hooks (inl none) s =
     subst (λ (h : Hooks). link (output (nop_module name count) h) s ≡ link (nop_module name count) s) (sym none) (ap (λ (o : Module). link o s) (output_none name count))
@@ -86,6 +90,7 @@ nop_links name (suc c) nop hooks (inr one) s =
     subst (λ (h : Hooks). link (output (nop_module name (suc c)) h) s ≡ link (nop_module name (suc c)) s) (sym one)
     (ap (λ (o : Module). link o s) (output_hooked name c) ∙ hooked_links name (suc c) s)
 
+-- every moment of the original is matched by one of the output
 pub nop_each : (name : List ℕ) (count : ℕ) → IsNopModule name count → (hooks : Hooks) → IsNopChoice hooks → (s : Script) → IsScriptInRange s → link (nop_module name count) s ≡ None
     → EachMoment (nop_module name count) hooks (output (nop_module name count) hooks) s
 nop_each name count nop hooks (inl none) s range linked =

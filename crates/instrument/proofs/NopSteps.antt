@@ -6,6 +6,7 @@ use Rattle.wasm_num.specs.declared.Value.{Value}
 use Rattle.wasm_num.specs.declared.Value.TheVariants.{I32}
 use Rattle.module_ast.specs.declared.module.Module.{Module}
 use Rattle.module_ast.specs.Positions.{Scope}
+use Rattle.module_ast.specs.Tree as tree
 use Rattle.module_ast.specs.Tree.{done, plain, i32_const, call, nop}
 use Rattle.hook_select.specs.declared.Event.TheVariants as events
 use Rattle.hook_select.specs.declared.GroupName.TheVariants.{Nop}
@@ -18,7 +19,7 @@ use Rattle.index_remap.specs.declared.Remap.{Remap}
 use Rattle.wasm_sem.specs.declared.Script.{Script}
 use Rattle.wasm_sem.specs.Store.{Store, modulo}
 use Rattle.wasm_sem.specs.Link.{instance}
-use Rattle.wasm_sem.specs.Events.{event, hook_call, loc}
+use Rattle.wasm_sem.specs.Events.{Item, event, hook_call, loc}
 use Rattle.wasm_sem.proofs.Straight.{straight}
 use Rattle.static_info.specs.declared.Info.{Info}
 use Rattle.static_info.specs.Info.{imported_info, defined_infos}
@@ -38,9 +39,11 @@ info_with m hooks keys = record {
   dropped = m.customs;
 }
 
+-- on the module of nops, where nop is selected and there is one
 abbrev pub nop_info : (name : List ℕ) (count : ℕ) → Info
 nop_info name count = info_with (nop_module name count) nop_group (Plain Nop ∷ [])
 
+-- one hook before the function
 abbrev pub nop_remap : Remap
 nop_remap = record { imports = 0; added = 1 }
 
@@ -56,6 +59,15 @@ nop_setting name count func = record {
 
 -- ---- a nop
 
+-- the call of the hook for the nop at p
+abbrev pub nop_call : (p : ℕ) → Item
+nop_call p = hook_call (record { «import» = 0; args = I32 0 ∷ I32 (modulo (pos p) (2 ^ 32)) ∷ [] })
+
+-- a nop at p behind that call
+abbrev pub told_nop : (p : ℕ) → List tree.Plain
+told_nop p = i32_const (pos 0) ∷ i32_const (pos p) ∷ call 0 ∷ nop ∷ []
+
+-- a position as a word, and read back
 low_is : (p : ℕ) → p < 2 ^ 31 → modulo (pos p) (2 ^ 32) ≡ p
 low_is p below = omega (arith, below)
 
@@ -64,13 +76,13 @@ position_is p below = ap (cast_signed w32) (low_is p below) ∙ to_z-of_z w32 (p
 
 -- the hook call at p reads as the nop there
 pub nop_reads : (name : List ℕ) (count : ℕ) (slots : List (Option ℕ)) (p : ℕ) → p < 2 ^ 31
-    → read (nop_info name count) slots (hook_call (record { «import» = 0; args = I32 0 ∷ I32 (modulo (pos p) (2 ^ 32)) ∷ [] }) ∷ []) ≡ event (events.Nop (loc 0 (pos p))) ∷ []
+    → read (nop_info name count) slots (nop_call p ∷ []) ≡ event (events.Nop (loc 0 (pos p))) ∷ []
 nop_reads name count slots p below = ap (λ z. event (events.Nop (loc 0 z)) ∷ []) (position_is p below)
 
 -- four steps for a nop
 pub nop_straight : (name : List ℕ) (count : ℕ) (s : Script) (p : ℕ) (st : Store) (l : List Value)
-    → straight (instance (hooked_module name count) s) (i32_const (pos 0) ∷ i32_const (pos p) ∷ call 0 ∷ nop ∷ []) st l []
-    ≡ Some (st, l, [], hook_call (record { «import» = 0; args = I32 0 ∷ I32 (modulo (pos p) (2 ^ 32)) ∷ [] }) ∷ [])
+    → straight (instance (hooked_module name count) s) (told_nop p) st l []
+    ≡ Some (st, l, [], nop_call p ∷ [])
 nop_straight name count s p st l = refl
 
 -- the rewritten rest of the function

@@ -26,6 +26,7 @@ use Rattle.instrument.specs.Same.{map_slots, map_store}
 
 -- ---- configurations
 
+-- the scopes of labels, innermost first
 abbrev pub scopes_of : List Label → List Scope
 scopes_of [] = []
 scopes_of (l ∷ ls) = l.scope ∷ scopes_of ls
@@ -54,6 +55,7 @@ image w scope at first l ls = record {
   rest = plains first (live_code w (l.scope ∷ scopes_of ls) l.at l.rest);
 }
 
+-- as many labels, pairwise
 pub data Labels (w : Setting) : List Label → List Label → Type 0 where
   no_label : Labels w [] []
   a_label : (scope : Scope) (at : ℕ) (l : Label) {ls' ls : List Label} → IsLinked l.cont l.scope ls → Labels w ls' ls → Labels w (image w scope at [] l ls ∷ ls') (l ∷ ls)
@@ -80,6 +82,7 @@ pub data Frames (r : Remap) (settings : ℕ → Setting) : (made : Option (List 
       (record { func = map_index r f; locals = locals ++ temps; pending = pending'; top = image (settings f) scope at (waits (settings f) pending made) t outer; outer = outer' } ∷ below')
       (record { func = f; locals = locals; pending = pending; top = t; outer = outer } ∷ below)
 
+-- what stands beside the frames of the output
 abbrev pub map_env : Remap → Env → Env
 map_env r e = record e { store = map_store r e.store }
 
@@ -101,6 +104,7 @@ module _ (info : Info) (r : Remap) (settings : ℕ → Setting) (slots : List (O
     pub like : Sim r settings slots next c
     pub reads : read info slots told ≡ chosen_items (has info.groups) shown
 
+  -- no step at all
   pub arrived : {c' c : State} → Sim r settings slots c' c → Reaches 0 0 c' c []
   arrived {c' = c'} like = record { count = 0; next = c'; told = []; comes = stay c'; enough = omega arith; within = omega arith; like = like; reads = refl }
 

@@ -13,6 +13,7 @@ use Rattle.rewrite.specs.Setting.{Setting}
 use Rattle.instrument.specs.Same.{Match, env_in}
 use Rattle.instrument.proofs.Sim.{Sim, sim, Reaches, arrived, reaches_then}
 
+-- bounds for no step, and for one and then n
 no_more : (most : ℕ) → 0 ≡ most * 0
 no_more most = omega arith
 
