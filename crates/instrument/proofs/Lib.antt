@@ -1,3 +1,5 @@
+pub mod Reports
+pub mod Whole
 pub mod NopOutput
 pub mod NopValid
 pub mod NopShell
@@ -9,6 +11,4 @@ pub mod NopRuns
 pub mod NopMatch
 pub mod NopQuiet
 pub mod NopCount
-pub mod Reports
-pub mod Whole
 pub mod NopSame

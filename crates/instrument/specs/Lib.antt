@@ -3,4 +3,5 @@ pub mod Shell
 pub mod Same
 pub mod Made
 pub mod Nops
+pub mod Accepted
 pub mod Laws

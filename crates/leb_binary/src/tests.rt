@@ -1,0 +1,93 @@
+// Spellings that are known from elsewhere, read and written.
+
+use crate::cursor::{Bad, Cursor};
+use crate::writing::{put_s32, put_s64, put_u32};
+use std::test::Fail;
+
+// Unsigned numbers at the front of bytes, and how many bytes they take.
+#[test]
+fn reads_unsigned(rt: HostRuntime) {
+    let good: [(&[u8], u32, usize); 6] = [
+        (&[0x00], 0, 1),
+        (&[0x7F, 0x55], 127, 1),
+        (&[0xE5, 0x8E, 0x26], 624_485, 3),
+        (&[0xFF, 0xFF, 0xFF, 0xFF, 0x0F], u32::MAX, 5),
+        (&[0x80, 0x00, 0x80], 0, 2),
+        (&[0x83, 0x80, 0x80, 0x80, 0x00], 3, 5),
+    ];
+    for (bytes, want, size) in good {
+        let mut cursor = Cursor::new(bytes);
+        assert_eq!(rt; cursor.read_u32(), Ok(want));
+        assert_eq!(rt; cursor.place(), size);
+    }
+}
+
+// Numbers that end early, that are too long, or that have a bit too many leave the cursor where it was.
+#[test]
+fn refuses_unsigned(rt: HostRuntime) {
+    let bad: [&[u8]; 4] = [
+        &[],
+        &[0x80],
+        &[0x80, 0x80, 0x80, 0x80, 0x80, 0x00],
+        &[0xFF, 0xFF, 0xFF, 0xFF, 0x1F],
+    ];
+    for bytes in bad {
+        let mut cursor = Cursor::new(bytes);
+        assert_eq!(rt; cursor.read_u32(), Err(Bad));
+        assert_eq!(rt; cursor.place(), 0_usize);
+    }
+}
+
+#[test]
+fn reads_signed(rt: HostRuntime) {
+    let good: [(&[u8], i32); 6] = [
+        (&[0xC0, 0xBB, 0x78], -123_456),
+        (&[0x7F], -1),
+        (&[0x3F], 63),
+        (&[0xC0, 0x00], 64),
+        (&[0xFE, 0xFF, 0x7F], -2),
+        (&[0x80, 0x80, 0x80, 0x80, 0x78], i32::MIN),
+    ];
+    for (bytes, want) in good {
+        assert_eq!(rt; Cursor::new(bytes).read_s32(), Ok(want));
+        assert_eq!(rt; Cursor::new(bytes).read_s64(), Ok(i64::from(want)));
+    }
+    let least = [0x80, 0x80, 0x80, 0x80, 0x80, 0x80, 0x80, 0x80, 0x80, 0x7F];
+    assert_eq!(rt; Cursor::new(&least).read_s64(), Ok(i64::MIN));
+    assert_eq!(rt; Cursor::new(&least).read_s32(), Err(Bad));
+    assert_eq!(rt;
+        Cursor::new(&[0x80, 0x80, 0x80, 0x80, 0x70]).read_s32(),
+        Err(Bad)
+    );
+}
+
+#[test]
+fn reads_bytes_and_names(rt: HostRuntime) {
+    let mut cursor = Cursor::new(&[0x02, 0x68, 0x69, 0xFF, 0x01, 0xFF, 0x05, 0x61]);
+    assert_eq!(rt; cursor.read_name(), Ok("hi"));
+    assert_eq!(rt; cursor.byte(), Ok(0xFF));
+    assert_eq!(rt; cursor.read_name(), Err(Bad));
+    assert_eq!(rt; cursor.place(), 4_usize);
+    assert_eq!(rt; cursor.take(5).is_err(), true);
+    assert_eq!(rt; cursor.take(2).is_ok(), true);
+    assert_eq!(rt; cursor.read_name(), Err(Bad));
+    assert_eq!(rt; cursor.left(), 2_usize);
+}
+
+#[test]
+fn writes_shortest(rt: HostRuntime) -> Result<(), Fail> {
+    let mut out = Vec::new(rt.alloc());
+    put_u32(&mut out, 624_485)?;
+    put_u32(&mut out, 0)?;
+    put_u32(&mut out, u32::MAX)?;
+    put_s32(&mut out, -123_456)?;
+    put_s32(&mut out, 64)?;
+    put_s64(&mut out, -1)?;
+    put_s64(&mut out, i64::from(i32::MIN))?;
+    let want = [
+        0xE5, 0x8E, 0x26, 0x00, 0xFF, 0xFF, 0xFF, 0xFF, 0x0F, 0xC0, 0xBB, 0x78, 0xC0, 0x00, 0x7F,
+        0x80, 0x80, 0x80, 0x80, 0x78,
+    ];
+    assert_eq!(rt; out.as_slice(), want.as_slice());
+    Ok(())
+}
