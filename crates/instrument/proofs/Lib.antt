@@ -3,3 +3,12 @@ pub mod Whole
 pub mod NopOutput
 pub mod NopValid
 pub mod NopShell
+pub mod Sim
+pub mod SimFollow
+pub mod NopSteps
+pub mod NopLinks
+pub mod NopRuns
+pub mod NopMatch
+pub mod NopQuiet
+pub mod NopCount
+pub mod NopSame
