@@ -1,4 +1,4 @@
-use Rattle.std.proofs.Common.{◌≡◌, ◌+◌, ◌≤◌, drop, max}
+use Rattle.std.proofs.Common.{◌≡◌, ◌≤◌, drop, max}
 use Rattle.module_ast.specs.Tree.{weight}
 use Rattle.module_ast.specs.Positions.{code_nesting}
 use Rattle.module_ast.specs.Seen.{code_of}
