@@ -1,3 +1,4 @@
+pub mod Lookups
 pub mod Parts
 pub mod WrittenCode
 pub mod WrittenEntries
