@@ -3,3 +3,4 @@ pub mod Shell
 pub mod Same
 pub mod Made
 pub mod Nops
+pub mod Parts
