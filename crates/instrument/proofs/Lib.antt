@@ -1,3 +1,4 @@
 pub mod NopOutput
+pub mod NopParts
 pub mod NopValid
 pub mod NopShell
