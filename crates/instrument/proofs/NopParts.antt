@@ -125,3 +125,35 @@ export_length name index h i =
     let e = ap length (append-nil (export_bytes (nop_export name index))) in
     let l = length-append (sized_bytes name) (0 ∷ unsigned_bytes index) in
     omega arith
+
+-- The original is as long as its name and its nops together.
+nops_long : (n : ℕ) → length (code_bytes (nops n done)) ≡ n
+nops_long zero = refl
+nops_long (suc n) = let r = nops_long n in omega arith
+
+name_long : (name : List ℕ) → length name ≤ length (vec_section 7 export_bytes (nop_export name 0 ∷ []))
+name_long name =
+    let content = vec_bytes export_bytes (nop_export name 0 ∷ []) in
+    let inner : length content ≡ length (unsigned_bytes 1) + length (sized_bytes name ++ 0 ∷ unsigned_bytes 0) = length-append (unsigned_bytes 1) ((sized_bytes name ++ 0 ∷ unsigned_bytes 0) ++ []) ∙ ap (λ l. length (unsigned_bytes 1) + length l) (append-nil (sized_bytes name ++ 0 ∷ unsigned_bytes 0)) in
+    omega (arith, length-append (unsigned_bytes (length content)) content, length-append (sized_bytes name) (0 ∷ unsigned_bytes 0), length-append (unsigned_bytes (length name)) name)
+
+code_long : (n : ℕ) → n ≤ length (vec_section 10 (λ b. sized_bytes (body_bytes b)) (record { groups = []; code = nops n done } ∷ []))
+code_long n =
+    let body = body_bytes (record { groups = []; code = nops n done }) in
+    let content = vec_bytes (λ b. sized_bytes (body_bytes b)) (record { groups = []; code = nops n done } ∷ []) in
+    let inner : length content ≡ length (unsigned_bytes 1) + length (sized_bytes body) = length-append (unsigned_bytes 1) (sized_bytes body ++ []) ∙ ap (λ l. length (unsigned_bytes 1) + length l) (append-nil (sized_bytes body)) in
+    let code : length body ≡ length (unsigned_bytes 0 ++ []) + length (code_bytes (nops n done) ++ 0x0B ∷ []) = length-append (unsigned_bytes 0 ++ []) (code_bytes (nops n done) ++ 0x0B ∷ []) in
+    omega (arith, nops_long n, length-append (unsigned_bytes (length content)) content, length-append (unsigned_bytes (length body)) body, length-append (code_bytes (nops n done)) (0x0B ∷ []))
+
+-- both are short where the original is
+pub original_long : (name : List ℕ) (count : ℕ) → length name + count ≤ length (module_bytes (nop_module name count))
+original_long name count =
+    let front = header ++ vec_section 1 func_type_bytes (nop_module name count).types ++ vec_section 3 unsigned_bytes (0 ∷ []) in
+    let named = vec_section 7 export_bytes (nop_export name 0 ∷ []) in
+    let coded = vec_section 10 (λ b. sized_bytes (body_bytes b)) (record { groups = []; code = nops count done } ∷ []) in
+    let whole : module_bytes (nop_module name count) ≡ front ++ named ++ coded = skip front named coded in
+    omega (arith, ap length whole, length-append (front ++ named) coded, length-append front named, name_long name, code_long count)
+
+-- the output's bytes are fewer than 2 ^ 32
+pub output_short : (told : Bool) (name : List ℕ) (count : ℕ) → length name ≤ narrow_file → count ≤ narrow_file → length (module_bytes (nops_output told name count)) < 2 ^ 32
+output_short told name count n c = ?
