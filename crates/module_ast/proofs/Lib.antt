@@ -1,0 +1,5 @@
+pub mod Parts
+pub mod WrittenCode
+pub mod WrittenEntries
+pub mod WrittenModules
+pub mod Writers
