@@ -85,7 +85,7 @@ is_told true h = refl
 is_told false h = absurd (cc)
 
 -- so the module that is written is the output
-told_output : (name : List ℕ) (count : ℕ) (hooks : Hooks) (told : Bool) → IsNopChoice hooks → IsTold hooks count told → output (nop_module name count) hooks ≡ nops_output told name count
+pub told_output : (name : List ℕ) (count : ℕ) (hooks : Hooks) (told : Bool) → IsNopChoice hooks → IsTold hooks count told → output (nop_module name count) hooks ≡ nops_output told name count
 told_output name count hooks told (inl e) t =
     ap (output (nop_module name count)) e ∙ ap (output_with (nop_module name count) no_groups) (needed_none name count)
     ∙ ap (λ t. nops_output t name count) (untold told (IsTrue hooks.nop × (0 < count)) t.0 (λ h. let f = ap (λ (g : Hooks). g.nop) e in absurd (cc (h.0, f))))
@@ -154,6 +154,36 @@ original_long name count =
     let whole : module_bytes (nop_module name count) ≡ front ++ named ++ coded = skip front named coded in
     omega (arith, ap length whole, length-append (front ++ named) coded, length-append front named, name_long name, code_long count)
 
--- the output's bytes are fewer than 2 ^ 32
+-- what stands before the export
+abbrev front_bytes : (told : Bool) → List ℕ
+front_bytes told = header ++ vec_section 1 func_type_bytes (nop_types told) ++ vec_section 2 import_bytes (nop_imports told) ++ vec_section 3 unsigned_bytes (0 ∷ [])
+
+front_length : (told : Bool) → length (front_bytes told) ≤ 60
+front_length true = omega arith
+front_length false = omega arith
+
+keys_length : (told : Bool) → length (nop_keys told) ≤ 1
+keys_length true = omega arith
+keys_length false = omega arith
+
+named_length : (name : List ℕ) (index : ℕ) → length name ≤ narrow_file → index < 2 ^ 32 → length (vec_section 7 export_bytes (nop_export name index ∷ [])) ≤ length name + 18
+named_length name index h i =
+    let e = export_length name index h i in
+    omega (arith, section_length 7 (vec_bytes export_bytes (nop_export name index ∷ [])) (omega arith))
+
+coded_length : (told : Bool) (s : Site) (n : ℕ) → IsFirst s → n ≤ narrow_file → length (vec_section 10 (λ b. sized_bytes (body_bytes b)) (nop_body told s n ∷ [])) ≤ 11 * n + 14
+coded_length told s n f h =
+    let e = code_length told s n f h in
+    omega (arith, section_length 10 (vec_bytes (λ b. sized_bytes (body_bytes b)) (nop_body told s n ∷ [])) (omega arith))
+
+-- three parts of bytes
+short_by : (a b c whole : List ℕ) (name count : ℕ) → length whole ≡ length (a ++ b ++ c) → name ≤ narrow_file → count ≤ narrow_file → length a ≤ 60 → length b ≤ name + 18 → length c ≤ 11 * count + 14 → length whole < 2 ^ 32
+short_by a b c whole name count e n k f g h = omega (arith, length-append (a ++ b) c, length-append a b)
+
+-- The bytes that are written are fewer than 2 ^ 32.
 pub output_short : (told : Bool) (name : List ℕ) (count : ℕ) → length name ≤ narrow_file → count ≤ narrow_file → length (module_bytes (nops_output told name count)) < 2 ^ 32
-output_short told name count n c = ?
+output_short told name count n c =
+    let index = length (nop_keys told) in
+    let s = nop_site name count in
+    short_by (front_bytes told) (vec_section 7 export_bytes (nop_export name index ∷ [])) (vec_section 10 (λ b. sized_bytes (body_bytes b)) (nop_body told s count ∷ [])) (module_bytes (nops_output told name count)) (length name) count
+    (ap length (output_sections told name count)) n c (front_length told) (named_length name index n (omega (arith, keys_length told))) (coded_length told s count (site_is_first name count) c)
