@@ -103,6 +103,16 @@ all_sections name count hooks told index choice t e =
     ∙ sym (output_sections told name count)
     ∙ ap module_bytes (sym (told_output name count hooks told choice t))
 
+-- what each function adds, one after the other
+pub added : (told : Bool) (e : Export) (b : Body) (z h t i f x whole : List ℕ) → z ≡ [] → h ≡ z ++ header → t ≡ h ++ vec_section 1 func_type_bytes (nop_types told) → i ≡ t ++ vec_section 2 import_bytes (nop_imports told) → f ≡ i ++ vec_section 3 unsigned_bytes (0 ∷ []) → x ≡ f ++ vec_section 7 export_bytes (e ∷ []) → whole ≡ x ++ vec_section 10 (λ b. sized_bytes (body_bytes b)) (b ∷ []) → whole ≡ sections_bytes told e b
+added told e b z h t i f x whole ez eh et ei ef ex ew =
+    let coded = vec_section 10 (λ b. sized_bytes (body_bytes b)) (b ∷ []) in
+    let named = vec_section 7 export_bytes (e ∷ []) in
+    let funcs = vec_section 3 unsigned_bytes (0 ∷ []) in
+    let imports = vec_section 2 import_bytes (nop_imports told) in
+    let types = vec_section 1 func_type_bytes (nop_types told) in
+    ew ∙ ap (λ l. l ++ coded) (ex ∙ ap (λ l. l ++ named) (ef ∙ ap (λ l. l ++ funcs) (ei ∙ ap (λ l. l ++ imports) (et ∙ ap (λ l. l ++ types) (eh ∙ ap (λ l. l ++ header) ez)))))
+
 -- Lengths.
 
 -- of the body, without its size

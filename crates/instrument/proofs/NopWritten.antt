@@ -1,8 +1,10 @@
 -- The bytes of the modules of nops with hooks are in the grammar.
 use Rattle.std.proofs.Common.{◌≡◌, ℕ, zero, suc, ◌+◌, ◌^◌, ◌<◌, ◌≤◌, pos, inl, inr, List, [], ◌∷◌, Some, None, true, false, refl, sym, ap, subst, arith, length}
 use Rattle.std.specs.Prelude.{Bool, IsUtf8, codes}
+use Rattle.std.specs.List.{AllByRecursion}
 use Rattle.std.proofs.lemmas.List.Elements.{All-from_recursion}
-use Rattle.std.proofs.lemmas.Str.{IsUtf8-from_is_utf8}
+use Rattle.std.proofs.lemmas.Str.{IsUtf8-from_ascii}
+use Rattle.std.proofs.lemmas.Str.Ascii.{IsAscii-from_all}
 use Rattle.module_ast.specs.declared.module.Module.{Module}
 use Rattle.module_ast.specs.declared.module.Item.TheVariants.{Func}
 use Rattle.module_ast.specs.Tree.{done}
@@ -49,10 +51,15 @@ nop_fits name count u h = record {
   size = h;
 }
 
+-- ASCII is text
+ascii_text : (bs : List ℕ) → AllByRecursion (λ b. b < 128) bs → IsUtf8 bs
+ascii_text bs h = IsUtf8-from_ascii bs (IsAscii-from_all bs (All-from_recursion (λ b. b < 128) bs h))
+
+-- the hook's import
 hook_fits : FitsImport (record { «module» = hook_module; name = codes "nop"; item = Func 1 })
 hook_fits = record {
-  «module» = IsUtf8-from_is_utf8 hook_module refl;
-  name = IsUtf8-from_is_utf8 (codes "nop") refl;
+  «module» = ascii_text hook_module (omega arith, (omega arith, (omega arith, (omega arith, (omega arith, (omega arith, (omega arith, (omega arith, (omega arith, (omega arith, (omega arith, (omega arith, (omega arith, (omega arith, tt))))))))))))));
+  name = ascii_text (codes "nop") (omega arith, (omega arith, (omega arith, tt)));
   item = omega arith;
 }
 

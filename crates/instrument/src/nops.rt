@@ -6,7 +6,7 @@ ghost use Rattle.module_ast.specs.Grammar.{header};
 ghost use Rattle.module_ast.specs.Canonical.{body_bytes, export_bytes, func_type_bytes, import_bytes, section_bytes, sized_bytes, vec_bytes, vec_section};
 ghost use Rattle.module_ast.specs.declared.module.ExportKind.TheVariants.{Func};
 ghost use Rattle.hook_mono.specs.Needed.{Site};
-ghost use Rattle.rewrite.specs.Nops.{IsFirst, nops_rewritten};
+ghost use Rattle.rewrite.specs.Nops.{IsFirst, nop_keys, nops_rewritten};
 ghost use Rattle.instrument.specs.Nops.{nop_module, IsNopChoice, IsNopModule, narrow_file};
 ghost use Rattle.instrument.specs.Parts.{nop_types, nop_imports};
 ghost use Rattle.instrument.specs.Output.{output_bytes};
@@ -147,6 +147,17 @@ fn is_told(hooks: &Hooks, count: u32) -> bool
     hooks.nop && count > 0
 }
 
+// How many hooks there are: functions of the original stand behind them.
+fn hook_count(told: bool) -> u32
+    ensures { result ≡ length (nop_keys told) }
+{
+    if told {
+        1
+    } else {
+        0
+    }
+}
+
 /// The bytes of the module of `count` nops under `name` with the hooks of these groups: a valid module that does what
 /// the original does, and whose hook calls read as the original's events of these groups. An `AllocError` comes where
 /// memory ends.
@@ -167,7 +178,7 @@ pub fn write_nops(
     put_types(&mut out, told)?;
     put_imports(alloc, &mut out, told)?;
     put_funcs(&mut out)?;
-    put_export(alloc, &mut out, name, u32::from(told))?;
+    put_export(alloc, &mut out, name, hook_count(told))?;
     put_code(alloc, &mut out, count, told)?;
     Ok(out)
 }
