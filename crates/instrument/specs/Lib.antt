@@ -4,3 +4,5 @@ pub mod Same
 pub mod Made
 pub mod Nops
 pub mod Parts
+pub mod Accepted
+pub mod Laws

@@ -1,4 +1,5 @@
 // Modules with hooks.
 #![tactic(auto)]
 
+pub mod laws;
 pub mod nops;

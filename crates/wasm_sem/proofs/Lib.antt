@@ -1,7 +1,10 @@
+pub mod Chosen
+pub mod Ended
 mod Examples
 mod Falling
 mod Refusing
-mod Runs
-mod Straight
+pub mod Runs
+pub mod Straight
+pub mod Steady
 mod TypedExample
 mod Values

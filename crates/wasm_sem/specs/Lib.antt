@@ -6,3 +6,4 @@ pub mod Events
 pub mod Trace
 pub mod Answers
 pub mod Causes
+pub mod Laws

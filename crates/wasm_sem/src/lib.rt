@@ -7,6 +7,8 @@ use module_ast::name::Name;
 use module_ast::seq::Seq;
 use wasm_num::Values;
 
+pub mod laws;
+
 /// One call of an export.
 #[derive(Debug, Drop)]
 pub struct Call {

@@ -1,0 +1,26 @@
+-- Which files get hooks, and what is written for them.
+use Rattle.std.specs.Prelude.{◌≡◌, ℕ, List}
+use Rattle.module_ast.specs.declared.module.Module.{Module}
+use Rattle.module_ast.specs.Decoding.{Gram}
+use Rattle.module_ast.specs.Profile.{IsWithin}
+use Rattle.module_ast.specs.Validity.{IsValid}
+use Rattle.module_ast.specs.Limits.{narrow}
+use Rattle.hook_select.specs.declared.Hooks.{Hooks}
+use Rattle.instrument.specs.Output.{IsFree, output_bytes}
+use Rattle.instrument.specs.Made.{IsSound}
+use Rattle.instrument.specs.Same.{Same}
+
+-- the bytes are a valid module within the narrow limits, which imports no hook
+pub record IsAccepted (bytes : List ℕ) (m : Module) : Type 0 where
+  pub spelled : Gram bytes m
+  pub limits : IsWithin narrow m
+  pub valid : IsValid m
+  pub free : IsFree m
+
+-- For the file of an accepted module its output was written: a valid module of the right shell that under every script
+-- does what the original does, and whose hook calls read as the original's selected events.
+pub record IsInstrumented (file : List ℕ) (hooks : Hooks) (written : List ℕ) : Type 0 where
+  pub original : Module
+  pub accepted : IsAccepted file original
+  pub output : written ≡ output_bytes original hooks
+  pub sound : IsSound Same original hooks written

@@ -1,0 +1,3 @@
+pub mod Words
+pub mod NopFile
+pub mod Ends

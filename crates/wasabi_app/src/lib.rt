@@ -1,0 +1,6 @@
+// The program's one call.
+#![tactic(auto)]
+
+mod app;
+
+pub use app::run_app;
