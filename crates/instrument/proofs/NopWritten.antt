@@ -18,6 +18,11 @@ use Rattle.wasm_sem.specs.Link.{hook_module}
 use Rattle.instrument.specs.Nops.{nops, nop_module, IsNopChoice, IsNopModule, narrow_file}
 use Rattle.instrument.specs.Output.{output, output_bytes}
 use Rattle.instrument.specs.Parts.{nops_output}
+use Rattle.instrument.specs.Made.{IsSound}
+use Rattle.instrument.specs.Same.{Same}
+use Rattle.instrument.proofs.NopValid.{output_valid, output_within}
+use Rattle.instrument.proofs.NopShell.{output_shell}
+use Rattle.instrument.proofs.NopSame.{nop_same}
 use Rattle.instrument.proofs.NopOutput.{told_nops, hooked_module, output_hooked, output_none}
 use Rattle.instrument.proofs.NopParts.{IsTold, told_output, original_long, output_short}
 
@@ -94,3 +99,14 @@ output_spelled name count hooks told m choice t =
     let short : length (module_bytes (nops_output told name count)) < 2 ^ 32 = output_short told name count (omega arith) (omega arith) in
     let whole : length (output_bytes (nop_module name count) hooks) < 2 ^ 32 = subst (λ o. length (module_bytes o) < 2 ^ 32) (sym (told_output name count hooks told choice t)) short in
     module_spelled (output (nop_module name count) hooks) (output_fits name count hooks choice m.text (omega arith) whole)
+
+-- The bytes that are written are sound.
+pub written_sound : (name : List ℕ) (count : ℕ) (hooks : Hooks) (told : Bool) (bytes : List ℕ) → IsNopModule name count → IsNopChoice hooks → IsTold hooks count told → bytes ≡ output_bytes (nop_module name count) hooks → IsSound Same (nop_module name count) hooks bytes
+written_sound name count hooks told bytes m choice t e = record {
+  result = output (nop_module name count) hooks;
+  spelled = subst (λ b. IsModule b (tree_of (output (nop_module name count) hooks))) (sym e) (output_spelled name count hooks told m choice t);
+  limits = output_within name count hooks choice;
+  valid = output_valid name count hooks choice;
+  shell = output_shell name count hooks choice;
+  same = nop_same name count m hooks choice;
+}
