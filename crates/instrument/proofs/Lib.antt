@@ -1,8 +1,10 @@
 pub mod Reports
 pub mod Whole
 pub mod NopOutput
+pub mod NopParts
 pub mod NopValid
 pub mod NopShell
+pub mod NopWritten
 pub mod Sim
 pub mod SimFollow
 pub mod NopSteps

@@ -5,13 +5,9 @@ use Rattle.module_ast.specs.declared.module.Module.{Module}
 use Rattle.module_ast.specs.Tree.{Tree, done, plain, nop}
 use Rattle.module_ast.specs.Canonical.{module_bytes}
 use Rattle.hook_select.specs.declared.GroupName.TheVariants.{Nop}
+pub use Rattle.rewrite.specs.Nops.{nops}
 use Rattle.hook_select.specs.declared.Hooks.{Hooks}
 use Rattle.hook_select.specs.Groups.{hooks_of, is_among}
-
--- so many nops before a sequence
-abbrev pub nops : ℕ → Tree → Tree
-nops zero k = k
-nops (suc n) k = plain nop (nops n k)
 
 -- one function without parameters and results, exported under a name, whose body is so many nops
 abbrev pub nop_module : (name : List ℕ) → (count : ℕ) → Module
