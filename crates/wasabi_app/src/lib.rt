@@ -2,5 +2,6 @@
 #![tactic(auto)]
 
 mod app;
+mod words;
 
 pub use app::run_app;
