@@ -1,1 +1,4 @@
 pub mod Lines
+pub mod Sized
+pub mod Nops
+pub mod Files

@@ -1,4 +1,5 @@
 pub mod Words
 pub mod Reading
 pub mod NopFile
+pub mod Sections
 pub mod Ends
