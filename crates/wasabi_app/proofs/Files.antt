@@ -1,5 +1,5 @@
 -- A file of nops, from its two contents.
-use Rattle.std.proofs.Common.{◌≡◌, ◌≢◌, ℕ, ◌≤◌, List, [], ◌∷◌, ◌++◌, length, refl, sym, ap, ◌∙◌, subst, arith, Option, Some, None, MatchOption, Bor}
+use Rattle.std.proofs.Common.{◌≡◌, ◌≢◌, ℕ, ◌≤◌, List, [], ◌∷◌, ◌++◌, length, refl, sym, ap, ◌∙◌, subst, append_assoc, arith, Option, Some, None, MatchOption, Bor}
 use Rattle.std.specs.Prelude.{IsUtf8}
 use Rattle.std.proofs.lemmas.List.{append-nil}
 use Rattle.module_ast.specs.Canonical.{module_bytes, sized_bytes}
@@ -73,13 +73,26 @@ file_same bytes exports code one two h p q =
     let both = content_same (0x0A ∷ []) rest code two [] [] l.1 (whole (0x0A ∷ []) rest code refl) (whole (0x0A ∷ []) rest two same.1) in
     (same.0, both.0)
 
+-- sections without entries are no bytes
+without_empty : (front exports code : List ℕ) → (((front ++ exports) ++ [] ++ []) ++ code) ++ [] ≡ front ++ (exports ++ code)
+without_empty front exports code = simp (append-nil, append_assoc)
+
 -- The canonical bytes of a module of nops are those of its two contents.
 pub nop_file : (name : List ℕ) (count : ℕ) → module_bytes (nop_module name count) ≡ file_bytes (exports_content name) (code_content count)
-nop_file name count = simp append-nil
+nop_file name count =
+    let exported = sized_bytes name ++ 0x00 ∷ 0x00 ∷ [] in
+    let body = sized_bytes (nop_body count) in
+    without_empty file_front (sized_bytes (0x01 ∷ (exported ++ []))) (0x0A ∷ sized_bytes (0x01 ∷ (body ++ [])))
+    ∙ ap (λ l. file_front ++ (sized_bytes (0x01 ∷ l) ++ 0x0A ∷ sized_bytes (0x01 ∷ (body ++ [])))) (append-nil exported)
+    ∙ ap (λ l. file_front ++ (sized_bytes (0x01 ∷ exported) ++ 0x0A ∷ sized_bytes (0x01 ∷ l))) (append-nil body)
 
 -- a file of nops, and none
 pub no_file : (bytes : List ℕ) → ((exports code : List ℕ) → bytes ≢ file_bytes exports code) → IsNoNopFile bytes
 no_file bytes none name count f = none (exports_content name) (code_content count) (f.1 ∙ nop_file name count)
+
+pub is_file : (bytes exports code name : List ℕ) (count : ℕ) → bytes ≡ file_bytes exports code → exports ≡ exports_content name
+    → code ≡ code_content count → IsUtf8 name → IsNopFile bytes name count
+is_file bytes exports code name count e f g u = (u, e ∙ rw (f, g) (sym (nop_file name count)))
 
 pub no_exports : (bytes exports code : List ℕ) → length bytes ≤ narrow_file → bytes ≡ file_bytes exports code → IsNoExports exports → IsNoNopFile bytes
 no_exports bytes exports code h e none name count f =

@@ -6,7 +6,9 @@ pub returns-in_err-body : goal.returns-in_err-body
 returns-in_err-body c = rw c.from_residual.ensures (code_none _ c.in_err-body.ensures)
 
 pub returns-then-not-is_empty : goal.returns-then-not-is_empty
-returns-then-not-is_empty c = code_more _ _ _ c.requires c.in_ok-body.ensures (search rules)
+returns-then-not-is_empty c =
+    code_more c.args.content.now c.in_ok-body.body.now c.in_ok-body.rest.now c.requires c.in_ok-body.ensures (search rules)
 
 pub returns : goal.returns
-returns c = code_read _ _ _ _ c.requires c.in_ok-body.ensures (search rules) c.count_nops.ensures
+returns c =
+    code_read c.args.content.now c.in_ok-body.body.now c.in_ok-body.rest.now _ c.requires c.in_ok-body.ensures (search rules) c.count_nops.ensures

@@ -5,7 +5,11 @@ pub returns-in_err-exports : goal.returns-in_err-exports
 returns-in_err-exports c = rw c.from_residual.ensures (no_file _ c.in_err-exports.ensures)
 
 pub returns-in_err-name : goal.returns-in_err-name
-returns-in_err-name c = rw c.from_residual-in_err-name.ensures (no_exports _ _ _ c.requires c.in_ok-exports.ensures c.in_err-name.ensures)
+returns-in_err-name c =
+    rw c.from_residual-in_err-name.ensures
+    (no_exports c.args.bytes.now c.in_ok-exports.exports.now c.in_ok-exports.code.now c.requires c.in_ok-exports.ensures c.in_err-name.ensures)
 
 pub returns-in_err-count : goal.returns-in_err-count
-returns-in_err-count c = rw c.from_residual-in_err-count.ensures (no_code _ _ _ c.requires c.in_ok-exports.ensures c.in_err-count.ensures)
+returns-in_err-count c =
+    rw c.from_residual-in_err-count.ensures
+    (no_code c.args.bytes.now c.in_ok-exports.exports.now c.in_ok-exports.code.now c.requires c.in_ok-exports.ensures c.in_err-count.ensures)
