@@ -1,7 +1,6 @@
 -- How many of the listed calls were made.
-use Rattle.std.proofs.Common.{◌≡◌, ◌+◌, ◌≤◌, ◌<◌, ℕ, List, [], ◌∷◌, length, Option, Some, None, refl, arith, is_some, if◌then◌else◌}
+use Rattle.std.proofs.Common.{◌≡◌, ◌+◌, ◌^◌, ◌≤◌, ◌<◌, ℕ, List, [], ◌∷◌, length, Option, Some, None, refl, arith, is_some, SomeIff, if◌then◌else◌}
 use Rattle.std.proofs.lemmas.Grind.{common_steps}
-use Rattle.std.proofs.Common.{◌^◌, SomeIff}
 use Rattle.outside_io.specs.Calls.{made}
 use Rattle.outside_io.specs.Failing.{kept_at, listed_below}
 use Rattle.outside_io.specs.declared.calls.Fail.{Fail}

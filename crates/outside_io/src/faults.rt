@@ -3,7 +3,9 @@
 ghost use Rattle.std.specs.Prelude.{◌≡◌};
 ghost use Rattle.std.specs.IoError.{error_kind};
 ghost use Rattle.outside_io.specs.Faults.{read_fault_of, write_fault_of, sink_fault_of};
-ghost use Rattle.outside_io.specs.declared.outside.ReadFault.TheVariants.{NoMemory};
+ghost use Rattle.outside_io.specs.declared.outside.ReadFault.TheVariants as read;
+ghost use Rattle.outside_io.specs.declared.outside.WriteFault.TheVariants as write;
+ghost use Rattle.outside_io.specs.declared.outside.SinkFault.TheVariants as sink;
 
 use crate::{ReadFault, SinkFault, WriteFault};
 use std::alloc::AllocError;
@@ -22,7 +24,7 @@ impl From<Error> for ReadFault {
 }
 
 impl From<AllocError> for ReadFault {
-    ghost from_gives = { λ _ fault. fault ≡ NoMemory };
+    ghost from_gives = { λ _ fault. fault ≡ read.NoMemory };
 
     fn from(_error: AllocError) -> ReadFault {
         ReadFault::NoMemory
@@ -48,5 +50,21 @@ impl From<Error> for SinkFault {
             ErrorKind::OutOfMemory => SinkFault::NoMemory,
             _ => SinkFault::Failed,
         }
+    }
+}
+
+impl From<AllocError> for WriteFault {
+    ghost from_gives = { λ _ fault. fault ≡ write.NoMemory };
+
+    fn from(_error: AllocError) -> WriteFault {
+        WriteFault::NoMemory
+    }
+}
+
+impl From<AllocError> for SinkFault {
+    ghost from_gives = { λ _ fault. fault ≡ sink.NoMemory };
+
+    fn from(_error: AllocError) -> SinkFault {
+        SinkFault::NoMemory
     }
 }

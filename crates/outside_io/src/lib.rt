@@ -16,3 +16,6 @@ pub use host_sink::HostSink;
 pub use memory_shelf::MemoryShelf;
 pub use memory_sink::MemorySink;
 pub use outside::{ReadFault, Shelf, Sink, SinkFault, WriteFault};
+
+#[cfg(test)]
+mod tests;

@@ -124,15 +124,10 @@ impl Shelf for MemoryShelf {
         match self.calls.count() {
             Some(kept) => {
                 self.write_faults += 1;
-                match put_under(&mut self.held, self.alloc, name, front(bytes, kept)) {
-                    Ok(()) => Err(WriteFault::Failed),
-                    Err(_) => Err(WriteFault::NoMemory),
-                }
+                put_under(&mut self.held, self.alloc, name, front(bytes, kept))?;
+                Err(WriteFault::Failed)
             }
-            None => match put_under(&mut self.held, self.alloc, name, bytes) {
-                Ok(()) => Ok(()),
-                Err(_) => Err(WriteFault::NoMemory),
-            },
+            None => Ok(put_under(&mut self.held, self.alloc, name, bytes)?),
         }
     }
 }
@@ -169,8 +164,5 @@ fn read_under(
     if length > cap {
         return Err(ReadFault::TooLong { length });
     }
-    match Vec::from_slice(alloc, bytes) {
-        Ok(copy) => Ok(copy),
-        Err(_) => Err(ReadFault::NoMemory),
-    }
+    Ok(Vec::from_slice(alloc, bytes)?)
 }

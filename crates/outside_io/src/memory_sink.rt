@@ -70,15 +70,10 @@ impl Sink for MemorySink {
         match self.calls.count() {
             Some(kept) => {
                 self.faults += 1;
-                match self.printed.extend_from_slice(front(bytes, kept)) {
-                    Ok(()) => Err(SinkFault::Failed),
-                    Err(_) => Err(SinkFault::NoMemory),
-                }
+                self.printed.extend_from_slice(front(bytes, kept))?;
+                Err(SinkFault::Failed)
             }
-            None => match self.printed.extend_from_slice(bytes) {
-                Ok(()) => Ok(()),
-                Err(_) => Err(SinkFault::NoMemory),
-            },
+            None => Ok(self.printed.extend_from_slice(bytes)?),
         }
     }
 }

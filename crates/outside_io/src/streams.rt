@@ -10,7 +10,11 @@ use std::io;
 use std::io::{Error, ErrorKind, Read, Write};
 
 /// All bytes that are left, where they are at most `cap` many; else `TooLong` with the number that was taken.
-pub(crate) fn read_within<F: Read>(from: &mut F, alloc: Global, cap: u64) -> Result<Vec<u8>, ReadFault>
+pub(crate) fn read_within<F: Read>(
+    from: &mut F,
+    alloc: Global,
+    cap: u64,
+) -> Result<Vec<u8>, ReadFault>
     ensures within { IfOk result (λ bytes. vec_len bytes ≤ cap) }
     ensures all { IfOk result (λ bytes. IfSome (F.remaining from.old) (λ left. bytes.items ≡ left)) }
     ensures past { (long : ℕ) → IsErrOf result (ReadFault.TooLong long) → cap < long }

@@ -6,7 +6,7 @@ use Rattle.outside_io.proofs.streams.read_within.Given as goal
 abbrev pub invariant-loop-bytes : goal.invariant-loop-bytes
 invariant-loop-bytes g l = record {
   within : vec_len l.bytes ≤ l.cap;
-  taken : Consumes (g.F.Read.remaining l.fn.from) (g.F.Read.remaining l.from) l.bytes.items
+  taken : Consumes (g.F.Read.remaining l.fn.from) (g.F.Read.remaining l.from) l.bytes.items;
 }
 
 abbrev pub decreases-loop-bytes : goal.decreases-loop-bytes

@@ -7,5 +7,5 @@ pub loop-done-preserved : goal.loop-done-preserved
 loop-done-preserved g c = record {
   within = grind (arith, c.in_ok-taken.ensures.bound, length-take, length-drop);
   written = written_more _ _ _ c.args.bytes.now c.loop-done.done c.in_ok-taken.taken
-      c.in_ok-taken.ensures.bound c.loop-done.invariant.written c.in_ok-taken.ensures.bytes
+      c.in_ok-taken.ensures.bound c.loop-done.invariant.written c.in_ok-taken.ensures.bytes;
 }

@@ -14,7 +14,7 @@ pub returns-clause-made : goal.returns-clause-made
 returns-clause-made c =
     let next = made-next c.in_ok-number.number c.checked_add-self.result (omega arith) c.checked_add-self.ensures in
     rw (next, c.in_ok-number.was, c.kept_of.ensures, c.deref.ensures.value)
-        (listed_below-next c.args.self.now.fails.items c.in_ok-number.number)
+    (listed_below-next c.args.self.now.fails.items c.in_ok-number.number)
 
 pub returns-clause-room : goal.returns-clause-room
 returns-clause-room c =

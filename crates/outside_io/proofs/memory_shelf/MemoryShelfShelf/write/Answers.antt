@@ -3,7 +3,7 @@ use Rattle.outside_io.proofs.Fronts.{wrote_front}
 use Rattle.outside_io.proofs.memory_shelf.MemoryShelfShelf.write.Goals as goal
 
 -- what a failing write keeps is a front of the bytes
-pub returns-in-Ok-clause-part : goal.returns-in-Ok-clause-part
-returns-in-Ok-clause-part c =
+pub returns-in_ok-put_under-in-Some-clause-part : goal.returns-in_ok-put_under-in-Some-clause-part
+returns-in_ok-put_under-in-Some-clause-part c =
     wrote_front c.args.name.now c.front.result.now c.args.bytes.now c.in-Some.kept (shelved c.args.self.now.held) (shelved c.put_under.new.held)
-        c.front.ensures c.in-Ok.ensures.written
+    c.front.ensures c.in_ok-put_under-in-Some.ensures.written
