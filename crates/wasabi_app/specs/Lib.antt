@@ -3,3 +3,4 @@ pub mod Reading
 pub mod NopFile
 pub mod Sections
 pub mod Ends
+pub mod Stages
