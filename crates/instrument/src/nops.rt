@@ -12,6 +12,8 @@ ghost use Rattle.instrument.specs.Parts.{nop_types, nop_imports};
 ghost use Rattle.instrument.specs.Output.{output_bytes};
 ghost use Rattle.instrument.specs.Made.{IsSound};
 ghost use Rattle.instrument.specs.Same.{Same};
+ghost use Rattle.instrument.specs.Accepted.{IsInstrumented};
+ghost use Rattle.module_ast.specs.Canonical.{module_bytes};
 
 use hook_select::Hooks;
 use leb_binary::put_u32;
@@ -171,6 +173,7 @@ pub fn write_nops(
     requires choice { IsNopChoice hooks.now }
     ensures written { IfOk result (λ bytes. bytes.items ≡ output_bytes (nop_module name.now count) hooks.now) }
     ensures sound { IfOk result (λ bytes. IsSound Same (nop_module name.now count) hooks.now bytes.items) }
+    ensures instrumented { IfOk result (λ bytes. IsInstrumented (module_bytes (nop_module name.now count)) hooks.now bytes.items) }
 {
     let told = is_told(hooks, count);
     let mut out = Vec::new(alloc);

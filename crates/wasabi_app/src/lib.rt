@@ -2,5 +2,7 @@
 #![tactic(auto)]
 
 mod app;
+mod nop_file;
+mod words;
 
 pub use app::run_app;
