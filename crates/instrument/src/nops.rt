@@ -3,17 +3,14 @@
 ghost use Rattle.std.specs.Prelude.{◌≡◌, ◌≤◌, ◌<◌, ◌^◌, ◌++◌, ◌∷◌, [], length, IfOk, OnOk, IsTrue, true, ◌↔◌};
 ghost use Rattle.leb_binary.specs.Shortest.{unsigned_bytes};
 ghost use Rattle.module_ast.specs.Grammar.{header};
-ghost use Rattle.module_ast.specs.Canonical.{body_bytes, export_bytes, func_type_bytes, import_bytes, section_bytes, sized_bytes, vec_bytes, vec_section};
+ghost use Rattle.module_ast.specs.Canonical.{body_bytes, export_bytes, func_type_bytes, import_bytes, module_bytes, section_bytes, sized_bytes, vec_bytes, vec_section};
 ghost use Rattle.module_ast.specs.declared.module.ExportKind.TheVariants.{Func};
 ghost use Rattle.hook_mono.specs.Needed.{Site};
 ghost use Rattle.rewrite.specs.Nops.{IsFirst, nop_keys, nops_rewritten};
 ghost use Rattle.instrument.specs.Nops.{nop_module, IsNopChoice, IsNopModule, narrow_file};
 ghost use Rattle.instrument.specs.Parts.{nop_types, nop_imports};
 ghost use Rattle.instrument.specs.Output.{output_bytes};
-ghost use Rattle.instrument.specs.Made.{IsSound};
-ghost use Rattle.instrument.specs.Same.{Same};
 ghost use Rattle.instrument.specs.Accepted.{IsInstrumented};
-ghost use Rattle.module_ast.specs.Canonical.{module_bytes};
 
 use hook_select::Hooks;
 use leb_binary::put_u32;
@@ -172,7 +169,6 @@ pub fn write_nops(
     requires known { IsNopModule name.now count }
     requires choice { IsNopChoice hooks.now }
     ensures written { IfOk result (λ bytes. bytes.items ≡ output_bytes (nop_module name.now count) hooks.now) }
-    ensures sound { IfOk result (λ bytes. IsSound Same (nop_module name.now count) hooks.now bytes.items) }
     ensures instrumented { IfOk result (λ bytes. IsInstrumented (module_bytes (nop_module name.now count)) hooks.now bytes.items) }
 {
     let told = is_told(hooks, count);
