@@ -86,6 +86,7 @@ impl<R: Files> Shelf for HostShelf<'_, R> {
     }
 }
 
+// The bytes of a file, at most `cap` many.
 fn read_file<R: Files>(rt: &R, alloc: Global, name: &str, cap: u64) -> Result<Vec<u8>, ReadFault>
     ensures within { IfOk result (λ bytes. vec_len bytes ≤ cap) }
     ensures past { (long : ℕ) → IsErrOf result (ReadFault.TooLong long) → cap < long }
@@ -94,6 +95,7 @@ fn read_file<R: Files>(rt: &R, alloc: Global, name: &str, cap: u64) -> Result<Ve
     read_within(&mut file, alloc, cap)
 }
 
+// Makes a file of these bytes.
 fn write_file<R: Files>(rt: &R, name: &str, bytes: &[u8]) -> Result<(), WriteFault> {
     let mut file = fs::create(rt, name)?;
     write_all(&mut file, bytes)?;

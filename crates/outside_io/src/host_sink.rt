@@ -48,6 +48,7 @@ impl<R: Print> Sink for HostSink<'_, R> {
     }
 }
 
+// Prints all bytes on standard output.
 fn print<R: Print>(rt: &R, bytes: &[u8]) -> Result<(), SinkFault> {
     write_all(&mut io::writer(rt), bytes)?;
     Ok(())
