@@ -1,5 +1,5 @@
 -- The files of modules of nops are accepted, and what is written for them is their output.
-use Rattle.std.proofs.Common.{◌≡◌, ℕ, List, [], false, true, refl, subst, inl, arith, length, ◌∙◌, ap}
+use Rattle.std.proofs.Common.{◌≡◌, ℕ, List, [], false, refl, subst, inl, arith}
 use Rattle.std.specs.Prelude.{Bool, ◌≢◌}
 use Rattle.std.proofs.lemmas.List.Elements.{All-from_recursion}
 use Rattle.module_ast.specs.declared.module.Import.{Import}
