@@ -1,22 +1,21 @@
 -- The bytes of the module of nops with hooks, section by section.
-use Rattle.std.proofs.Common.{◌≡◌, ℕ, zero, suc, ◌+◌, ◌*◌, ◌^◌, ◌<◌, ◌≤◌, inl, inr, List, [], ◌∷◌, ◌++◌, Bool, true, false, refl, sym, ap, ◌∙◌, subst, length, arith, length-append, append-nil}
+use Rattle.std.proofs.Common.{◌≡◌, ℕ, zero, suc, ◌+◌, ◌*◌, ◌^◌, ◌<◌, ◌≤◌, inl, inr, List, [], ◌∷◌, ◌++◌, Bool, true, false, refl, sym, ap, ◌∙◌, length, arith, length-append, append-nil}
 use Rattle.std.specs.Prelude.{IsTrue, ◌↔◌}
 use Rattle.module_ast.specs.declared.module.ExportKind.TheVariants.{Func}
 use Rattle.module_ast.specs.declared.module.Export.{Export}
 use Rattle.module_ast.specs.declared.module.Body.{Body}
-use Rattle.module_ast.specs.declared.module.Module.{Module}
 use Rattle.module_ast.specs.Tree.{done}
 use Rattle.module_ast.specs.Grammar.{header}
 use Rattle.leb_binary.specs.Shortest.{unsigned_bytes}
-use Rattle.module_ast.specs.Canonical.{func_type_bytes, import_bytes, export_bytes, body_bytes, code_bytes, sized_bytes, section_bytes, vec_bytes, vec_section, module_bytes}
+use Rattle.module_ast.specs.Canonical.{func_type_bytes, import_bytes, export_bytes, body_bytes, code_bytes, sized_bytes, vec_bytes, vec_section, module_bytes}
 use Rattle.wasm_num.specs.declared.ValType.{ValType}
 use Rattle.hook_select.specs.declared.Hooks.{Hooks}
 use Rattle.hook_mono.specs.Needed.{Site}
-use Rattle.rewrite.specs.Temporaries.{pool_groups, body_temps, greatest, ints_in, longs_in}
+use Rattle.rewrite.specs.Temporaries.{pool_groups, greatest, ints_in, longs_in}
 use Rattle.rewrite.specs.Rewrite.{rewritten_body}
-use Rattle.rewrite.specs.Nops.{IsFirst, nop_hooks, nop_keys, nop_setting, nops_rewritten}
+use Rattle.rewrite.specs.Nops.{IsFirst, nop_keys, nop_setting, nops_rewritten}
 use Rattle.rewrite.proofs.Lengths.{unsigned_five, sized_length, section_length, rewritten_length}
-use Rattle.instrument.specs.Nops.{nops, nop_module, no_groups, nop_group, IsNopChoice, IsNopModule, narrow_file}
+use Rattle.instrument.specs.Nops.{nops, nop_module, no_groups, nop_group, IsNopChoice, narrow_file}
 use Rattle.instrument.specs.Output.{output, output_with, output_bytes}
 use Rattle.instrument.specs.Parts.{nops_output, nop_types, nop_imports}
 use Rattle.instrument.proofs.NopOutput.{nop_site, temps_hooked, temps_none, needed_hooked, needed_none, output_empty, output_none}
