@@ -150,11 +150,7 @@ fn is_told(hooks: &Hooks, count: u32) -> bool
 fn hook_count(told: bool) -> u32
     ensures { result ≡ length (nop_keys told) }
 {
-    if told {
-        1
-    } else {
-        0
-    }
+    if told { 1 } else { 0 }
 }
 
 /// The bytes of the module of `count` nops under `name` with the hooks of these groups: a valid module that does what

@@ -1,5 +1,5 @@
 -- How many bytes are written of numbers, and of rewritten nops.
-use Rattle.std.proofs.Common.{◌≡◌, ℕ, zero, suc, ◌+◌, ◌-◌, ◌*◌, ◌^◌, ◌<◌, ◌≤◌, inl, inr, pos, List, [], ◌∷◌, ◌++◌, length, Bool, true, false, refl, sym, ap, ◌∙◌, arith, length-append}
+use Rattle.std.proofs.Common.{ℕ, zero, suc, ◌+◌, ◌-◌, ◌*◌, ◌^◌, ◌<◌, ◌≤◌, pos, List, [], ◌∷◌, length, Bool, true, false, ap, arith, length-append}
 use Rattle.std.specs.Prelude.{ℤ}
 use Rattle.leb_binary.specs.Leb.{IsUnsigned, IsSigned}
 use Rattle.leb_binary.specs.Shortest.{unsigned_bytes, signed_bytes}
