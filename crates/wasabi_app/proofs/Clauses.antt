@@ -2,7 +2,7 @@
 use Rattle.std.proofs.Common.{◌≡◌, ◌≢◌, ℕ, ◌⊎◌, inl, inr, List, refl, arith}
 use Rattle.outside_io.specs.Outside.{Rose, Unchanged, Wrote, WrotePart}
 use Rattle.wasabi_app.specs.Words.{Line, IsLine}
-use Rattle.wasabi_app.specs.Ends.{Status, done, bad_words, unread, read_failed as reads_failed, write_failed, no_memory, other_form as of_other_form, IsSubject, HasOutput, IsUnread, IsOtherForm, IsWritten, IsWrittenPart}
+use Rattle.wasabi_app.specs.Ends.{Status, done, unread, read_failed as reads_failed, write_failed, no_memory, other_form as of_other_form, IsSubject, HasOutput, IsUnread, IsOtherForm, IsWritten, IsWrittenPart}
 use Rattle.wasabi_app.specs.Stages.{Seen, Put, put_whole, put_failed, put_no_memory, Made, other_form, make_no_memory, made, Ended, missing, too_long, read_failed, read_no_memory, read}
 
 -- the statuses of each stage

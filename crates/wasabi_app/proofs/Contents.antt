@@ -1,5 +1,5 @@
 -- Contents that were not touched before a write, or where they are told.
-use Rattle.std.proofs.Common.{◌≡◌, ℕ, ◌<◌, List, length, refl, ap, ◌∙◌, sym, subst, inl, inr, Option, Some, None}
+use Rattle.std.proofs.Common.{◌≡◌, ℕ, List, refl, ◌∙◌, subst, inl, inr, Option, Some, None}
 use Rattle.outside_io.specs.Outside.{Contents, Unchanged, Wrote, WrotePart, Holds, IsMissing, IsTooLong}
 use Rattle.wasabi_app.specs.Words.{Line}
 use Rattle.wasabi_app.specs.Stages.{Seen, Put, put_whole, put_failed, put_no_memory, Made, other_form, make_no_memory, made}

@@ -1,5 +1,5 @@
 -- Where contents are told, what stands under the subject's name decides the status.
-use Rattle.std.proofs.Common.{◌≡◌, ℕ, ◌<◌, ◌≤◌, ◌⊎◌, inl, inr, List, length, refl, ap, subst, arith, Option, Some, None}
+use Rattle.std.proofs.Common.{◌≡◌, ℕ, ◌<◌, ◌≤◌, ◌⊎◌, inl, inr, List, length, refl, ap, subst, arith, Some, None}
 use Rattle.outside_io.specs.Outside.{Contents}
 use Rattle.instrument.specs.Nops.{narrow_file}
 use Rattle.wasabi_app.specs.Words.{Line, IsLine}

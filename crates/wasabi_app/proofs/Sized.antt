@@ -1,5 +1,5 @@
 -- Contents behind their number of bytes, in its shortest spelling.
-use Rattle.std.proofs.Common.{◌≡◌, ◌≢◌, ℕ, ◌+◌, ◌/◌, ◌%◌, ◌^◌, ◌<◌, ◌≤◌, List, [], ◌∷◌, ◌++◌, length, take, drop, refl, sym, ap, ◌∙◌, subst, append_assoc, arith, length-append, Option, Some, None, MatchOption, Bor}
+use Rattle.std.proofs.Common.{◌≡◌, ◌≢◌, ℕ, ◌+◌, ◌/◌, ◌%◌, ◌^◌, ◌<◌, ◌≤◌, List, ◌∷◌, ◌++◌, length, refl, sym, ap, ◌∙◌, append_assoc, arith, length-append, Option, Some, None, MatchOption, Bor}
 use Rattle.std.proofs.lemmas.List.{take-append-drop, append_cancel_left}
 use Rattle.std.proofs.lemmas.Bool.{cases_lt}
 use Rattle.std.proofs.Common.{inl, inr}
@@ -116,5 +116,5 @@ pub content_short : (front bytes content rest : List ℕ) → length bytes ≤ n
     → (length content ≤ narrow_file) × (length rest ≤ narrow_file)
 content_short front bytes content rest h e =
     let l : length bytes ≡ length front + (length (unsigned_bytes (length content)) + length content + length rest) =
-        ap length e ∙ simp length-append in
+    ap length e ∙ simp length-append in
     (omega arith, omega arith)
