@@ -2,9 +2,8 @@
 #![tactic(auto)]
 
 use outside_io::{HostShelf, HostSink};
-use std::env;
-use std::io;
 use std::process::ExitCode;
+use std::{env, io};
 use wasabi_app::run_app;
 
 fn main(rt: HostRuntime) -> ExitCode {
