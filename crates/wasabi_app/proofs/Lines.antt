@@ -1,7 +1,6 @@
 -- When seven words are a line, and when they are of no command.
 use Rattle.std.proofs.Common.{◌≡◌, ℕ, ◌<◌, ◌≤◌, inl, inr, List, [], ◌∷◌, length, get_or, codes, arith, subst, String, string_bytes, Option, Some, None, MatchOption}
 use Rattle.std.specs.declared.alloc.Global.{Global}
-use Rattle.hook_select.specs.declared.Hooks.{Hooks}
 use Rattle.wasabi_app.specs.Words.{Line, IsLine, IsList, IsRefused, IsValue, texts}
 use Rattle.wasabi_app.specs.declared.words.Line.{Line as ReadLine}
 use Rattle.wasabi_app.specs.Reading.{IsLineBehind, IsNoList, IsNoOptions, IsOptions, IsRefusedBehind, line_of}

@@ -1,5 +1,5 @@
 -- The bytes of bodies of nops.
-use Rattle.std.proofs.Common.{◌≡◌, ◌≢◌, ℕ, zero, suc, ◌+◌, ◌-◌, ◌<◌, ◌≤◌, List, [], ◌∷◌, ◌++◌, length, take, drop, get_or, refl, sym, ap, ◌∙◌, arith, length-append}
+use Rattle.std.proofs.Common.{◌≡◌, ℕ, zero, suc, ◌-◌, ◌<◌, List, [], ◌∷◌, ◌++◌, length, take, drop, refl, ap, ◌∙◌, arith, length-append}
 use Rattle.std.specs.Prelude.{EachIndex, slice_index}
 use Rattle.module_ast.specs.Tree.{done}
 use Rattle.module_ast.specs.Canonical.{code_bytes}
@@ -19,6 +19,7 @@ nops_of_each (b ∷ bs) each =
     let rest = nops_of_each bs (λ k h. each (suc k) (omega arith)) in
     cc
 
+-- each byte of so many nops
 each_of_nops : (count k : ℕ) → k < count → slice_index (code_bytes (nops count done)) k ≡ 1
 each_of_nops zero k h = absurd (omega arith)
 each_of_nops (suc count) zero h = refl

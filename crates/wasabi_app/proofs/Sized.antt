@@ -1,5 +1,5 @@
 -- Contents behind their number of bytes, in its shortest spelling.
-use Rattle.std.proofs.Common.{◌≡◌, ◌≢◌, ℕ, ◌+◌, ◌/◌, ◌%◌, ◌^◌, ◌<◌, ◌≤◌, List, [], ◌∷◌, ◌++◌, length, take, drop, refl, sym, ap, ◌∙◌, subst, append_assoc, arith, length-append, Option, Some, None, MatchOption, Bor}
+use Rattle.std.proofs.Common.{◌≡◌, ◌≢◌, ℕ, ◌+◌, ◌/◌, ◌%◌, ◌^◌, ◌<◌, ◌≤◌, List, ◌∷◌, ◌++◌, length, refl, sym, ap, ◌∙◌, append_assoc, arith, length-append, Option, Some, None, MatchOption, Bor}
 use Rattle.std.proofs.lemmas.List.{take-append-drop, append_cancel_left}
 use Rattle.std.proofs.lemmas.Bool.{cases_lt}
 use Rattle.std.proofs.Common.{inl, inr}
@@ -42,6 +42,7 @@ pub sized_number : (bytes rest content : List ℕ) → IsFront IsSized bytes res
 sized_number bytes rest content (front, e, (l, s)) =
     e ∙ ap (λ k. k ++ rest) s ∙ append_assoc (unsigned_bytes (length content)) content rest
 
+-- that number, in the grammar of numbers
 pub sized_front : (bytes rest content : List ℕ) → IsFront IsSized bytes rest content → IsFront (IsUnsigned 32) bytes (content ++ rest) (length content)
 sized_front bytes rest content f =
     (unsigned_bytes (length content), sized_number bytes rest content f, spelled_unsigned 32 (length content) (omega arith) f.2.0)
@@ -79,6 +80,7 @@ sized_one a b x y m n p q e =
     let both = cut m n x y same.1 same.0 in
     record { front = p.1 ∙ ap sized_bytes both.0 ∙ sym q.1; rest = both.1; value = both.0 }
 
+-- the same, as one fact
 pub one_sized : OneFront IsSized
 one_sized = record { one = sized_one }
 
@@ -87,6 +89,7 @@ sized_short : (bytes content rest : List ℕ) → length bytes ≤ narrow_file �
 sized_short bytes content rest h e =
     omega (arith, h, ap length e ∙ length-append (sized_bytes content) rest, length-append (unsigned_bytes (length content)) content)
 
+-- a content behind its number stands at the front
 sized_at : (bytes content rest : List ℕ) → length bytes ≤ narrow_file → bytes ≡ sized_bytes content ++ rest → IsFront IsSized bytes rest content
 sized_at bytes content rest h e = (sized_bytes content, e, (sized_short bytes content rest h e, refl))
 
@@ -116,5 +119,5 @@ pub content_short : (front bytes content rest : List ℕ) → length bytes ≤ n
     → (length content ≤ narrow_file) × (length rest ≤ narrow_file)
 content_short front bytes content rest h e =
     let l : length bytes ≡ length front + (length (unsigned_bytes (length content)) + length content + length rest) =
-        ap length e ∙ simp length-append in
+    ap length e ∙ simp length-append in
     (omega arith, omega arith)

@@ -6,3 +6,6 @@ mod nop_file;
 mod words;
 
 pub use app::run_app;
+
+#[cfg(test)]
+mod tests;

@@ -145,8 +145,5 @@ pub(crate) fn read_nop_file(bytes: &[u8]) -> Option<NopFile<'_>>
     let (exports, code) = read_sections(bytes)?;
     let name = read_exports(exports)?;
     let count = read_code(code)?;
-    Some(NopFile {
-        name,
-        count,
-    })
+    Some(NopFile { name, count })
 }

@@ -50,7 +50,12 @@ fn read_hooks(list: &str) -> Option<Hooks>
 }
 
 // The target and the list, from the two options with their values; none where these are not `--out` and `--hooks`.
-fn read_options<'w>(first: &str, one: &'w str, second: &str, two: &'w str) -> Option<(&'w str, &'w str)>
+fn read_options<'w>(
+    first: &str,
+    one: &'w str,
+    second: &str,
+    two: &'w str,
+) -> Option<(&'w str, &'w str)>
     ensures { MatchOption result (IsNoOptions first.now one.now second.now two.now)
         (λ p. IsOptions first.now one.now second.now two.now p.0.now p.1.now) }
 {
@@ -64,7 +69,14 @@ fn read_options<'w>(first: &str, one: &'w str, second: &str, two: &'w str) -> Op
 }
 
 // The line of the words behind the program's name; none where no command has them.
-fn line_of_texts<'w>(mode: &str, subject: &'w str, first: &str, one: &'w str, second: &str, two: &'w str) -> Option<Line<'w>>
+fn line_of_texts<'w>(
+    mode: &str,
+    subject: &'w str,
+    first: &str,
+    one: &'w str,
+    second: &str,
+    two: &'w str,
+) -> Option<Line<'w>>
     ensures exact { MatchOption result
         (IsRefusedBehind (mode.now ∷ subject.now ∷ first.now ∷ one.now ∷ second.now ∷ two.now ∷ []))
         (λ line. IsLineBehind (mode.now ∷ subject.now ∷ first.now ∷ one.now ∷ second.now ∷ two.now ∷ []) (line_of line)) }

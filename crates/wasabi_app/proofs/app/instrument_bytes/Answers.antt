@@ -6,7 +6,7 @@ pub returns-in_default-clause-made : goal.returns-in_default-clause-made
 returns-in_default-clause-made g c = other_form c.in_default.ensures (unchanged_same _)
 
 pub returns-in-Ok-clause-made : goal.returns-in-Ok-clause-made
-returns-in-Ok-clause-made g c = 
+returns-in-Ok-clause-made g c =
     made c.in-Some.file.name.now c.in-Some.file.count c.in-Ok.output.items c.put.result c.in-Some.ensures
     (rw c.in-Some.ensures.1 c.in-Ok.ensures.instrumented)
     (rw c.as_slice.ensures.value at c.put.ensures.put)

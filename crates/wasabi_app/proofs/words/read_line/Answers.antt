@@ -1,6 +1,5 @@
 -- The seven words are known one by one.
-use Rattle.std.proofs.Common.{◌≡◌, ◌∷◌, [], List, string_bytes}
-use Rattle.wasabi_app.specs.Words.{texts}
+use Rattle.std.proofs.Common.{string_bytes}
 use Rattle.wasabi_app.proofs.Lines.{seven_texts, read_behind}
 use Rattle.wasabi_app.proofs.words.read_line.Goals as goal
 
