@@ -1,9 +1,12 @@
 // The command line program `wasabi`: the files of the machine, its standard output, and the words it was started with.
 #![tactic(auto)]
 
+ghost use Rattle.std.specs.Prelude.{◌≡◌, ◌≢◌};
+
 use outside_io::{HostShelf, HostSink};
+use std::env;
+use std::io::ErrorKind;
 use std::process::ExitCode;
-use std::{env, io};
 use wasabi_app::run_app;
 
 fn main(rt: HostRuntime) -> ExitCode {
@@ -21,10 +24,12 @@ fn main(rt: HostRuntime) -> ExitCode {
 }
 
 // The status where the words can't be read: 14 for want of memory, else 2.
-fn status_of(kind: io::ErrorKind) -> u8 {
-    if kind == io::ErrorKind::OutOfMemory {
-        14
-    } else {
-        2
+fn status_of(kind: ErrorKind) -> u8
+    ensures memory { kind ≡ ErrorKind.OutOfMemory → result ≡ 14 }
+    ensures other { kind ≢ ErrorKind.OutOfMemory → result ≡ 2 }
+{
+    match kind {
+        ErrorKind::OutOfMemory => 14,
+        _ => 2,
     }
 }
