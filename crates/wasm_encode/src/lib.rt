@@ -17,7 +17,10 @@ mod sections;
 mod tables;
 mod types;
 mod vectors;
+mod whole;
 
+use crate::whole::{module_length, spell_module};
+use module_ast::module::Module;
 use std::alloc::{AllocError, AllocFailed, Global};
 
 /// Why a module has no bytes.
@@ -43,4 +46,26 @@ impl<T: Drop> From<AllocFailed<T>> for EncodeFault {
     fn from(_e: AllocFailed<T>) -> EncodeFault {
         EncodeFault::NoMemory
     }
+}
+
+/// The canonical bytes of a module (5): every number in its shortest spelling, no section without entries, no custom one.
+///
+/// `max` is how many bytes there may be. Where there are more, the answer is `TooLarge` with their number, and nothing
+/// is allocated; so `NoMemory` comes only where they are few enough.
+pub fn encode(alloc: Global, m: &Module, max: u64) -> Result<Vec<u8>, EncodeFault>
+    requires most { max ≤ 268435456 }
+    requires bodies { length m.now.funcs ≡ length m.now.bodies }
+    requires locals { All (λ (b : Body). locals_of b.groups < 2 ^ 32) m.now.bodies }
+    requires nesting { AreWithin 1002 (counts_of m.now Nesting) }
+    requires room { length (module_bytes m.now) < 2 ^ 63 }
+    ensures ok { IfOk result (λ bytes. bytes.items ≡ module_bytes m.now) }
+    ensures few { IfOk result (λ bytes. length bytes.items ≤ max) }
+    ensures large { (n : ℕ) → IsErrOf result (TooLarge n) → (n ≡ length (module_bytes m.now)) × (max < n) }
+    ensures memory { IsErrOf result NoMemory → length (module_bytes m.now) ≤ max }
+{
+    let length = module_length(m);
+    if length > max {
+        return Err(EncodeFault::TooLarge { length });
+    }
+    Ok(spell_module(alloc, m, length)?)
 }
