@@ -1,4 +1,4 @@
-// The canonical bytes of modules (5).
+// The canonical bytes of modules (5). They are counted first, and then written.
 #![tactic(auto)]
 
 ghost use Rattle.std.specs.Prelude.{◌≡◌, ◌<◌, ◌≤◌, ◌^◌, ℕ, length, All, IfOk, IsErrOf};
@@ -15,6 +15,8 @@ mod numbers;
 mod opcodes;
 mod sections;
 mod tables;
+#[cfg(test)]
+mod tests;
 mod types;
 mod vectors;
 mod whole;

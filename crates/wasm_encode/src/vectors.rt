@@ -8,7 +8,7 @@ use crate::numbers::{put_size, unsigned_length};
 use leb_binary::put_u32;
 use std::alloc::AllocError;
 
-/// What has one canonical spelling.
+/// What has one canonical spelling. Its length is known before anything is written.
 pub trait Encode {
     ghost bytes: { Self → List ℕ };
 
@@ -17,7 +17,7 @@ pub trait Encode {
         requires { length (bytes self.now) < 2 ^ 63 }
         ensures { result ≡ length (bytes self.now) };
 
-    /// Adds the spelling.
+    /// Adds the spelling. An error is that of the allocator.
     fn put(&self, out: &mut Vec<u8>) -> Result<(), AllocError>
         ensures { OnOk result (out.new.items ≡ out.old.items ++ bytes self.now) };
 }

@@ -28,7 +28,7 @@ pub fn module_length(m: &Module) -> u64
         + section_length(11, m.segments.as_slice())
 }
 
-/// The canonical bytes of the module, of which there are `capacity`.
+/// The canonical bytes of the module, with room for `capacity` bytes from the start.
 pub fn spell_module(alloc: Global, m: &Module, capacity: u64) -> Result<Vec<u8>, AllocError>
     requires { length (module_bytes m.now) < 2 ^ 63 }
     ensures { IfOk result (λ bytes. bytes.items ≡ module_bytes m.now) }
