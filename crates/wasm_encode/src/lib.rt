@@ -23,7 +23,7 @@ mod whole;
 
 use crate::whole::{module_length, spell_module};
 use module_ast::module::Module;
-use std::alloc::{AllocError, AllocFailed, Global};
+use std::alloc::{AllocError, Global};
 
 /// Why a module has no bytes.
 #[derive(Clone, Copy, Debug, PartialEq, Eq)]
@@ -38,14 +38,6 @@ impl From<AllocError> for EncodeFault {
     ghost from_gives = { λ _ e. e ≡ NoMemory };
 
     fn from(_e: AllocError) -> EncodeFault {
-        EncodeFault::NoMemory
-    }
-}
-
-impl<T: Drop> From<AllocFailed<T>> for EncodeFault {
-    ghost from_gives = { λ _ e. e ≡ NoMemory };
-
-    fn from(_e: AllocFailed<T>) -> EncodeFault {
         EncodeFault::NoMemory
     }
 }
