@@ -18,3 +18,4 @@ pub mod Limits
 pub mod LiveMarks
 pub mod Decoding
 pub mod Memory
+pub mod Tokens
