@@ -1,9 +1,4 @@
-pub mod Bridges
 pub mod Classes
-pub mod Items
-pub mod Known
+pub mod Faults
 pub mod Operands
-pub mod Rest
-pub mod Stand
 pub mod TypeBytes
-pub mod Unique

@@ -1,6 +1,6 @@
 // Bodies and constant expressions.
 #![tactic(auto)]
 
-pub mod scan;
+pub mod class;
+pub mod fault;
 pub mod token;
-pub mod types;
