@@ -2,5 +2,6 @@
 #![tactic(auto)]
 
 pub mod class;
+pub mod expr;
 pub mod fault;
 pub mod token;
