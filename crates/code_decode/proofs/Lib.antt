@@ -1,3 +1,4 @@
+pub mod Bodies
 pub mod Bridges
 pub mod Built
 pub mod Classes

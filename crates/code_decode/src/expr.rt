@@ -12,12 +12,6 @@ use leb_binary::Cursor;
 use module_ast::code::{Code, Instr};
 use std::alloc::Global;
 
-/// The greatest nesting of a tree: what drops or walks it recurses on its nesting.
-pub const MAX_NESTING: u32 = 1_002;
-
-/// The greatest number of bytes of a file.
-pub const MAX_BYTES: usize = 268_435_456;
-
 /// An expression that was read: its tree, or that it has a floating node, or its nesting where that is above the bound.
 #[derive(Debug, Drop)]
 pub enum Expr {
@@ -44,10 +38,11 @@ fn close(kind: Kind, code: Code) -> Instr
     }
 }
 
-/// Takes the expression at the front (5.4.6).
+/// Takes the expression at the front (5.4.6), of at most 268,435,456 bytes. The bound is at most 1,002, the nesting that
+/// what drops or walks a tree stands.
 ///
-/// It goes over the tokens once, with a stack of its own, and recurses nowhere. A sequence below the bound is dropped, so
-/// no tree is ever deeper than that. `Malformed` comes before a floating node, and that before the nesting.
+/// It goes over the tokens once, with a stack of its own, and recurses nowhere. What is nested deeper than the bound is
+/// dropped as it closes, so no tree is ever deeper. `Malformed` comes before a floating node, and that before the nesting.
 pub fn read_expr(alloc: Global, cursor: &mut Cursor, bound: u32) -> Result<Expr, Fault>
     requires bytes { length cursor.now.left ≤ 268435456 }
     requires bound { bound ≤ 1002 }
