@@ -5,6 +5,7 @@ pub mod body;
 pub mod class;
 pub mod expr;
 pub mod fault;
+pub mod laws;
 pub mod locals;
 pub mod token;
 pub mod types;

@@ -57,11 +57,23 @@ fn short_bodies(rt: HostRuntime) {
     }
 }
 
+// The nesting that is found to be too great, or 0.
+fn found_nesting(alloc: Global, bytes: &[u8]) -> u32 {
+    if bytes.len() > 1_000_000 {
+        return 0;
+    }
+    match decode_body(alloc, bytes, 1_002) {
+        Err(BodyFault::Nesting { found }) => found,
+        _ => 0,
+    }
+}
+
 // So many blocks, one in another: 1,002 are a body, and 1,003 are found to be too many.
 #[test]
-fn deep_bodies(rt: HostRuntime) {
+fn deep_bodies(rt: HostRuntime) -> Result<(), Fail> {
     for depth in [1_002_u32, 1_003, 10_000] {
-        let mut bytes = vec![in rt.alloc(); 0x00_u8]?;
+        let mut bytes = Vec::new(rt.alloc());
+        bytes.push(0x00)?;
         for _ in 0..depth {
             bytes.push(0x02)?;
             bytes.push(0x40)?;
@@ -71,10 +83,7 @@ fn deep_bodies(rt: HostRuntime) {
         }
         bytes.push(0x0B)?;
         let want = if depth > 1_002 { depth } else { 0 };
-        let found = match decode_body(rt.alloc(), &bytes, 1_002) {
-            Err(BodyFault::Nesting { found }) => found,
-            _ => 0,
-        };
-        assert_eq!(rt; found, want);
+        assert_eq!(rt; found_nesting(rt.alloc(), &bytes), want);
     }
+    Ok(())
 }

@@ -19,3 +19,4 @@ pub mod LiveMarks
 pub mod Decoding
 pub mod Memory
 pub mod Tokens
+pub mod Laws
