@@ -19,13 +19,16 @@ use Rattle.code_decode.specs.declared.expr.Expr.TheVariants.{Built, Floats, Deep
 use Rattle.code_decode.proofs.Items.{one_group}
 use Rattle.code_decode.proofs.Unique.{one_expr}
 
+-- one group more
 pub local_count_push : (gs : List Group) (g : Group) → local_count (gs ++ g ∷ []) ≡ local_count gs + g.count
 local_count_push [] g = omega arith
 local_count_push (k ∷ ks) g = omega (arith, local_count_push ks g)
 
+-- bytes have one vector of groups at their front
 one_groups : OneFront (IsVec IsGroup)
 one_groups = one_vec IsGroup one_group
 
+-- and one list of locals
 one_locals : OneFront AreLocals
 one_locals = record { one = λ a b x y m n p q e. one_groups.one a b x y m n p.1 q.1 e }
 
@@ -45,6 +48,7 @@ locals_many bytes rest gs f l after ks (front, e, k) =
 body_parts : (bytes : List ℕ) (b : Body) → IsBody bytes b → (mid : List ℕ) × IsFront AreLocals bytes mid b.groups × IsFront IsExpr mid [] b.code
 body_parts bytes b (l, (f, r, e, v, x)) = (r, (f, e, (l, v)), (r, sym (append-nil r), x))
 
+-- where there are no locals, or no expression, or more bytes, there is no body
 pub no_locals : (bytes : List ℕ) → HasNoFront AreLocals bytes → IsNoBody bytes
 no_locals bytes h b p = let r = body_parts bytes b p in h r.0 b.groups r.1
 
@@ -61,9 +65,11 @@ no_end bytes mid left gs t f g h b p =
     let x = front_one IsExpr one_expr mid left [] t b.code g (subst (λ m. IsFront IsExpr m [] b.code) (sym o.0) r.2) in
     h x.0
 
+-- a body of the grammar
 abbrev body_by : List Group → Tree → Body
 body_by gs t = record { groups = gs; code = t }
 
+-- a body
 pub body_some : (bytes mid left : List ℕ) (gs : List Group) (t : Tree) → IsFront AreLocals bytes mid gs → IsFront IsExpr mid left t → left ≡ [] → IsBody bytes (body_by gs t)
 body_some bytes mid left gs t (f, e, (l, v)) (g, d, x) h =
     (l, (f, g, e ∙ ap (λ m. f ++ m) (d ∙ ap (λ r. g ++ r) h ∙ append-nil g), v, x))
@@ -74,6 +80,7 @@ answer_tree bound (Built c) bytes rest h = (code c, h.0)
 answer_tree bound Floats bytes rest h = (h.0, h.1)
 answer_tree bound (Deep found) bytes rest h = (code h.0, h.1)
 
+-- one of two
 pub either_first : (a b : Bool) → a ≡ true → (a || b) ≡ true
 either_first true b h = refl
 either_first false b h = cc

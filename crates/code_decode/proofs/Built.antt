@@ -102,6 +102,7 @@ instrs_push is i a b h k =
     subst (IsCode (a ++ b)) (sym (ap code (onto_push is i done) ∙ instrs_join is (before i done)))
     (join_code (code (code_of is)) (code (before i done)) a b h k)
 
+-- the bytes of a plain instruction
 plain_code : (p : Plain) (i : Instr) (b : List ℕ) → i ≡ instr_of p → IsPlain b p → IsCode b (code (before i done))
 plain_code p i b e h = subst (λ t. IsCode b (code t)) (sym (ap (λ j. before j done) e ∙ before_plain p done)) (b, [], sym (append-nil b), h, refl)
 
@@ -112,6 +113,7 @@ Begun b (kinds.Loop ty) = (t : List ℕ) × (b ≡ 0x03 ∷ t) × IsBlockType t 
 Begun b (kinds.Then ty) = (t : List ℕ) × (b ≡ 0x04 ∷ t) × IsBlockType t (block_type ty)
 Begun b (kinds.Else ty c) = (t x : List ℕ) × (b ≡ 0x04 ∷ (t ++ (x ++ 0x05 ∷ []))) × IsBlockType t (block_type ty) × IsCode x (code c)
 
+-- a token that opens a sequence begins it
 begun : (k : Kind) (t : Token) (b : List ℕ) → IsKind k t → IsToken b t → Begun b k
 begun (kinds.Block ty) t b e h = subst (IsToken b) e h
 begun (kinds.Loop ty) t b e h = subst (IsToken b) e h
@@ -134,6 +136,7 @@ Opened : List Frame → List ℕ → Type 0
 Opened [] b = b ≡ []
 Opened (f ∷ fs) b = (x y z : List ℕ) × (b ≡ x ++ (y ++ z)) × AreInstrs x f.before.items × Begun y f.kind × Opened fs z
 
+-- the innermost of them
 record Last (fs : List Frame) (f : Frame) (b : List ℕ) : Type 0 where
   outer : List ℕ
   front : List ℕ
@@ -143,14 +146,22 @@ record Last (fs : List Frame) (f : Frame) (b : List ℕ) : Type 0 where
   is_front : AreInstrs front f.before.items
   is_begin : Begun begin f.kind
 
+-- one more
 opened_push : (fs : List Frame) (f : Frame) (b : List ℕ) → Last fs f b → Opened (fs ++ f ∷ []) b
 unfolding Opened
 opened_push [] f b l = (l.front, l.begin, [], l.split ∙ ap (λ o. o ++ (l.front ++ l.begin)) l.is_outer ∙ ap (λ e. l.front ++ e) (sym (append-nil l.begin)), l.is_front, l.is_begin, refl)
 opened_push (g ∷ fs) f b l =
-    let (x, y, z, e, h, i, j) = l.is_outer in
-    (x, y, z ++ (l.front ++ l.begin), l.split ∙ ap (λ o. o ++ (l.front ++ l.begin)) e ∙ simp append_assoc, h, i,
-    opened_push fs f (z ++ (l.front ++ l.begin)) (record { outer = z; front = l.front; begin = l.begin; split = refl; is_outer = j; is_front = l.is_front; is_begin = l.is_begin }))
+    let (x, y, z, e, h, i, j) = l.is_outer in (
+      x,
+      y,
+      z ++ (l.front ++ l.begin),
+      l.split ∙ ap (λ o. o ++ (l.front ++ l.begin)) e ∙ simp append_assoc,
+      h,
+      i,
+      opened_push fs f (z ++ (l.front ++ l.begin)) (record { outer = z; front = l.front; begin = l.begin; split = refl; is_outer = j; is_front = l.is_front; is_begin = l.is_begin }),
+    )
 
+-- and one less
 opened_pop : (fs : List Frame) (f : Frame) (b : List ℕ) → Opened (fs ++ f ∷ []) b → Last fs f b
 unfolding Opened
 opened_pop [] f b (x, y, z, e, h, i, j) = record { outer = []; front = x; begin = y; split = e ∙ ap (λ l. x ++ (y ++ l)) j ∙ ap (λ l. x ++ l) (append-nil y); is_outer = refl; is_front = h; is_begin = i }
@@ -168,6 +179,7 @@ opened_pop (g ∷ fs) f b (x, y, z, e, h, i, j) =
 
 -- ---- what was read so far is what is open, and the instructions in it
 
+-- all bytes are what is open, the instructions in it, and what is left
 pub record Built (all : List ℕ) (fs : List Frame) (is : List Instr) (left : List ℕ) : Type 0 where
   outer : List ℕ
   inner : List ℕ
@@ -175,11 +187,13 @@ pub record Built (all : List ℕ) (fs : List Frame) (is : List Instr) (left : Li
   is_outer : Opened fs outer
   is_inner : AreInstrs inner is
 
+-- at the start
 pub built_nothing : (all : List ℕ) → Built all [] [] all
 unfolding Opened
 built_nothing all = record { outer = []; inner = []; split = refl; is_outer = refl; is_inner = refl }
 
 module _ (all left rest : List ℕ) (fs : List Frame) (is : List Instr) where
+  -- a plain instruction
   pub built_plain : (p : Plain) (i : Instr) → i ≡ instr_of p → IsFront IsToken left rest (plain_t p) → Built all fs is left → Built all fs (is ++ i ∷ []) rest
   built_plain p i e (t, q, h) b = record {
     outer = b.outer;
@@ -189,6 +203,7 @@ module _ (all left rest : List ℕ) (fs : List Frame) (is : List Instr) where
     is_inner = instrs_push is i b.inner t b.is_inner (plain_code p i t e h);
   }
 
+  -- a sequence opens
   pub built_open : (k : Kind) (t : Token) (f : Frame) → f.before.items ≡ is → f.kind ≡ k → IsKind k t → IsFront IsToken left rest t → Built all fs is left → Built all (fs ++ f ∷ []) [] rest
   built_open k t f e d h (front, q, i) b = record {
     outer = b.outer ++ (b.inner ++ front);
@@ -206,6 +221,7 @@ module _ (all left rest : List ℕ) (fs : List Frame) (is : List Instr) where
     is_inner = refl;
   }
 
+  -- `end` closes one
   pub built_end : (f : Frame) (i : Instr) → i ≡ closed f.kind (code_of is) → IsFront IsToken left rest end_t → Built all (fs ++ f ∷ []) is left → Built all fs (f.before.items ++ i ∷ []) rest
   built_end f i e (t, q, h) b =
       let l = opened_pop fs f b.outer b.is_outer in

@@ -26,6 +26,7 @@ use Rattle.code_decode.proofs.Built.{Built, built_nothing, built_plain, built_op
 use Rattle.code_decode.proofs.Known.{Known, Reads, start, nothing_fails, plain_at, float_at, opens_at, end_at, else_at, else_fails_at, top_else_at, top_found_at}
 use Rattle.code_decode.proofs.Unique.{one_expr}
 
+-- the open sequences
 abbrev opens : List Frame → List Open
 opens fs = map (λ (f : Frame). open_of f.kind) fs
 
@@ -46,16 +47,19 @@ pub or_false : (a b : Bool) → a ≡ false → b ≡ (a || b)
 or_false false b h = refl
 or_false true b h = cc
 
+-- what is known: the tree exists exactly where the rest completes it, and what was built is what was read
 pub record State (bound : ℕ) (all : List ℕ) (fs : List Frame) (is : List Instr) (floats : Bool) (nesting : ℕ) (left : List ℕ) : Type 0 where
   known : Known all (opens fs) floats nesting left
   built : floats ≡ false → nesting ≤ bound → Built all fs is left
   room : length fs + length left ≤ length all
   pub deep : nesting ≤ length all
 
+-- at the start
 pub state_start : (bound : ℕ) (all : List ℕ) → State bound all [] [] false 0 all
 state_start bound all = record { known = start all; built = λ e l. built_nothing all; room = omega arith; deep = omega arith }
 
 module _ (bound : ℕ) (all left rest : List ℕ) (fs : List Frame) (is : List Instr) (floats : Bool) (nesting : ℕ) where
+  -- a plain instruction
   pub on_plain : (i : Instr) → Reads left rest (reads.Plain i) → State bound all fs is floats nesting left → State bound all fs (is ++ i ∷ []) floats nesting rest
   on_plain i (t, q, (p, e, h)) s =
       let l = token_shorter left rest t q in
@@ -66,6 +70,7 @@ module _ (bound : ℕ) (all left rest : List ℕ) (fs : List Frame) (is : List I
         deep = s.deep;
       }
 
+  -- a floating one
   pub on_float : Reads left rest reads.Float → State bound all fs is floats nesting left → State bound all fs is true nesting rest
   on_float (t, q, e) s =
       let l = token_shorter left rest t q in
@@ -76,6 +81,7 @@ module _ (bound : ℕ) (all left rest : List ℕ) (fs : List Frame) (is : List I
         deep = s.deep;
       }
 
+  -- a sequence opens
   pub on_opens : (kind : Kind) (floating after : Bool) (f : Frame) → after ≡ (floats || floating) → f.before.items ≡ is → f.kind ≡ kind → Reads left rest (reads.Opens kind floating) → State bound all fs is floats nesting left → State bound all (fs ++ f ∷ []) [] after nesting rest
   on_opens kind floating after f a e d (t, q, (ty, i, g, h)) s =
       let l = token_shorter left rest t q in
@@ -94,6 +100,7 @@ module _ (bound : ℕ) (all left rest : List ℕ) (fs : List Frame) (is : List I
     depth_is : depth ≡ suc (length (opens fs))
     depth_is = d ∙ ap suc (sym (opens_length fs))
 
+    -- `else` closes the first part of an `if`
     pub on_else : (ty : BlockType) (g : Frame) → f.kind ≡ kinds.Then ty → g.before.items ≡ f.before.items → g.kind ≡ kinds.Else ty (code_of is) → Reads left rest reads.Else → State bound all stack is floats nesting left → State bound all (fs ++ g ∷ []) [] floats (max nesting depth) rest
     on_else ty g h i j (t, q, k) s =
         let l = token_shorter left rest t q in
@@ -105,6 +112,7 @@ module _ (bound : ℕ) (all left rest : List ℕ) (fs : List Frame) (is : List I
           deep = omega (arith, s.room, s.deep, ap length e, length-append fs (f ∷ []));
         }
 
+    -- `end` closes a sequence
     pub on_end : (i : Instr) → i ≡ closed f.kind (code_of is) → Reads left rest reads.End → State bound all stack is floats nesting left → State bound all fs (f.before.items ++ i ∷ []) floats (max nesting depth) rest
     on_end i h (t, q, k) s =
         let l = token_shorter left rest t q in
@@ -136,9 +144,11 @@ module _ (bound : ℕ) (all left rest : List ℕ) (fs : List Frame) (is : List I
         not_then (kinds.Loop ty) h e = cc
         not_then (kinds.Else ty c) h e = cc
 
+  -- no token
   pub nothing_stops : HasNoFront IsToken left → State bound all fs is floats nesting left → HasNoFront IsExpr all
   nothing_stops h s = nothing_fails all left (opens fs) floats nesting h s.known
 
+  -- an `else` in no sequence
   pub top_else_stops : fs ≡ [] → Reads left rest reads.Else → State bound all fs is floats nesting left → HasNoFront IsExpr all
   top_else_stops h r s = top_else_at all left rest (opens fs) floats nesting (ap opens h) r s.known
 

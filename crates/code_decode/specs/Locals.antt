@@ -11,6 +11,7 @@ use Rattle.code_decode.specs.declared.body.BodyFault.TheVariants.{Malformed, NoM
 abbrev pub AreLocals : List ℕ → List Group → Type 0
 AreLocals bytes gs = (local_count gs < 2 ^ 32) × IsVec IsGroup bytes gs
 
+-- whether its type is floating
 abbrev pub group_floats : Group → Bool
 group_floats g = is_floating g.ty
 

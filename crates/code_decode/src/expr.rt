@@ -59,7 +59,10 @@ pub fn read_expr(alloc: Global, cursor: &mut Cursor, bound: u32) -> Result<Expr,
             Read::Plain(instr) => items.push(instr)?,
             Read::Float => floats = true,
             Read::Opens(kind, floating) => {
-                stack.push(Frame { before: items, kind })?;
+                stack.push(Frame {
+                    before: items,
+                    kind,
+                })?;
                 items = Vec::new(alloc);
                 floats = floats || floating;
             }
@@ -84,7 +87,9 @@ pub fn read_expr(alloc: Global, cursor: &mut Cursor, bound: u32) -> Result<Expr,
                         return Ok(Expr::Floats);
                     }
                     if nesting > bound as usize {
-                        return Ok(Expr::Deep { found: nesting as u32 });
+                        return Ok(Expr::Deep {
+                            found: nesting as u32,
+                        });
                     }
                     return Ok(Expr::Built(Code::from_vec(items)));
                 };

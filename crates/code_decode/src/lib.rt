@@ -7,7 +7,7 @@ pub mod expr;
 pub mod fault;
 pub mod laws;
 pub mod locals;
-pub mod token;
-pub mod types;
 #[cfg(test)]
 mod tests;
+pub mod token;
+pub mod types;

@@ -119,4 +119,3 @@ returns-in_default c = nothing_37 _ (omega arith) (omega arith)
 
 pub returns-in_default-2 : goal.returns-in_default-2
 returns-in_default-2 c = large _ (omega arith)
-

@@ -69,7 +69,7 @@ returns-in_default c =
     elim (cases_lt c.args.opcode 11) [
       | inl l ↦ nothing_6 _ (omega arith) l
       | inr l ↦ elim (cases_lt c.args.opcode 26) [
-          | inl m ↦ nothing_18 _ (omega arith) m
-          | inr m ↦ nothing_28 _ (omega arith) (omega arith)
-        ]
+        | inl m ↦ nothing_18 _ (omega arith) m
+        | inr m ↦ nothing_28 _ (omega arith) (omega arith)
+      ]
     ]

@@ -18,4 +18,3 @@ returns-in-125-clause-ok c = let f = c.in-Ok.ensures.ok.1 in (value f32, (f.0, f
 
 pub returns-in-124-clause-ok : goal.returns-in-124-clause-ok
 returns-in-124-clause-ok c = let f = c.in-Ok.ensures.ok.1 in (value f64, (f.0, f.1, f.2.0 ∙ ap (λ (b : ℕ). b ∷ []) c.in-124.is), refl, λ e. cc)
-
