@@ -19,3 +19,5 @@ pub mod LiveMarks
 pub mod Decoding
 pub mod Memory
 pub mod Fits
+pub mod Tokens
+pub mod Laws
