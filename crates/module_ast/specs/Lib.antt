@@ -21,3 +21,4 @@ pub mod Memory
 pub mod Fits
 pub mod Tokens
 pub mod Laws
+pub mod Shortest
