@@ -1,0 +1,17 @@
+pub mod BodyParts
+pub mod Bytes
+pub mod Clean
+pub mod Continues
+pub mod Errors
+pub mod Exceeding
+pub mod Flat
+pub mod Fronts
+pub mod Headers
+pub mod ItemFronts
+pub mod Ops
+pub mod SectionKinds
+pub mod Sectioned
+pub mod Settling
+pub mod Slices
+pub mod Standing
+pub mod TypeFronts
