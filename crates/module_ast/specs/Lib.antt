@@ -19,3 +19,4 @@ pub mod LiveMarks
 pub mod Decoding
 pub mod Memory
 pub mod Fits
+pub mod Laws
