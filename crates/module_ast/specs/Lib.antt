@@ -22,3 +22,4 @@ pub mod Fits
 pub mod Tokens
 pub mod Laws
 pub mod Shortest
+pub mod Laws
