@@ -22,4 +22,3 @@ pub mod Fits
 pub mod Tokens
 pub mod Laws
 pub mod Shortest
-pub mod Laws

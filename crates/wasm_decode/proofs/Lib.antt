@@ -15,3 +15,4 @@ pub mod Settling
 pub mod Slices
 pub mod Standing
 pub mod TypeFronts
+pub mod DecodedAgain

@@ -7,3 +7,4 @@ pub mod Kinds
 pub mod Makes
 pub mod Parts
 pub mod Settled
+pub mod Laws

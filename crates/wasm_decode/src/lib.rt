@@ -13,6 +13,7 @@ pub mod codes;
 pub mod draft;
 pub mod fault;
 pub mod files;
+pub mod laws;
 pub mod limits;
 pub mod names;
 pub mod part;
