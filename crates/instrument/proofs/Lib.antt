@@ -1,5 +1,17 @@
 pub mod Reports
 pub mod Whole
 pub mod NopOutput
+pub mod NopParts
 pub mod NopValid
 pub mod NopShell
+pub mod NopWritten
+pub mod Sim
+pub mod SimFollow
+pub mod NopSteps
+pub mod NopLinks
+pub mod NopRuns
+pub mod NopMatch
+pub mod NopQuiet
+pub mod NopCount
+pub mod NopSame
+pub mod NopAccepted

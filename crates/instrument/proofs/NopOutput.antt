@@ -60,7 +60,7 @@ nops_end zero = refl
 nops_end (suc n) = nops_end n
 
 -- the function of the module
-abbrev nop_site : (name : List ℕ) (count : ℕ) → Site
+abbrev pub nop_site : (name : List ℕ) (count : ℕ) → Site
 nop_site name count = site_of (nop_module name count) 0 0 (record { groups = []; code = nops count done })
 
 -- the keys of nop stay where nop is selected
@@ -109,12 +109,12 @@ temps_of_nops hooks s scopes p zero more = refl
 temps_of_nops hooks s scopes p (suc n) more = temps_of_nops hooks s scopes (p + 1) n more
 
 -- nor does the end of the function, where its results are not told
-temps_hooked : (name : List ℕ) (n : ℕ) → body_temps nop_group (nop_site name n) ≡ []
+pub temps_hooked : (name : List ℕ) (n : ℕ) → body_temps nop_group (nop_site name n) ≡ []
 temps_hooked name n =
     temps_of_nops nop_group (nop_site name n) (function_scope (nops n done) ∷ []) 0 n (at (code_size (nops n done)) (ends_live true (nops n done)) (closes (function_scope (nops n done))) [] ∷ [])
     ∙ ap (λ live. flat_map (place_temps nop_group (nop_site name n)) (at (code_size (nops n done)) live (closes (function_scope (nops n done))) [] ∷ [])) (nops_end n)
 
-temps_none : (name : List ℕ) (n : ℕ) → body_temps no_groups (nop_site name n) ≡ []
+pub temps_none : (name : List ℕ) (n : ℕ) → body_temps no_groups (nop_site name n) ≡ []
 temps_none name n =
     temps_of_nops no_groups (nop_site name n) (function_scope (nops n done) ∷ []) 0 n (at (code_size (nops n done)) (ends_live true (nops n done)) (closes (function_scope (nops n done))) [] ∷ [])
     ∙ ap (λ live. flat_map (place_temps no_groups (nop_site name n)) (at (code_size (nops n done)) live (closes (function_scope (nops n done))) [] ∷ [])) (nops_end n)

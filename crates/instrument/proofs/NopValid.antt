@@ -111,7 +111,7 @@ hooked_valid name count = record {
 }
 
 -- no blocks
-nops_flat : (n : ℕ) → code_nesting (nops n done) ≡ 0
+pub nops_flat : (n : ℕ) → code_nesting (nops n done) ≡ 0
 nops_flat zero = refl
 nops_flat (suc n) = nops_flat n
 

@@ -1,17 +1,13 @@
 -- The modules of one function of nops, which is exported, and the sets of groups that they are told with.
-use Rattle.std.specs.Prelude.{◌≡◌, ℕ, zero, suc, ◌≤◌, ◌⊎◌, List, [], ◌∷◌, length, None, IsUtf8}
+use Rattle.std.specs.Prelude.{◌≡◌, ℕ, ◌≤◌, ◌⊎◌, List, [], ◌∷◌, length, None, IsUtf8}
 use Rattle.module_ast.specs.declared.module.ExportKind.TheVariants.{Func}
 use Rattle.module_ast.specs.declared.module.Module.{Module}
-use Rattle.module_ast.specs.Tree.{Tree, done, plain, nop}
+use Rattle.module_ast.specs.Tree.{done}
 use Rattle.module_ast.specs.Canonical.{module_bytes}
 use Rattle.hook_select.specs.declared.GroupName.TheVariants.{Nop}
+pub use Rattle.rewrite.specs.Nops.{nops}
 use Rattle.hook_select.specs.declared.Hooks.{Hooks}
 use Rattle.hook_select.specs.Groups.{hooks_of, is_among}
-
--- so many nops before a sequence
-abbrev pub nops : ℕ → Tree → Tree
-nops zero k = k
-nops (suc n) k = plain nop (nops n k)
 
 -- one function without parameters and results, exported under a name, whose body is so many nops
 abbrev pub nop_module : (name : List ℕ) → (count : ℕ) → Module

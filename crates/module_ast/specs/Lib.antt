@@ -20,3 +20,4 @@ pub mod Decoding
 pub mod Memory
 pub mod Tokens
 pub mod Laws
+pub mod Fits

@@ -115,6 +115,37 @@ pub struct Module {
     pub customs: Seq<Name>,
 }
 
+impl Module {
+    ghost use Rattle.std.specs.Prelude.{slice_get, MatchOption, None, Some};
+    ghost use Rattle.module_ast.specs.Spaces.{funcs_of};
+    ghost use Rattle.module_ast.specs.Validity.{func_type};
+
+    // The index of the type of a function, imports counted first.
+    fn type_index(&self, func: u32) -> Option<u32>
+        ensures { result ≡ slice_get (funcs_of self.now) func }
+    {
+        let mut left = func;
+        for import in self.imports.as_slice() {
+            if let Item::Func(ty) = import.item {
+                if left == 0 {
+                    return Some(ty);
+                }
+                left -= 1;
+            }
+        }
+        self.funcs.as_slice().get(left as usize).copied()
+    }
+
+    /// The type of a function by its index, imports counted first; none where there is no such function, or where its
+    /// type's index names no type. It goes over the imports. (Standard, 2.5.1)
+    pub fn func_type(&self, func: u32) -> Option<&FuncType>
+        ensures { MatchOption result (func_type self.now func ≡ None) (λ t. func_type self.now func ≡ Some t.now) }
+    {
+        let ty = self.type_index(func)?;
+        self.types.as_slice().get(ty as usize)
+    }
+}
+
 /// A place in the original module: a function, imports counted first, and a position, -1 for the entry.
 #[derive(Clone, Copy, Debug, PartialEq, Eq)]
 pub struct Loc {

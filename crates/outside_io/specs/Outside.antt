@@ -1,5 +1,5 @@
 -- What is outside: files by their names, and text that is printed.
-use Rattle.std.specs.Prelude.{◌≡◌, ◌≢◌, ℕ, ◌^◌, ◌-◌, ◌<◌, ◌≤◌, ◌⊎◌, List, ◌++◌, length, Option, Some, None}
+use Rattle.std.specs.Prelude.{◌≡◌, ◌≢◌, ℕ, ◌^◌, ◌-◌, ◌<◌, ◌⊎◌, List, ◌++◌, length, Option, Some, None}
 
 -- what stands under each name, where something does
 abbrev pub Contents : Type 0

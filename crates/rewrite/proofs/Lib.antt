@@ -1,1 +1,2 @@
 pub mod NopCode
+pub mod Lengths

@@ -1,7 +1,7 @@
 -- Rewritten nops, written out.
 use Rattle.std.proofs.Common.{◌≡◌, ℕ, zero, suc, ◌+◌, pos, List, [], ◌∷◌, ◌++◌, Bool, true, false, refl, sym, ap, ◌∙◌, subst, append_assoc, append-nil, arith, ◌-◌, ◌<◌, ◌≤◌}
-use Rattle.module_ast.specs.Tree.{Tree, done, plain, i32_const, call, nop, Plain}
-use Rattle.module_ast.specs.Positions.{Scope, function_scope}
+use Rattle.module_ast.specs.Tree.{Tree, done, i32_const, call, nop, Plain}
+use Rattle.module_ast.specs.Positions.{function_scope}
 use Rattle.module_ast.specs.Plains.{plains}
 use Rattle.module_ast.specs.Canonical.{plain_bytes, code_bytes, items_bytes}
 use Rattle.module_ast.specs.declared.module.Body.{Body}

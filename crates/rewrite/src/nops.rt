@@ -6,7 +6,7 @@ ghost use Rattle.module_ast.specs.Canonical.{plain_bytes, items_bytes, code_byte
 ghost use Rattle.hook_mono.specs.Needed.{Site};
 ghost use Rattle.rewrite.specs.Nops.{IsFirst, nop_template, nops_rewritten};
 
-use leb_binary::{put_s64, put_u32};
+use leb_binary::{put_s32, put_u32};
 use std::alloc::AllocError;
 
 // Adds an i32.const.
@@ -14,7 +14,7 @@ fn put_i32_const(out: &mut Vec<u8>, z: i32) -> Result<(), AllocError>
     ensures { OnOk result (out.new.items ≡ out.old.items ++ plain_bytes (i32_const z)) }
 {
     out.push(0x41)?;
-    put_s64(out, i64::from(z))
+    put_s32(out, z)
 }
 
 // Adds a call.

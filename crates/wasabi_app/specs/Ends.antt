@@ -1,6 +1,6 @@
 -- How a command ends, and what stands then.
-use Rattle.std.specs.Prelude.{◌≡◌, ◌≢◌, ℕ, ◌<◌, ◌≤◌, ◌⊎◌, List, length, Option, Some, None}
-use Rattle.outside_io.specs.Outside.{Contents, Rose, Unchanged, Wrote, WrotePart, Holds, IsMissing, IsTooLong}
+use Rattle.std.specs.Prelude.{◌≡◌, ℕ, ◌<◌, ◌≤◌, ◌⊎◌, List, length, Option, Some, None}
+use Rattle.outside_io.specs.Outside.{Contents, Wrote, WrotePart, Holds, IsMissing, IsTooLong}
 use Rattle.instrument.specs.Nops.{narrow_file}
 use Rattle.instrument.specs.Accepted.{IsInstrumented}
 use Rattle.wasabi_app.specs.Words.{Line, IsLine}

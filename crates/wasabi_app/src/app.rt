@@ -1,13 +1,22 @@
 // A command, from its words to its status.
 
-ghost use Rattle.std.specs.Prelude.{◌≡◌, ◌≢◌, ◌↔◌, ◌≤◌, ◌⊎◌};
+ghost use Rattle.std.specs.Prelude.{◌≡◌, ◌≢◌, ◌↔◌, ◌≤◌, ◌⊎◌, length};
 ghost use Rattle.outside_io.specs.Outside.{Rose, Unchanged};
+ghost use Rattle.instrument.specs.Nops.{IsNopChoice, narrow_file};
 ghost use Rattle.wasabi_app.specs.Words.{IsRefused, texts};
 ghost use Rattle.wasabi_app.specs.Ends.{Status, IsUnread, IsOtherForm, IsWritten, IsWrittenPart, DecidesMissing, DecidesTooLong, DecidesOtherForm, Completes};
+ghost use Rattle.wasabi_app.specs.Reading.{line_of};
+ghost use Rattle.wasabi_app.specs.Stages.{Put, Made, Ended, seen};
 
-use outside_io::{Shelf, Sink};
+use crate::nop_file::read_nop_file;
+use crate::words::{Line, read_line};
+use instrument::nops::write_nops;
+use outside_io::{ReadFault, Shelf, Sink, WriteFault};
 use std::alloc::Global;
 use std::thread::Threads;
+
+// How many bytes a subject may have.
+const LONGEST_SUBJECT: u64 = 16_777_216;
 
 /// Runs the command `wasabi instrument SUBJECT --out F --hooks LIST` and answers its status, the first that applies:
 /// 2 where the words are of no command, 3 where the subject is missing or longer than 16,777,216 bytes, 4 where it
@@ -47,5 +56,62 @@ pub fn run_app<R: Threads + Sync, S: Shelf, K: Sink>(
     ensures another_form { DecidesOtherForm (texts words.now) (S.contents shelf.old) result }
     ensures complete { Completes (texts words.now) (S.contents shelf.old) result }
 {
-    14
+    let _ = rt;
+    let _ = out;
+    let Some(line) = read_line(words) else {
+        return 2;
+    };
+    instrument(alloc, &line, shelf)
+}
+
+// Reads the subject and instruments it.
+fn instrument<S: Shelf>(alloc: Global, line: &Line<'_>, shelf: &mut S) -> u8
+    requires { IsNopChoice line.now.hooks }
+    ensures ended { Ended (line_of line.now)
+        (seen (S.contents shelf.old) (S.read_faults shelf.old) (S.write_faults shelf.old))
+        (seen (S.contents shelf.new) (S.read_faults shelf.new) (S.write_faults shelf.new)) result }
+    ensures read_count { S.read_faults shelf.old ≤ S.read_faults shelf.new }
+    ensures write_count { S.write_faults shelf.old ≤ S.write_faults shelf.new }
+{
+    match shelf.read(alloc, line.subject, LONGEST_SUBJECT) {
+        Ok(bytes) => instrument_bytes(alloc, line, bytes.as_slice(), shelf),
+        Err(ReadFault::Missing) => 3,
+        Err(ReadFault::TooLong { .. }) => 3,
+        Err(ReadFault::Failed) => 4,
+        Err(ReadFault::NoMemory) => 14,
+    }
+}
+
+// Instruments the subject's bytes and puts the output.
+fn instrument_bytes<S: Shelf>(alloc: Global, line: &Line<'_>, bytes: &[u8], shelf: &mut S) -> u8
+    requires choice { IsNopChoice line.now.hooks }
+    requires short { length bytes.now ≤ narrow_file }
+    ensures made { Made (line_of line.now) bytes.now
+        (seen (S.contents shelf.old) (S.read_faults shelf.old) (S.write_faults shelf.old))
+        (seen (S.contents shelf.new) (S.read_faults shelf.new) (S.write_faults shelf.new)) result }
+    ensures read_count { S.read_faults shelf.new ≡ S.read_faults shelf.old }
+    ensures write_count { S.write_faults shelf.old ≤ S.write_faults shelf.new }
+{
+    let Some(file) = read_nop_file(bytes) else {
+        return 17;
+    };
+    match write_nops(alloc, file.name, file.count, &line.hooks) {
+        Ok(output) => put(line.target, output.as_slice(), shelf),
+        Err(_) => 14,
+    }
+}
+
+// Puts the output under the target's name.
+fn put<S: Shelf>(target: &str, output: &[u8], shelf: &mut S) -> u8
+    ensures put { Put target.now output.now
+        (seen (S.contents shelf.old) (S.read_faults shelf.old) (S.write_faults shelf.old))
+        (seen (S.contents shelf.new) (S.read_faults shelf.new) (S.write_faults shelf.new)) result }
+    ensures read_count { S.read_faults shelf.new ≡ S.read_faults shelf.old }
+    ensures write_count { S.write_faults shelf.old ≤ S.write_faults shelf.new }
+{
+    match shelf.write(target, output) {
+        Ok(()) => 0,
+        Err(WriteFault::Failed) => 5,
+        Err(WriteFault::NoMemory) => 14,
+    }
 }

@@ -2,5 +2,10 @@
 #![tactic(auto)]
 
 mod app;
+mod nop_file;
+mod words;
 
 pub use app::run_app;
+
+#[cfg(test)]
+mod tests;

@@ -4,7 +4,7 @@ mod Examples
 mod Falling
 mod Refusing
 pub mod Runs
+pub mod Straight
 pub mod Steady
-mod Straight
 mod TypedExample
 mod Values

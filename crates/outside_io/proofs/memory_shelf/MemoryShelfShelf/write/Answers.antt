@@ -1,0 +1,9 @@
+use Rattle.outside_io.specs.Shelved.{shelved}
+use Rattle.outside_io.proofs.Fronts.{wrote_front}
+use Rattle.outside_io.proofs.memory_shelf.MemoryShelfShelf.write.Goals as goal
+
+-- what a failing write keeps is a front of the bytes
+pub returns-in_ok-put_under-in-Some-clause-part : goal.returns-in_ok-put_under-in-Some-clause-part
+returns-in_ok-put_under-in-Some-clause-part c =
+    wrote_front c.args.name.now c.front.result.now c.args.bytes.now c.in-Some.kept (shelved c.args.self.now.held) (shelved c.put_under.new.held)
+    c.front.ensures c.in_ok-put_under-in-Some.ensures.written

@@ -1,0 +1,71 @@
+// Which calls of an outside in memory are to fail, and which call comes next.
+
+ghost use Rattle.std.specs.Prelude.{◌≡◌, ◌+◌, ◌^◌, ◌<◌, if◌then◌else◌, is_some, take};
+ghost use Rattle.outside_io.specs.Failing.{kept_at};
+
+/// A call that is to fail, and what it still keeps.
+#[derive(Clone, Copy, Debug, PartialEq, Eq)]
+pub struct Fail {
+    /// The number of the call, from 0.
+    pub call: u64,
+    /// How many bytes a write or a print that fails keeps, or all where there are fewer. A read keeps nothing.
+    pub kept: u64,
+}
+
+/// The calls that are to fail, and the number of the next call: none, once call 2^64 - 1 was made.
+#[derive(Drop)]
+pub struct Calls {
+    pub(crate) fails: Vec<Fail>,
+    pub(crate) next: Option<u64>,
+}
+
+impl Calls {
+    ghost use Rattle.outside_io.specs.Calls.{failing, Counted, listed_made};
+
+    /// No call was made yet.
+    pub(crate) fn new(fails: Vec<Fail>) -> Calls
+        ensures fails { result.fails ≡ fails }
+        ensures next { result.next ≡ Some 0 }
+        ensures made { listed_made result ≡ 0 }
+    {
+        Calls {
+            fails,
+            next: Some(0),
+        }
+    }
+
+    /// Makes a call: how many bytes it keeps where it is to fail, and nothing where it is not.
+    pub(crate) fn count(&mut self) -> Option<u64>
+        ensures kept { result ≡ failing self.old }
+        ensures counted { Counted self.old self.new }
+        ensures made { listed_made self.new ≡ listed_made self.old + (if is_some result then 1 else 0) }
+        ensures room { listed_made self.new < 2 ^ 64 }
+    {
+        let number = self.next?;
+        self.next = number.checked_add(1);
+        kept_of(&self.fails, number)
+    }
+}
+
+// How many bytes the call of this number keeps, where it is listed.
+fn kept_of(fails: &[Fail], number: u64) -> Option<u64>
+    ensures { result ≡ kept_at fails.now number }
+{
+    for fail in fails {
+        if fail.call == number {
+            return Some(fail.kept);
+        }
+    }
+    None
+}
+
+/// The first `kept` bytes, or all where there are fewer.
+pub(crate) fn front(bytes: &[u8], kept: u64) -> &[u8]
+    ensures { result.now ≡ take kept bytes.now }
+{
+    if kept < bytes.len() as u64 {
+        &bytes[..kept as usize]
+    } else {
+        bytes
+    }
+}

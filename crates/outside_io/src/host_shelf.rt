@@ -1,0 +1,103 @@
+// A shelf of the files of the machine.
+
+ghost use Rattle.std.specs.Prelude.{◌≤◌, ◌<◌, ℕ, IfOk, IsErrOf, vec_len};
+
+use crate::streams::{read_within, write_all};
+use crate::{ReadFault, Shelf, WriteFault};
+use std::alloc::Global;
+use std::fs;
+use std::rt::Files;
+
+/// The files of the machine, under their paths. It leaves its contents untold.
+#[derive(Drop)]
+pub struct HostShelf<'r, R: Files> {
+    rt: &'r R,
+    read_faults: u64,
+    write_faults: u64,
+}
+
+impl<'r, R: Files> HostShelf<'r, R> {
+    ghost use Rattle.std.specs.Prelude.{◌≡◌};
+
+    /// The files that this runtime reaches.
+    pub fn new(rt: &'r R) -> HostShelf<'r, R>
+        ensures read_count { result.read_faults ≡ 0 }
+        ensures write_count { result.write_faults ≡ 0 }
+    {
+        HostShelf {
+            rt,
+            read_faults: 0,
+            write_faults: 0,
+        }
+    }
+}
+
+impl<R: Files> Shelf for HostShelf<'_, R> {
+    ghost use Rattle.std.specs.Prelude.{◌≡◌, ◌≤◌, ◌<◌, ℕ, None, IfOk, OnOk, OnErr, IsErrOf, vec_len};
+    ghost use Rattle.outside_io.specs.Outside.{Holds, IsMissing, IsTooLong, Rose, Unchanged, Wrote, WrotePart};
+    ghost use Rattle.outside_io.specs.Faults.{after_read, after_write};
+
+    ghost contents = { λ _. None };
+
+    ghost read_faults = { λ s. s.read_faults };
+
+    ghost write_faults = { λ s. s.write_faults };
+
+    /// The bytes of a file, at most `cap` many. `TooLong` has the number of bytes that were taken: it stops past the
+    /// cap. Each refusal but `NoMemory` is counted.
+    fn read(&mut self, alloc: Global, name: &str, cap: u64) -> Result<Vec<u8>, ReadFault>
+        ensures given { IfOk result (λ bytes. Holds None name.now bytes.items) }
+        ensures within { IfOk result (λ bytes. vec_len bytes ≤ cap) }
+        ensures missing { IsErrOf result ReadFault.Missing →
+            IsMissing None name.now self.old.read_faults self.new.read_faults }
+        ensures too_long { (long : ℕ) → IsErrOf result (ReadFault.TooLong long) →
+            IsTooLong None name.now cap long self.old.read_faults self.new.read_faults }
+        ensures failed { IsErrOf result ReadFault.Failed → Rose self.old.read_faults self.new.read_faults }
+        ensures kept { Unchanged None None }
+        ensures read_count { self.old.read_faults ≤ self.new.read_faults }
+        ensures write_count { self.new.write_faults ≡ self.old.write_faults }
+
+        ensures counted { self.new.read_faults ≡ after_read result self.old.read_faults }
+        ensures past { (long : ℕ) → IsErrOf result (ReadFault.TooLong long) → cap < long }
+    {
+        let answer = read_file(self.rt, alloc, name, cap);
+        match answer {
+            Ok(_) | Err(ReadFault::NoMemory) => {}
+            Err(_) => self.read_faults = self.read_faults.saturating_add(1),
+        }
+        answer
+    }
+
+    /// Makes a file of these bytes, in place of what it had. A refusal other than `NoMemory` is counted.
+    fn write(&mut self, name: &str, bytes: &[u8]) -> Result<(), WriteFault>
+        ensures written { OnOk result (Wrote name.now bytes.now None None) }
+        ensures part { OnErr result (WrotePart name.now bytes.now None None) }
+        ensures failed { IsErrOf result WriteFault.Failed → Rose self.old.write_faults self.new.write_faults }
+        ensures read_count { self.new.read_faults ≡ self.old.read_faults }
+        ensures write_count { self.old.write_faults ≤ self.new.write_faults }
+
+        ensures counted { self.new.write_faults ≡ after_write result self.old.write_faults }
+    {
+        let answer = write_file(self.rt, name, bytes);
+        if let Err(WriteFault::Failed) = answer {
+            self.write_faults = self.write_faults.saturating_add(1);
+        }
+        answer
+    }
+}
+
+// The bytes of a file, at most `cap` many.
+fn read_file<R: Files>(rt: &R, alloc: Global, name: &str, cap: u64) -> Result<Vec<u8>, ReadFault>
+    ensures within { IfOk result (λ bytes. vec_len bytes ≤ cap) }
+    ensures past { (long : ℕ) → IsErrOf result (ReadFault.TooLong long) → cap < long }
+{
+    let mut file = fs::open(rt, name)?;
+    read_within(&mut file, alloc, cap)
+}
+
+// Makes a file of these bytes.
+fn write_file<R: Files>(rt: &R, name: &str, bytes: &[u8]) -> Result<(), WriteFault> {
+    let mut file = fs::create(rt, name)?;
+    write_all(&mut file, bytes)?;
+    Ok(())
+}

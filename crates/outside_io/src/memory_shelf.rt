@@ -1,0 +1,168 @@
+// A shelf in memory, whose calls fail where they are told to.
+
+ghost use Rattle.std.specs.Prelude.{◌≡◌, ◌+◌, Option, Some, None, OnOk, OnErr};
+ghost use Rattle.outside_io.specs.Calls.{listed_made};
+ghost use Rattle.outside_io.specs.Outside.{Wrote, Unchanged};
+ghost use Rattle.outside_io.specs.Shelved.{shelved, told, Answers};
+
+use crate::calls::{Calls, Fail, front};
+use crate::{ReadFault, Shelf, WriteFault};
+use std::alloc::{AllocError, Global};
+use std::collections::BTreeMap;
+
+/// Bytes under names, in memory. It tells its contents. Reads and writes are counted together, from 0, and a call
+/// fails where its number is listed; past number 2^64 - 1 no call is counted, and none fails.
+#[derive(Drop)]
+pub struct MemoryShelf {
+    alloc: Global,
+    held: BTreeMap<String, Vec<u8>>,
+    calls: Calls,
+    read_faults: u64,
+    write_faults: u64,
+    pub ghost counted: { read_faults + write_faults ≡ listed_made calls },
+}
+
+impl MemoryShelf {
+    ghost use Rattle.std.specs.Prelude.{option_map, OnOk, OnErr, List, ℕ};
+    ghost use Rattle.outside_io.specs.Outside.{Wrote, Unchanged};
+    ghost use Rattle.outside_io.specs.Shelved.{shelved, told};
+
+    /// An empty shelf, of which these calls fail.
+    pub fn new(alloc: Global, fails: Vec<Fail>) -> MemoryShelf
+        ensures empty { (name : List ℕ) → shelved result.held name ≡ None }
+        ensures fails { result.calls.fails ≡ fails }
+        ensures next { result.calls.next ≡ Some 0 }
+        ensures read_count { result.read_faults ≡ 0 }
+        ensures write_count { result.write_faults ≡ 0 }
+    {
+        MemoryShelf {
+            alloc,
+            held: BTreeMap::new(alloc),
+            calls: Calls::new(fails),
+            read_faults: 0,
+            write_faults: 0,
+        }
+    }
+
+    /// Puts bytes under a name, and counts no call. Where memory ends, all is as before.
+    pub fn add(&mut self, name: &str, bytes: &[u8]) -> Result<(), AllocError>
+        ensures added { OnOk result (Wrote name.now bytes.now (told self.old.held) (told self.new.held)) }
+        ensures unchanged { OnErr result (Unchanged (told self.old.held) (told self.new.held)) }
+        ensures calls { self.new.calls ≡ self.old.calls }
+        ensures read_count { self.new.read_faults ≡ self.old.read_faults }
+        ensures write_count { self.new.write_faults ≡ self.old.write_faults }
+    {
+        put_under(&mut self.held, self.alloc, name, bytes)
+    }
+
+    /// The bytes under a name. It counts no call.
+    pub fn bytes_of(&self, name: &str) -> Option<&[u8]>
+        ensures { option_map (λ bytes. bytes.now) result ≡ shelved self.now.held name.now }
+    {
+        match self.held.get(name) {
+            Some(bytes) => Some(bytes.as_slice()),
+            None => None,
+        }
+    }
+}
+
+impl Shelf for MemoryShelf {
+    ghost use Rattle.std.specs.Prelude.{ℕ, ◌≤◌, if◌then◌else◌, IfOk, OnOk, OnErr, IsErrOf, IsSome, vec_len, is_some, take, ◌⊎◌};
+    ghost use Rattle.outside_io.specs.Outside.{Holds, IsMissing, IsTooLong, Rose, Unchanged, Wrote, WrotePart};
+    ghost use Rattle.outside_io.specs.Calls.{failing, Counted};
+    ghost use Rattle.outside_io.specs.Shelved.{shelved, told, Answers};
+
+    ghost contents = { λ s. told s.held };
+
+    ghost read_faults = { λ s. s.read_faults };
+
+    ghost write_faults = { λ s. s.write_faults };
+
+    /// The bytes under a name, at most `cap` many: `Failed` exactly where the call is listed, `Missing` and `TooLong`
+    /// exactly where a call that is not listed finds no bytes or more than `cap`.
+    fn read(&mut self, alloc: Global, name: &str, cap: u64) -> Result<Vec<u8>, ReadFault>
+        ensures given { IfOk result (λ bytes. Holds (told self.old.held) name.now bytes.items) }
+        ensures within { IfOk result (λ bytes. vec_len bytes ≤ cap) }
+        ensures missing { IsErrOf result ReadFault.Missing →
+            IsMissing (told self.old.held) name.now self.old.read_faults self.new.read_faults }
+        ensures too_long { (long : ℕ) → IsErrOf result (ReadFault.TooLong long) →
+            IsTooLong (told self.old.held) name.now cap long self.old.read_faults self.new.read_faults }
+        ensures failed { IsErrOf result ReadFault.Failed → Rose self.old.read_faults self.new.read_faults }
+        ensures kept { Unchanged (told self.old.held) (told self.new.held) }
+        ensures read_count { self.old.read_faults ≤ self.new.read_faults }
+        ensures write_count { self.new.write_faults ≡ self.old.write_faults }
+
+        ensures counted { Counted self.old.calls self.new.calls }
+        ensures faults { self.new.read_faults ≡ self.old.read_faults + (if is_some (failing self.old.calls) then 1 else 0) }
+        ensures listed { IsSome (failing self.old.calls) → IsErrOf result ReadFault.Failed }
+        ensures unlisted { failing self.old.calls ≡ None → Answers (shelved self.old.held name.now) cap result }
+    {
+        if self.calls.count().is_some() {
+            self.read_faults += 1;
+            return Err(ReadFault::Failed);
+        }
+        read_under(&self.held, alloc, name, cap)
+    }
+
+    /// Puts bytes under a name. A call that is listed keeps the first bytes, as many as are listed, and answers
+    /// `Failed`; where memory ends, the contents are as before.
+    fn write(&mut self, name: &str, bytes: &[u8]) -> Result<(), WriteFault>
+        ensures written { OnOk result (Wrote name.now bytes.now (told self.old.held) (told self.new.held)) }
+        ensures part { OnErr result (WrotePart name.now bytes.now (told self.old.held) (told self.new.held)) }
+        ensures failed { IsErrOf result WriteFault.Failed → Rose self.old.write_faults self.new.write_faults }
+        ensures read_count { self.new.read_faults ≡ self.old.read_faults }
+        ensures write_count { self.old.write_faults ≤ self.new.write_faults }
+
+        ensures counted { Counted self.old.calls self.new.calls }
+        ensures faults { self.new.write_faults ≡ self.old.write_faults + (if is_some (failing self.old.calls) then 1 else 0) }
+        ensures listed { IsSome (failing self.old.calls) → IsErrOf result WriteFault.Failed ⊎ IsErrOf result WriteFault.NoMemory }
+        ensures unlisted { IsErrOf result WriteFault.Failed → IsSome (failing self.old.calls) }
+        ensures front { (kept : ℕ) → failing self.old.calls ≡ Some kept → IsErrOf result WriteFault.Failed →
+            Wrote name.now (take kept bytes.now) (told self.old.held) (told self.new.held) }
+        ensures no_memory { IsErrOf result WriteFault.NoMemory → Unchanged (told self.old.held) (told self.new.held) }
+    {
+        match self.calls.count() {
+            Some(kept) => {
+                self.write_faults += 1;
+                put_under(&mut self.held, self.alloc, name, front(bytes, kept))?;
+                Err(WriteFault::Failed)
+            }
+            None => Ok(put_under(&mut self.held, self.alloc, name, bytes)?),
+        }
+    }
+}
+
+// Puts bytes under a name; where memory ends, all is as before.
+fn put_under(
+    held: &mut BTreeMap<String, Vec<u8>>,
+    alloc: Global,
+    name: &str,
+    bytes: &[u8],
+) -> Result<(), AllocError>
+    ensures written { OnOk result (Wrote name.now bytes.now (told held.old) (told held.new)) }
+    ensures unchanged { OnErr result (Unchanged (told held.old) (told held.new)) }
+{
+    let key = String::from_str(alloc, name)?;
+    let value = Vec::from_slice(alloc, bytes)?;
+    held.insert(key, value)?;
+    Ok(())
+}
+
+// A copy of the bytes under a name, where they are within the cap.
+fn read_under(
+    held: &BTreeMap<String, Vec<u8>>,
+    alloc: Global,
+    name: &str,
+    cap: u64,
+) -> Result<Vec<u8>, ReadFault>
+    ensures { Answers (shelved held.now name.now) cap result }
+{
+    let Some(bytes) = held.get(name) else {
+        return Err(ReadFault::Missing);
+    };
+    let length = bytes.len() as u64;
+    if length > cap {
+        return Err(ReadFault::TooLong { length });
+    }
+    Ok(Vec::from_slice(alloc, bytes)?)
+}
