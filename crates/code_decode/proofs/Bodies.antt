@@ -4,14 +4,14 @@ use Rattle.std.specs.Prelude.{Bool, true, false, ◌||◌, map}
 use Rattle.leb_binary.specs.Leb.{IsFront, HasNoFront}
 use Rattle.leb_binary.specs.Fronts.{OneFront}
 use Rattle.leb_binary.proofs.Fronts.{front_one}
-use Rattle.module_ast.specs.Grammar.{Tree, Group, Body, IsVec, IsGroup, IsExpr, IsBody, Both, local_count}
+use Rattle.module_ast.specs.Grammar.{Tree, Group, Body, IsVec, IsGroup, IsExpr, IsBody, local_count}
 use Rattle.module_ast.specs.Decoding.{IsNoBody, GramBody, BodyFloats, BodyExceeds}
 use Rattle.module_ast.specs.Positions.{code_nesting}
 use Rattle.module_ast.specs.Tree as ast
 use Rattle.module_ast.specs.declared.module.Group as kept
 use Rattle.module_ast.specs.declared.module.Body as kept_body
 use Rattle.module_ast.specs.Profile.{code, code_floats, some_in, is_floating, group}
-use Rattle.module_ast.proofs.Compose.{one_vec, both_some}
+use Rattle.module_ast.proofs.Compose.{one_vec}
 use Rattle.code_decode.specs.Answers.{IsExprAnswer}
 use Rattle.code_decode.specs.Locals.{AreLocals, group_floats}
 use Rattle.code_decode.specs.declared.expr.Expr.{Expr}

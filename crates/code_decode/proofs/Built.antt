@@ -7,7 +7,7 @@ use Rattle.module_ast.specs.Profile.{code, block_type}
 use Rattle.module_ast.specs.Plains.{instr_of}
 use Rattle.module_ast.specs.Seen.{before, onto, code_of, onto_push}
 use Rattle.module_ast.specs.Tree.{Tree, done, plain, Plain, unreachable, nop, br, br_if, br_table, return_, call, call_indirect, drop_, select, local_get, local_set, local_tee, global_get, global_set, load, store, memory_size, memory_grow, i32_const, i64_const, num}
-use Rattle.module_ast.specs.Tokens.{Token, IsToken, plain_t, block_t, loop_t, if_t, else_t, end_t}
+use Rattle.module_ast.specs.Tokens.{Token, IsToken, plain_t, else_t, end_t}
 use Rattle.module_ast.specs.declared.code.BlockType.{BlockType}
 use Rattle.module_ast.specs.declared.code.Instr.{Instr}
 use Rattle.module_ast.specs.declared.code.Instr.TheVariants.{Block, Loop, If, Unreachable, Nop, Br, BrIf, BrTable, Return, Call, CallIndirect, Drop, Select, LocalGet, LocalSet, LocalTee, GlobalGet, GlobalSet, Load, Store, MemorySize, MemoryGrow, I32Const, I64Const, Num}

@@ -6,7 +6,7 @@ use Rattle.code_decode.specs.Locals.{body_fault}
 use Rattle.code_decode.specs.declared.fault.Fault.{Fault}
 use Rattle.code_decode.specs.declared.fault.Fault.TheVariants as faults
 use Rattle.code_decode.specs.declared.body.BodyFault.{BodyFault}
-use Rattle.code_decode.specs.declared.body.BodyFault.TheVariants.{Malformed, Float, Nesting}
+use Rattle.code_decode.specs.declared.body.BodyFault.TheVariants.{Malformed}
 
 -- where the result of a `?` is this error, the error that it passes on is
 pub passed_on : {T U E : Type 0} (r : Result T E) (x m : E) → IsErrAnd r (λ y. y ≡ x) → IsErrOf r m → IsErrOf {T = U} (Err x) m

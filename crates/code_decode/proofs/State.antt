@@ -6,8 +6,7 @@ use Rattle.module_ast.specs.Grammar as grammar
 use Rattle.module_ast.specs.Grammar.{IsExpr}
 use Rattle.module_ast.specs.Profile.{code, code_floats}
 use Rattle.module_ast.specs.Seen.{code_of}
-use Rattle.module_ast.specs.Positions.{code_nesting}
-use Rattle.module_ast.specs.Tokens.{IsToken, else_t, end_t}
+use Rattle.module_ast.specs.Tokens.{IsToken}
 use Rattle.module_ast.specs.declared.code.BlockType.{BlockType}
 use Rattle.module_ast.specs.declared.code.Instr.{Instr}
 use Rattle.module_ast.proofs.Tokens.{token_shorter}
@@ -15,7 +14,7 @@ use Rattle.leb_binary.proofs.Fronts.{front_one}
 use Rattle.code_decode.specs.Answers.{IsExprAnswer}
 use Rattle.code_decode.specs.Nesting.{tree_nesting}
 use Rattle.code_decode.specs.Opened.{closed}
-use Rattle.code_decode.specs.Steps.{Open, then, body, open_of}
+use Rattle.code_decode.specs.Steps.{Open, then, open_of}
 use Rattle.code_decode.specs.declared.token.Kind.{Kind}
 use Rattle.code_decode.specs.declared.token.Kind.TheVariants as kinds
 use Rattle.code_decode.specs.declared.token.Read.TheVariants as reads

@@ -1,5 +1,5 @@
 -- What each answer says of an expression.
-use Rattle.std.specs.Prelude.{◌≡◌, ℕ, ◌<◌, ◌≤◌, List, Bool, true}
+use Rattle.std.specs.Prelude.{◌≡◌, ℕ, ◌<◌, ◌≤◌, List, true}
 use Rattle.leb_binary.specs.Leb.{IsFront}
 use Rattle.module_ast.specs.Tree.{Tree}
 use Rattle.module_ast.specs.Grammar as grammar

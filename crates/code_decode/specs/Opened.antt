@@ -1,7 +1,6 @@
 -- What a sequence that is open becomes at its end.
-use Rattle.std.specs.Prelude.{ℕ, Bool, true, false, nat_lt, List, Some, None}
+use Rattle.std.specs.Prelude.{Some, None}
 use Rattle.module_ast.specs.Tree.{Tree}
-use Rattle.module_ast.specs.Seen.{code_of}
 use Rattle.module_ast.specs.declared.code.Instr.{Instr}
 use Rattle.module_ast.specs.declared.code.Instr.TheVariants as instrs
 use Rattle.code_decode.specs.declared.token.Kind.{Kind}

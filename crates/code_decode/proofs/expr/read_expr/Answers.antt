@@ -1,4 +1,4 @@
-use Rattle.std.proofs.Common.{arith, [], ◌≡◌, refl, ap, ◌∙◌, ℕ, max}
+use Rattle.std.proofs.Common.{arith, [], ◌≡◌, refl, ap, ℕ, max}
 use Rattle.std.specs.Ordering.{ord_max, nat_cmp}
 use Rattle.std.proofs.lemmas.Grind.{common_steps}
 use Rattle.std.proofs.lemmas.List.{nil_from_length}

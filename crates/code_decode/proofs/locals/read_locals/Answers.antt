@@ -1,4 +1,4 @@
-use Rattle.std.proofs.Common.{◌≡◌, ◌≤◌, ◌<◌, ◌^◌, arith, [], ◌∷◌, ◌++◌, length-append}
+use Rattle.std.proofs.Common.{◌≤◌, ◌<◌, ◌^◌, arith, [], ◌∷◌, ◌++◌, length-append}
 use Rattle.module_ast.specs.Grammar.{IsGroup, local_count}
 use Rattle.module_ast.specs.Profile.{group}
 use Rattle.module_ast.proofs.Compose.{read_more, vec_none, vec_stuck, vec_some}
