@@ -65,11 +65,22 @@ fn element(alloc: Global, table: u32, offset: Expr, funcs: Seq<u32>) -> Piece<El
     ensures { (bound : ℕ) (t : grammar.Tree) → IsBuilt bound offset t → IsPiece element_form bound result (element_by table t funcs) }
 {
     match offset {
-        Expr::Built(offset) => Piece::Whole(Element { table, offset, funcs }),
+        Expr::Built(offset) => Piece::Whole(Element {
+            table,
+            offset,
+            funcs,
+        }),
         Expr::Floats => Piece::Floats,
         Expr::Deep { found } => {
             let offset = Code::new(alloc);
-            Piece::Deep(Element { table, offset, funcs }, found)
+            Piece::Deep(
+                Element {
+                    table,
+                    offset,
+                    funcs,
+                },
+                found,
+            )
         }
     }
 }
@@ -121,11 +132,22 @@ fn segment(alloc: Global, memory: u32, offset: Expr, bytes: Seq<u8>) -> Piece<Se
     ensures { (bound : ℕ) (t : grammar.Tree) → IsBuilt bound offset t → IsPiece segment_form bound result (segment_by memory t bytes) }
 {
     match offset {
-        Expr::Built(offset) => Piece::Whole(Segment { memory, offset, bytes }),
+        Expr::Built(offset) => Piece::Whole(Segment {
+            memory,
+            offset,
+            bytes,
+        }),
         Expr::Floats => Piece::Floats,
         Expr::Deep { found } => {
             let offset = Code::new(alloc);
-            Piece::Deep(Segment { memory, offset, bytes }, found)
+            Piece::Deep(
+                Segment {
+                    memory,
+                    offset,
+                    bytes,
+                },
+                found,
+            )
         }
     }
 }

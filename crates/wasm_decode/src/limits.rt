@@ -73,9 +73,7 @@ fn first_locals(bodies: &[Body], bound: u32) -> Option<u64>
 /// The first of functions, types, parameters and locals that is above its limit, and its number.
 pub fn first_exceeded(kept: &Module, limits: &Limits) -> Option<(Which, u64)>
     requires few { AreFew kept.now.bodies }
-    ensures {
-        MatchOption result ((w : Which) → order_of w < 4 → AreWithin (bound_of limits.now w) (counts_of kept.now w)) (λ p. (order_of p.0 < 4) × IsFirstExceeded limits.now kept.now p.0 p.1)
-    }
+    ensures { MatchOption result ((w : Which) → order_of w < 4 → AreWithin (bound_of limits.now w) (counts_of kept.now w)) (λ p. (order_of p.0 < 4) × IsFirstExceeded limits.now kept.now p.0 p.1) }
 {
     let functions = functions(kept.imports.as_slice(), kept.funcs.as_slice());
     if functions > limits.functions as u64 {

@@ -85,9 +85,7 @@ fn first(before: Option<u32>, found: u32) -> Option<u32>
 /// One item more.
 pub fn add<E: Entry>(part: &mut Part<E::Value>, piece: Piece<E::Value>) -> Result<(), Fault>
     ensures count { part.new.count ≡ part.old.count }
-    ensures added {
-        IfOk result (λ _. (bound : ℕ) (gs : List E.Shape) (g : E.Shape) → IsPart E.form bound part.old gs → IsPiece E.form bound piece g → IsPart E.form bound part.new (gs ++ g ∷ []))
-    }
+    ensures added { IfOk result (λ _. (bound : ℕ) (gs : List E.Shape) (g : E.Shape) → IsPart E.form bound part.old gs → IsPiece E.form bound piece g → IsPart E.form bound part.new (gs ++ g ∷ [])) }
     ensures well { IsErrOf result Fault.Malformed → ⊥ }
 {
     match piece {
@@ -102,7 +100,11 @@ pub fn add<E: Entry>(part: &mut Part<E::Value>, piece: Piece<E::Value>) -> Resul
 }
 
 /// Takes a vector from the front: the number of its items, and the items.
-pub fn read_vec<E: Entry>(alloc: Global, cursor: &mut Cursor, nesting: u32) -> Result<Part<E::Value>, Fault>
+pub fn read_vec<E: Entry>(
+    alloc: Global,
+    cursor: &mut Cursor,
+    nesting: u32,
+) -> Result<Part<E::Value>, Fault>
     requires bytes { length cursor.now.left ≤ 268435456 }
     requires nesting { nesting ≤ 1002 }
     ensures ok { IfOk result (λ p. (gs : List E.Shape) × IsFront (IsVec E.is) cursor.old.left cursor.new.left gs × IsPart E.form nesting p gs × (p.count ≡ length gs)) }

@@ -5,8 +5,8 @@ ghost use Rattle.leb_binary.specs.Leb.{IsFront};
 ghost use Rattle.module_ast.specs.Grammar.{Module, Section, IsU32, IsVec, IsSized, IsCustom, IsContent, id_of, with_section};
 ghost use Rattle.wasm_decode.specs.Drafts.{IsRead, IsDraft};
 
-use crate::codes::{Elements, Globals, Segments};
 use crate::bodies::Bodies;
+use crate::codes::{Elements, Globals, Segments};
 use crate::draft::Draft;
 use crate::names::{Exports, Imports, read_name};
 use crate::part::{Entry, Part, read_vec};
@@ -57,12 +57,16 @@ fn custom(alloc: Global, content: &[u8]) -> Result<Name, Fault>
 /// Puts the section of this id and content into the draft.
 ///
 /// `Malformed` where no section has this id, and where its content is none: it has to fill the bytes.
-pub fn read_content(alloc: Global, draft: &mut Draft, id: u8, content: &[u8], nesting: u32) -> Result<(), Fault>
+pub fn read_content(
+    alloc: Global,
+    draft: &mut Draft,
+    id: u8,
+    content: &[u8],
+    nesting: u32,
+) -> Result<(), Fault>
     requires bytes { length content.now ≤ 268435456 }
     requires nesting { nesting ≤ 1002 }
-    ensures ok {
-        IfOk result (λ _. (s : Section) × (id ≡ id_of s.0) × IsContent s.0 content.now s.1 × ((m : Module) → IsDraft nesting draft.old m → IsDraft nesting draft.new (with_section s m)))
-    }
+    ensures ok { IfOk result (λ _. (s : Section) × (id ≡ id_of s.0) × IsContent s.0 content.now s.1 × ((m : Module) → IsDraft nesting draft.old m → IsDraft nesting draft.new (with_section s m))) }
     ensures malformed { IsErrOf result Fault.Malformed → (s : Section) → id ≡ id_of s.0 → IsContent s.0 content.now s.1 → ⊥ }
 {
     match id {
@@ -87,12 +91,16 @@ pub fn read_content(alloc: Global, draft: &mut Draft, id: u8, content: &[u8], ne
 }
 
 /// Takes what stands behind the id of a section: its size, and its content.
-pub fn read_section(alloc: Global, draft: &mut Draft, id: u8, cursor: &mut Cursor, nesting: u32) -> Result<(), Fault>
+pub fn read_section(
+    alloc: Global,
+    draft: &mut Draft,
+    id: u8,
+    cursor: &mut Cursor,
+    nesting: u32,
+) -> Result<(), Fault>
     requires bytes { length cursor.now.left ≤ 268435456 }
     requires nesting { nesting ≤ 1002 }
-    ensures ok {
-        IfOk result (λ _. (s : Section) × (id ≡ id_of s.0) × IsFront (IsSized (IsContent s.0)) cursor.old.left cursor.new.left s.1 × ((m : Module) → IsDraft nesting draft.old m → IsDraft nesting draft.new (with_section s m)))
-    }
+    ensures ok { IfOk result (λ _. (s : Section) × (id ≡ id_of s.0) × IsFront (IsSized (IsContent s.0)) cursor.old.left cursor.new.left s.1 × ((m : Module) → IsDraft nesting draft.old m → IsDraft nesting draft.new (with_section s m))) }
     ensures malformed { IsErrOf result Fault.Malformed → (s : Section) (rest : List ℕ) → id ≡ id_of s.0 → IsFront (IsSized (IsContent s.0)) cursor.old.left rest s.1 → ⊥ }
 {
     let size = cursor.read_u32()?;

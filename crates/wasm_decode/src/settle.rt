@@ -56,7 +56,13 @@ fn or(first: Option<u32>, second: Option<u32>) -> Option<u32>
 fn deep(draft: &Draft) -> Option<u32>
     ensures { result ≡ deep_in draft.now }
 {
-    or(draft.globals.deep, or(draft.elements.deep, or(draft.bodies.deep, draft.segments.deep)))
+    or(
+        draft.globals.deep,
+        or(
+            draft.elements.deep,
+            or(draft.bodies.deep, draft.segments.deep),
+        ),
+    )
 }
 
 fn into_module(draft: Draft) -> Module
@@ -82,21 +88,20 @@ fn into_module(draft: Draft) -> Module
 // and `deep` is the first nesting of that code.
 fn within(kept: Module, deep: Option<u32>, limits: &Limits) -> Result<Module, DecodeFault>
     requires few { AreFew kept.bodies }
-    ensures ok {
-        IfOk result (λ r. (m : Module) → kept ≡ without_deep limits.now.nesting m → deep ≡ first_above limits.now.nesting (counts_of m Nesting) → (r ≡ m) × IsWithin limits.now m)
-    }
+    ensures ok { IfOk result (λ r. (m : Module) → kept ≡ without_deep limits.now.nesting m → deep ≡ first_above limits.now.nesting (counts_of m Nesting) → (r ≡ m) × IsWithin limits.now m) }
     ensures malformed { (n : ℕ) → IsErrOf result (DecodeFault.Malformed n) → ⊥ }
     ensures float { (n : ℕ) → IsErrOf result (DecodeFault.Float n) → ⊥ }
-    ensures limit {
-        (w : Which) (v : ℕ) → IsErrOf result (DecodeFault.Limit w v) → (m : Module) → kept ≡ without_deep limits.now.nesting m → deep ≡ first_above limits.now.nesting (counts_of m Nesting) → IsFirstExceeded limits.now m w v
-    }
+    ensures limit { (w : Which) (v : ℕ) → IsErrOf result (DecodeFault.Limit w v) → (m : Module) → kept ≡ without_deep limits.now.nesting m → deep ≡ first_above limits.now.nesting (counts_of m Nesting) → IsFirstExceeded limits.now m w v }
 {
     if let Some((which, value)) = first_exceeded(&kept, limits) {
         return Err(DecodeFault::Limit { which, value });
     }
     if let Some(found) = deep {
         let value = found as u64;
-        return Err(DecodeFault::Limit { which: Which::Nesting, value });
+        return Err(DecodeFault::Limit {
+            which: Which::Nesting,
+            value,
+        });
     }
     Ok(kept)
 }

@@ -155,7 +155,10 @@ pub fn limits(cursor: &mut Cursor) -> Result<Range, Bad>
         0x01 => {
             let min = cursor.read_u32()?;
             let max = cursor.read_u32()?;
-            Ok(Range { min, max: Some(max) })
+            Ok(Range {
+                min,
+                max: Some(max),
+            })
         }
         _ => Err(Bad),
     }

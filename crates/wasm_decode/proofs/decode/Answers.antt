@@ -1,4 +1,4 @@
-use Rattle.std.proofs.Common.{◌≡◌, ℕ, inl, inr, length, refl, sym, ap, ◌∙◌, subst, arith, rules}
+use Rattle.std.proofs.Common.{◌≡◌, inl, inr, length, refl, ap, subst, arith, rules}
 use Rattle.module_ast.specs.Grammar.{AreItems, IsSection, module_of, function_section, code_section}
 use Rattle.module_ast.specs.Profile.{tree_of}
 use Rattle.wasm_decode.proofs.Errors.{if_ok}
@@ -39,8 +39,8 @@ pub returns-clause-ok : goal.returns-clause-ok
 returns-clause-ok c =
     let r = c.in_ok-draft.ensures.ok in
     if_ok c.settle.result (λ m h.
-        let t = h (module_of r.0) r.3 in
-        (is_module _ r.0 (tree_of m) (has_sections _ _ r.0 c.in-Some.ensures.is (subst (λ l. AreItems IsSection l r.0) c.new-cursor.ensures.left r.1) r.2) t.0 (omega (arith, (r.3 function_section).1, (r.3 code_section).0.1)), t.1)) c.settle.ensures.ok
+    let t = h (module_of r.0) r.3 in
+    (is_module _ r.0 (tree_of m) (has_sections _ _ r.0 c.in-Some.ensures.is (subst (λ l. AreItems IsSection l r.0) c.new-cursor.ensures.left r.1) r.2) t.0 (omega (arith, (r.3 function_section).1, (r.3 code_section).0.1)), t.1)) c.settle.ensures.ok
 
 pub returns-clause-malformed : goal.returns-clause-malformed
 returns-clause-malformed c = λ n e. absurd (c.settle.ensures.malformed n e)

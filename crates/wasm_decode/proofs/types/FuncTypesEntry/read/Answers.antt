@@ -1,6 +1,5 @@
-use Rattle.std.proofs.Common.{rules, ◌≡◌, ℕ, List, ap, arith, ◌∙◌}
+use Rattle.std.proofs.Common.{rules, ℕ, List, ap, arith, ◌∙◌}
 use Rattle.std.specs.Prelude.{map}
-use Rattle.leb_binary.proofs.Fronts.{one_unsigned}
 use Rattle.module_ast.specs.Grammar.{FuncType, NumberType, integer, Both, IsVec, IsValType}
 use Rattle.module_ast.specs.Profile.{is_floating}
 use Rattle.module_ast.proofs.Compose.{both_none_first, both_none_second, both_some, one_vec}
@@ -32,11 +31,14 @@ returns-in_err-results-clause-malformed c = λ e.
 pub returns-then-params-clause-ok : goal.returns-then-params-clause-ok
 returns-then-params-clause-ok c =
     let p = c.in_ok-params.ensures.ok in
-    let r = c.in_ok-results.ensures.ok in
-    (func_type_by p.0 r.0, op_some Types 0x60 _ _ _ _ (func_type_by p.0 r.0) c.in_ok-byte.ensures.ok.1 (omega arith) (both_some (IsVec IsValType) (IsVec IsValType) _ _ _ p.0 r.0 p.1 r.1), elim c.then-params.branch [
-      | then-params-via-then-params w ↦ first_floats is_floating integer c.args.nesting _ _ _ p.0 r.0 p.2 w.if-params.true
-      | then-params-via-else-params+then-results w ↦ second_floats is_floating integer c.args.nesting _ _ _ p.0 r.0 r.2 w.if-results.true
-    ])
+    let r = c.in_ok-results.ensures.ok in (
+      func_type_by p.0 r.0,
+      op_some Types 0x60 _ _ _ _ (func_type_by p.0 r.0) c.in_ok-byte.ensures.ok.1 (omega arith) (both_some (IsVec IsValType) (IsVec IsValType) _ _ _ p.0 r.0 p.1 r.1),
+      elim c.then-params.branch [
+        | then-params-via-then-params w ↦ first_floats is_floating integer c.args.nesting _ _ _ p.0 r.0 p.2 w.if-params.true
+        | then-params-via-else-params+then-results w ↦ second_floats is_floating integer c.args.nesting _ _ _ p.0 r.0 r.2 w.if-results.true
+      ],
+    )
 
 pub returns-clause-ok : goal.returns-clause-ok
 returns-clause-ok c =
