@@ -1,6 +1,6 @@
 -- Bodies: their locals, and the parts of what a reader hands on.
-use Rattle.std.proofs.Common.{◌≡◌, ℕ, ◌+◌, ◌^◌, ◌<◌, ◌≤◌, List, [], ◌∷◌, ◌++◌, length, refl, sym, ap, ◌∙◌, arith}
-use Rattle.std.specs.Prelude.{map, Bool, true, false, ◌||◌, Option}
+use Rattle.std.proofs.Common.{◌≡◌, ℕ, ◌+◌, List, [], ◌∷◌, ◌++◌, refl, arith}
+use Rattle.std.specs.Prelude.{Bool, true, false, ◌||◌, Option}
 use Rattle.module_ast.specs.Grammar as grammar
 use Rattle.module_ast.specs.Grammar.{IsSized, IsBody, AreItems, local_count}
 use Rattle.module_ast.specs.Profile.{some_in}

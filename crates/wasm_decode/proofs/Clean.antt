@@ -1,7 +1,6 @@
 -- What the program can hold has no floating node.
-use Rattle.std.proofs.Common.{◌≡◌, ℕ, ◌<◌, ◌≤◌, List, [], ◌∷◌, refl, sym, ap, ◌∙◌, arith}
+use Rattle.std.proofs.Common.{◌≡◌, ℕ, ◌<◌, ◌≤◌, List, [], ◌∷◌, refl, ap, ◌∙◌, arith}
 use Rattle.std.specs.Prelude.{map, Bool, true, false, ◌||◌, Option}
-use Rattle.wasm_num.specs.declared.ValType.{ValType}
 use Rattle.module_ast.specs.declared.code.BlockType.{BlockType}
 use Rattle.module_ast.specs.declared.code.BlockType.TheVariants as blocks
 use Rattle.module_ast.specs.declared.module.FuncType.{FuncType}
@@ -11,12 +10,11 @@ use Rattle.module_ast.specs.declared.module.Import.{Import}
 use Rattle.module_ast.specs.declared.module.GlobalDef.{GlobalDef}
 use Rattle.module_ast.specs.declared.module.Element.{Element}
 use Rattle.module_ast.specs.declared.module.Segment.{Segment}
-use Rattle.module_ast.specs.declared.module.Group.{Group}
 use Rattle.module_ast.specs.declared.module.Body.{Body}
 use Rattle.module_ast.specs.Tree.{Tree, done, plain, block, loop, if_then, if_else}
 use Rattle.module_ast.specs.Grammar as grammar
 use Rattle.module_ast.specs.Grammar.{Module, Kind, id_of, custom_section, type_section, import_section, function_section, table_section, memory_section, global_section, export_section, start_section, element_section, code_section, data_section}
-use Rattle.module_ast.specs.Profile.{code, block_type, item, import_of, group, is_floating, some_in, block_floats, code_floats, item_floats, section_floats}
+use Rattle.module_ast.specs.Profile.{code, block_type, item, group, is_floating, some_in, block_floats, code_floats, item_floats, section_floats}
 use Rattle.wasm_decode.specs.Forms.{Form, StandFor}
 use Rattle.wasm_decode.specs.Kinds.{func_type_form, import_form, global_form, element_form, segment_form, body_form}
 

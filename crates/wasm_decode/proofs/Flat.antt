@@ -2,7 +2,7 @@
 use Rattle.std.proofs.Common.{◌≡◌, ℕ, List, [], ◌∷◌, refl, sym, ap, ◌∙◌}
 use Rattle.std.specs.Prelude.{map, Bool, true, false, ◌||◌, Option, cond, nat_lt}
 use Rattle.module_ast.specs.Profile.{some_in}
-use Rattle.wasm_decode.specs.Forms.{Form, drafted, StandFor}
+use Rattle.wasm_decode.specs.Forms.{drafted, StandFor}
 use Rattle.wasm_decode.specs.Kinds.{flat}
 
 or_true : (a : Bool) → (a || true) ≡ true

@@ -1,6 +1,6 @@
 -- A draft with one section more.
 use Rattle.std.proofs.Common.{◌≡◌, ℕ, List, [], ◌∷◌, ◌++◌, ap, refl, ◌∙◌}
-use Rattle.std.specs.Prelude.{Option, Some}
+use Rattle.std.specs.Prelude.{Some}
 use Rattle.std.specs.Global.{Vec}
 use Rattle.module_ast.specs.declared.module.Range.{Range}
 use Rattle.module_ast.specs.declared.module.FuncType.{FuncType}

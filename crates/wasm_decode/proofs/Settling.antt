@@ -1,5 +1,5 @@
 -- A draft without floating nodes is a module, but for code that is too deep.
-use Rattle.std.proofs.Common.{◌≡◌, ℕ, ◌+◌, ◌^◌, ◌<◌, ◌≤◌, inl, inr, List, [], ◌∷◌, ◌++◌, length, refl, sym, ap, ◌∙◌, subst, append_assoc, arith}
+use Rattle.std.proofs.Common.{◌≡◌, ℕ, ◌+◌, ◌<◌, ◌≤◌, inl, inr, List, [], ◌∷◌, ◌++◌, refl, sym, ap, ◌∙◌, subst, append_assoc, arith}
 use Rattle.std.specs.Prelude.{map, Bool, true, false, Option, Some, None, cond, nat_lt}
 use Rattle.std.proofs.lemmas.Bool.Decides.{nat_tests}
 use Rattle.module_ast.specs.declared.module.Module.{Module}
@@ -8,9 +8,7 @@ use Rattle.module_ast.specs.declared.module.Group.{Group}
 use Rattle.module_ast.specs.declared.module.GlobalDef.{GlobalDef}
 use Rattle.module_ast.specs.declared.module.Element.{Element}
 use Rattle.module_ast.specs.declared.module.Segment.{Segment}
-use Rattle.module_ast.specs.declared.module.Limits.{Limits}
-use Rattle.module_ast.specs.declared.module.Which.{Which}
-use Rattle.module_ast.specs.declared.module.Which.TheVariants.{Functions, Types, Parameters, Locals, Nesting}
+use Rattle.module_ast.specs.declared.module.Which.TheVariants.{Nesting}
 use Rattle.module_ast.specs.declared.module.Range.{Range}
 use Rattle.module_ast.specs.Grammar as grammar
 use Rattle.module_ast.specs.Grammar.{Kind, local_count, custom_section, type_section, import_section, function_section, table_section, memory_section, global_section, export_section, start_section, element_section, code_section, data_section}

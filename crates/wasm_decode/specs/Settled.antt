@@ -1,8 +1,8 @@
 -- A draft as a module of the program.
-use Rattle.std.specs.Prelude.{◌≡◌, ℕ, List, map, Option, Some, None, false}
+use Rattle.std.specs.Prelude.{◌≡◌, ℕ, map, Option, Some, None, false}
 use Rattle.module_ast.specs.declared.module.Module.{Module}
 use Rattle.wasm_decode.specs.declared.draft.Draft.{Draft}
-use Rattle.wasm_decode.specs.Forms.{Form, drafted}
+use Rattle.wasm_decode.specs.Forms.{drafted}
 use Rattle.wasm_decode.specs.Kinds.{global_form, element_form, segment_form, body_form}
 
 -- what the draft has, as a module

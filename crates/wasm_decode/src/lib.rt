@@ -19,6 +19,8 @@ pub mod names;
 pub mod part;
 pub mod sections;
 pub mod settle;
+#[cfg(test)]
+mod tests;
 pub mod types;
 
 use crate::fault::DecodeFault;

@@ -1,4 +1,4 @@
-use Rattle.std.proofs.Common.{◌≡◌, ℕ, inl, inr, length, refl, sym, ap, ◌∙◌, subst, arith, rules}
+use Rattle.std.proofs.Common.{◌≡◌, inl, inr, length, refl, ap, subst, arith, rules}
 use Rattle.module_ast.specs.Grammar.{AreItems, IsSection, module_of, function_section, code_section}
 use Rattle.module_ast.specs.Profile.{tree_of}
 use Rattle.wasm_decode.proofs.Errors.{if_ok}

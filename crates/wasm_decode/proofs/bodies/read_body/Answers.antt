@@ -1,4 +1,4 @@
-use Rattle.std.proofs.Common.{◌≡◌, ℕ, List, length, ap, ◌∙◌, arith, rules}
+use Rattle.std.proofs.Common.{ℕ, List, length, ap, ◌∙◌, arith, rules}
 use Rattle.leb_binary.specs.Fronts.{OneFront}
 use Rattle.module_ast.specs.Grammar.{Body, Group, Tree, IsVec, IsGroup, IsExpr, Both}
 use Rattle.module_ast.proofs.Compose.{both_none_second, both_some, one_both, one_vec}

@@ -1,5 +1,5 @@
-use Rattle.std.proofs.Common.{ℕ, [], ◌∷◌, ◌++◌, ap, arith, length-append, rules}
-use Rattle.module_ast.specs.Grammar.{Group, IsVec, IsGroup, local_count}
+use Rattle.std.proofs.Common.{[], ◌∷◌, ◌++◌, ap, arith, length-append}
+use Rattle.module_ast.specs.Grammar.{IsVec, IsGroup, local_count}
 use Rattle.leb_binary.proofs.Fronts.{front_one}
 use Rattle.module_ast.proofs.Compose.{read_more, vec_none, vec_stuck, vec_some, one_vec}
 use Rattle.code_decode.proofs.Items.{one_group}

@@ -1,4 +1,3 @@
-use Rattle.std.proofs.Common.{sym, subst}
 use Rattle.module_ast.specs.Grammar.{IsByte}
 use Rattle.module_ast.proofs.Compose.{vec_none}
 use Rattle.wasm_decode.proofs.Bytes.{bytes_short, bytes_some}

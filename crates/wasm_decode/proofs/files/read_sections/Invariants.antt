@@ -1,4 +1,4 @@
-use Rattle.std.proofs.Common.{◌≡◌, ℕ, ◌≤◌, List, length}
+use Rattle.std.proofs.Common.{◌≡◌, ◌≤◌, List, length}
 use Rattle.module_ast.specs.Grammar.{Section, IsSection, AreOrdered, module_of}
 use Rattle.module_ast.proofs.Compose.{Read}
 use Rattle.wasm_decode.specs.Drafts.{IsDraft}

@@ -1,4 +1,4 @@
-use Rattle.std.proofs.Common.{◌≡◌, ap, refl, arith}
+use Rattle.std.proofs.Common.{ap, refl, arith}
 use Rattle.module_ast.specs.Grammar.{IsU32, IsTableType, IsMemoryType, IsGlobalType, func_item, table_item, memory_item, global_item}
 use Rattle.wasm_decode.proofs.Errors.{on_err}
 use Rattle.wasm_decode.proofs.Ops.{op_some}

@@ -1,8 +1,8 @@
-use Rattle.std.proofs.Common.{◌≡◌, refl, arith}
+use Rattle.std.proofs.Common.{refl, arith}
 use Rattle.module_ast.specs.Grammar.{type_section, import_section, global_section, element_section, code_section, data_section}
 use Rattle.wasm_decode.specs.Kinds.{func_type_form, import_form, global_form, element_form, segment_form, body_form}
 use Rattle.wasm_decode.proofs.BodyParts.{part_floats}
-use Rattle.wasm_decode.proofs.Clean.{part_clean, earlier_clean, func_type_clean, import_clean, global_clean, element_clean, segment_clean, body_clean}
+use Rattle.wasm_decode.proofs.Clean.{part_clean, earlier_clean, func_type_clean, import_clean, global_clean, element_clean, body_clean}
 use Rattle.wasm_decode.proofs.settle.first_float.Goals as goal
 
 pub returns-then-draft : goal.returns-then-draft

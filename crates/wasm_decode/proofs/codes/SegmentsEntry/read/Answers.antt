@@ -1,4 +1,4 @@
-use Rattle.std.proofs.Common.{arith, ◌≡◌, ℕ, List, ap, sym, subst, ◌∙◌, rules}
+use Rattle.std.proofs.Common.{arith, ℕ, List, subst, rules}
 use Rattle.leb_binary.proofs.Fronts.{one_unsigned}
 use Rattle.module_ast.specs.Grammar.{Both, Segment, Tree, IsU32, IsVec, IsByte, IsExpr}
 use Rattle.module_ast.proofs.Compose.{both_none_first, both_none_second, both_some}

@@ -1,6 +1,5 @@
-use Rattle.std.proofs.Common.{rules, ◌≡◌, ℕ, List, ap, arith, ◌∙◌}
+use Rattle.std.proofs.Common.{rules, ℕ, List, ap, arith, ◌∙◌}
 use Rattle.std.specs.Prelude.{map}
-use Rattle.leb_binary.proofs.Fronts.{one_unsigned}
 use Rattle.module_ast.specs.Grammar.{FuncType, NumberType, integer, Both, IsVec, IsValType}
 use Rattle.module_ast.specs.Profile.{is_floating}
 use Rattle.module_ast.proofs.Compose.{both_none_first, both_none_second, both_some, one_vec}
