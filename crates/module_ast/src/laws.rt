@@ -5,6 +5,7 @@ ghost use Rattle.module_ast.specs.Grammar.{IsModule};
 ghost use Rattle.module_ast.specs.Canonical.{module_bytes, without_customs};
 ghost use Rattle.module_ast.specs.Profile.{tree_of};
 ghost use Rattle.module_ast.specs.Fits.{Fits};
+ghost use Rattle.module_ast.specs.Laws.{ModulesAreUnique, ModulesHaveNoFloat, TreesWithoutFloatAreModules};
 ghost use Rattle.module_ast.specs.Shortest.{CanonicalBytesAreShortest};
 
 /// The canonical bytes of a module are in the grammar, and are that module without its custom sections.
@@ -15,4 +16,11 @@ pub fn canonical_bytes_are_spelled()
 /// No bytes of a module are fewer than its canonical bytes.
 pub fn canonical_bytes_are_shortest()
     ensures { CanonicalBytesAreShortest }
+{}
+
+/// A module of the grammar without floating node is one module of the program, and no module of the program has one.
+pub fn modules_are_trees()
+    ensures unique { ModulesAreUnique }
+    ensures whole { ModulesHaveNoFloat }
+    ensures all { TreesWithoutFloatAreModules }
 {}
