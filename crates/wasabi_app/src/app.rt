@@ -4,24 +4,27 @@ ghost use Rattle.std.specs.Prelude.{◌≡◌, ◌≢◌, ◌↔◌, ◌≤◌, 
 ghost use Rattle.outside_io.specs.Outside.{Rose, Unchanged};
 ghost use Rattle.instrument.specs.Nops.{IsNopChoice, narrow_file};
 ghost use Rattle.wasabi_app.specs.Words.{IsRefused, texts};
-ghost use Rattle.wasabi_app.specs.Ends.{Status, IsUnread, IsOtherForm, IsWritten, IsWrittenPart, DecidesMissing, DecidesTooLong, DecidesOtherForm, Completes};
+ghost use Rattle.wasabi_app.specs.Ends.{Status, IsUnread, IsMalformed, IsUnfitModule, IsOtherForm, IsWritten, IsWrittenPart, DecidesMissing, DecidesTooLong, DecidesMalformed, DecidesUnfit, DecidesOtherForm, Completes};
 ghost use Rattle.wasabi_app.specs.Reading.{line_of};
 ghost use Rattle.wasabi_app.specs.Stages.{Put, Made, Ended, seen};
 
-use crate::nop_file::read_nop_file;
 use crate::words::{Line, read_line};
-use instrument::nops::write_nops;
+use instrument::nops::{nops_of, write_nops};
+use module_ast::module::Limits;
 use outside_io::{ReadFault, Shelf, Sink, WriteFault};
 use std::alloc::Global;
 use std::thread::Threads;
+use wasm_decode::decode;
+use wasm_decode::fault::DecodeFault;
 
 // How many bytes a subject may have.
 const LONGEST_SUBJECT: u64 = 16_777_216;
 
 /// Runs the command `wasabi instrument SUBJECT --out F --hooks LIST` and answers its status, the first that applies:
 /// 2 where the words are of no command, 3 where the subject is missing or longer than 16,777,216 bytes, 4 where it
-/// can't be read, 17 where it is of a form not built yet, 5 where the output can't be written, and else 0. Want of
-/// memory, 14, may come in place of each but 2. Nothing is printed yet.
+/// can't be read, 6 where no module has its bytes (5.5.16), 7 where it is a module with a floating type or instruction
+/// or with a quantity above its narrow limit, 17 where it is a module of a form not built yet, 5 where the output can't
+/// be written, and else 0. Want of memory, 14, may come in place of each but 2. Nothing is printed yet.
 pub fn run_app<R: Threads + Sync, S: Shelf, K: Sink>(
     rt: &R,
     alloc: Global,
@@ -36,6 +39,8 @@ pub fn run_app<R: Threads + Sync, S: Shelf, K: Sink>(
     ensures unread { result ≡ 3 →
         IsUnread (texts words.now) (S.contents shelf.old) (S.read_faults shelf.old) (S.read_faults shelf.new) }
     ensures read_failed { result ≡ 4 → Rose (S.read_faults shelf.old) (S.read_faults shelf.new) }
+    ensures malformed { result ≡ 6 → IsMalformed (texts words.now) (S.contents shelf.old) }
+    ensures unfit { result ≡ 7 → IsUnfitModule (texts words.now) (S.contents shelf.old) }
     ensures other_form { result ≡ 17 → IsOtherForm (texts words.now) (S.contents shelf.old) }
     ensures write_failed { result ≡ 5 → Rose (S.write_faults shelf.old) (S.write_faults shelf.new) }
 
@@ -53,6 +58,8 @@ pub fn run_app<R: Threads + Sync, S: Shelf, K: Sink>(
     // Which status comes where contents are told.
     ensures missing { DecidesMissing (texts words.now) (S.contents shelf.old) result }
     ensures too_long { DecidesTooLong (texts words.now) (S.contents shelf.old) result }
+    ensures malformed_file { DecidesMalformed (texts words.now) (S.contents shelf.old) result }
+    ensures unfit_file { DecidesUnfit (texts words.now) (S.contents shelf.old) result }
     ensures another_form { DecidesOtherForm (texts words.now) (S.contents shelf.old) result }
     ensures complete { Completes (texts words.now) (S.contents shelf.old) result }
 {
@@ -82,7 +89,7 @@ fn instrument<S: Shelf>(alloc: Global, line: &Line<'_>, shelf: &mut S) -> u8
     }
 }
 
-// Instruments the subject's bytes and puts the output.
+// Decodes the subject's bytes, instruments the module and puts the output.
 fn instrument_bytes<S: Shelf>(alloc: Global, line: &Line<'_>, bytes: &[u8], shelf: &mut S) -> u8
     requires choice { IsNopChoice line.now.hooks }
     requires short { length bytes.now ≤ narrow_file }
@@ -92,10 +99,16 @@ fn instrument_bytes<S: Shelf>(alloc: Global, line: &Line<'_>, bytes: &[u8], shel
     ensures read_count { S.read_faults shelf.new ≡ S.read_faults shelf.old }
     ensures write_count { S.write_faults shelf.old ≤ S.write_faults shelf.new }
 {
-    let Some(file) = read_nop_file(bytes) else {
+    let module = match decode(alloc, bytes, &Limits::narrow()) {
+        Ok(module) => module,
+        Err(DecodeFault::Malformed { .. }) => return 6,
+        Err(DecodeFault::Float { .. } | DecodeFault::Limit { .. }) => return 7,
+        Err(DecodeFault::NoMemory) => return 14,
+    };
+    let Some(nops) = nops_of(&module) else {
         return 17;
     };
-    match write_nops(alloc, file.name, file.count, &line.hooks) {
+    match write_nops(alloc, nops.name, nops.count, &line.hooks) {
         Ok(output) => put(line.target, output.as_slice(), shelf),
         Err(_) => 14,
     }
