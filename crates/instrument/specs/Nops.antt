@@ -3,7 +3,7 @@ use Rattle.std.specs.Prelude.{◌≡◌, ℕ, ◌≤◌, ◌⊎◌, List, [], �
 use Rattle.module_ast.specs.declared.module.ExportKind.TheVariants.{Func}
 use Rattle.module_ast.specs.declared.module.Module.{Module}
 use Rattle.module_ast.specs.Tree.{done}
-use Rattle.module_ast.specs.Canonical.{module_bytes}
+use Rattle.module_ast.specs.Canonical.{module_bytes, without_customs}
 use Rattle.hook_select.specs.declared.GroupName.TheVariants.{Nop}
 pub use Rattle.rewrite.specs.Nops.{nops}
 use Rattle.hook_select.specs.declared.Hooks.{Hooks}
@@ -44,3 +44,11 @@ narrow_file = 16777216
 pub record IsNopModule (name : List ℕ) (count : ℕ) : Type 0 where
   pub text : IsUtf8 name
   pub short : length (module_bytes (nop_module name count)) ≤ narrow_file
+
+-- the module is of this form, custom sections aside
+abbrev pub IsNops : Module → (name : List ℕ) → (count : ℕ) → Type 0
+IsNops m name count = without_customs m ≡ nop_module name count
+
+-- it is so under no name and with no number of nops
+abbrev pub IsNoNops : Module → Type 0
+IsNoNops m = (name : List ℕ) (count : ℕ) → IsNops m name count → ⊥

@@ -1,19 +1,24 @@
 // Modules of one function of nops.
 
-ghost use Rattle.std.specs.Prelude.{◌≡◌, ◌≤◌, ◌<◌, ◌^◌, ◌++◌, ◌∷◌, [], length, IfOk, OnOk, IsTrue, true, ◌↔◌};
+ghost use Rattle.std.specs.Prelude.{◌≡◌, ◌≤◌, ◌<◌, ◌^◌, ◌++◌, ◌∷◌, [], length, ℕ, List, MatchOption, IfOk, OnOk, IsTrue, true, ◌↔◌};
 ghost use Rattle.leb_binary.specs.Shortest.{unsigned_bytes};
 ghost use Rattle.module_ast.specs.Grammar.{header};
+ghost use Rattle.module_ast.specs.Decoding.{Gram};
+ghost use Rattle.module_ast.specs.Profile.{IsWithin};
+ghost use Rattle.module_ast.specs.Limits.{narrow};
+ghost use Rattle.module_ast.specs.declared.module.Module.{Module};
 ghost use Rattle.module_ast.specs.Canonical.{body_bytes, export_bytes, func_type_bytes, import_bytes, module_bytes, section_bytes, sized_bytes, vec_bytes, vec_section};
 ghost use Rattle.module_ast.specs.declared.module.ExportKind.TheVariants.{Func};
 ghost use Rattle.hook_mono.specs.Needed.{Site};
 ghost use Rattle.rewrite.specs.Nops.{IsFirst, nop_keys, nops_rewritten};
-ghost use Rattle.instrument.specs.Nops.{nop_module, IsNopChoice, IsNopModule, narrow_file};
+ghost use Rattle.instrument.specs.Nops.{nop_module, IsNopChoice, IsNopModule, IsNops, IsNoNops, narrow_file};
 ghost use Rattle.instrument.specs.Parts.{nop_types, nop_imports};
 ghost use Rattle.instrument.specs.Output.{output_bytes};
 ghost use Rattle.instrument.specs.Accepted.{IsInstrumented};
 
 use hook_select::Hooks;
 use leb_binary::put_u32;
+use module_ast::module::Module;
 use rewrite::nops::put_nops;
 use std::alloc::{AllocError, Global};
 
@@ -153,6 +158,22 @@ fn hook_count(told: bool) -> u32
     if told { 1 } else { 0 }
 }
 
+/// The name and the number of nops of a module of one function of nops, which is exported under that name.
+#[derive(Clone, Copy, Debug)]
+pub struct Nops<'m> {
+    pub name: &'m str,
+    pub count: u32,
+}
+
+/// The name and the number of nops of a module of this form, custom sections aside; none where the module has another
+/// form. It goes once over the instructions of the body.
+pub fn nops_of(m: &Module) -> Option<Nops<'_>>
+    requires { length (module_bytes m.now) ≤ narrow_file }
+    ensures { MatchOption result (IsNoNops m.now) (λ n. IsNops m.now n.name.now n.count) }
+{
+    unreachable!()
+}
+
 /// The bytes of the module of `count` nops under `name` with the hooks of these groups: a valid module that does what
 /// the original does, and whose hook calls read as the original's events of these groups. An `AllocError` comes where
 /// memory ends.
@@ -165,7 +186,7 @@ pub fn write_nops(
     requires known { IsNopModule name.now count }
     requires choice { IsNopChoice hooks.now }
     ensures written { IfOk result (λ bytes. bytes.items ≡ output_bytes (nop_module name.now count) hooks.now) }
-    ensures instrumented { IfOk result (λ bytes. IsInstrumented (module_bytes (nop_module name.now count)) hooks.now bytes.items) }
+    ensures instrumented { IfOk result (λ bytes. (file : List ℕ) (m : Module) → Gram file m → IsWithin narrow m → IsNops m name.now count → IsInstrumented file hooks.now bytes.items) }
 {
     let told = is_told(hooks, count);
     let mut out = Vec::new(alloc);
