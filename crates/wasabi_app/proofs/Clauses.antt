@@ -14,7 +14,7 @@ put_status target output old new status (put_no_memory w) = no_memory
 
 -- of what was made
 made_status : (line : Line) (bytes : List ℕ) (old new : Seen) (status : ℕ) → Made line bytes old new status → Status status
-made_status line bytes old new status (malformed no u) = of_malformed
+made_status line bytes old new status (malformed none u) = of_malformed
 made_status line bytes old new status (unfit un u) = of_unfit
 made_status line bytes old new status (other_form form u) = of_other_form
 made_status line bytes old new status (make_no_memory u) = no_memory
@@ -38,7 +38,7 @@ put_late target output old new status (put_no_memory w) = inr (inr refl)
 -- the same, where something was to be made
 made_late : (line : Line) (bytes : List ℕ) (old new : Seen) (status : ℕ) → Made line bytes old new status
     → (status ≡ 6) ⊎ ((status ≡ 7) ⊎ ((status ≡ 17) ⊎ ((status ≡ 0) ⊎ ((status ≡ 5) ⊎ (status ≡ 14)))))
-made_late line bytes old new status (malformed no u) = inl refl
+made_late line bytes old new status (malformed none u) = inl refl
 made_late line bytes old new status (unfit un u) = inr (inl refl)
 made_late line bytes old new status (other_form form u) = inr (inr (inl refl))
 made_late line bytes old new status (make_no_memory u) = inr (inr (inr (inr (inr refl))))
@@ -67,7 +67,7 @@ why_read_failed line old new status _ e = absurd (omega arith)
 
 -- no module had the subject's bytes
 made_malformed : (line : Line) (bytes : List ℕ) (old new : Seen) (status : ℕ) → Made line bytes old new status → status ≡ 6 → IsNoModule bytes
-made_malformed line bytes old new status (malformed no u) e = no
+made_malformed line bytes old new status (malformed none u) e = none
 made_malformed line bytes old new status (made name count output _ f i p) e =
     let l = put_late line.target output old new status p in absurd (omega arith)
 made_malformed line bytes old new status _ e = absurd (omega arith)
@@ -140,7 +140,7 @@ record IsPut (words : List (List ℕ)) (old new : Seen) (status : ℕ) : Type 0 
 -- what was made is put, or all is as before
 made_put : (words : List (List ℕ)) (line : Line) (bytes : List ℕ) (old new : Seen) (status : ℕ) → IsSubject words old.contents line bytes
     → Made line bytes old new status → IsUntouched old new status ⊎ IsPut words old new status
-made_put words line bytes old new status s (malformed no u) =
+made_put words line bytes old new status s (malformed none u) =
     inl (record { same = u; not_done = λ e. omega arith; not_part = λ e. omega arith })
 made_put words line bytes old new status s (unfit un u) =
     inl (record { same = u; not_done = λ e. omega arith; not_part = λ e. omega arith })

@@ -49,7 +49,7 @@ put_after target output old mid new status u e (put_no_memory w) =
 -- what was made after such contents
 pub made_after : (line : Line) (bytes : List ℕ) (old mid new : Seen) (status : ℕ) → Unchanged old.contents mid.contents → mid.writes ≡ old.writes
     → Made line bytes mid new status → Made line bytes old new status
-made_after line bytes old mid new status u e (malformed no v) = malformed no (unchanged_both old.contents mid.contents new.contents u v)
+made_after line bytes old mid new status u e (malformed none v) = malformed none (unchanged_both old.contents mid.contents new.contents u v)
 made_after line bytes old mid new status u e (unfit un v) = unfit un (unchanged_both old.contents mid.contents new.contents u v)
 made_after line bytes old mid new status u e (other_form form v) =
     other_form form (unchanged_both old.contents mid.contents new.contents u v)

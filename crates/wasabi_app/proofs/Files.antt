@@ -28,12 +28,12 @@ none_above bound (n ∷ ns) value w (inr a) = none_above bound ns value w.1 a.1
 
 -- bytes of a module within the narrow limits are fit
 pub within_fit : (bytes : List ℕ) (m : Module) → Gram bytes m → IsWithin narrow m → IsUnfit bytes → ⊥
-within_fit bytes m g w (inl (section, t, kind, is, first, e)) =
+within_fit bytes m g w (inl (section, (t, kind, is, first, e))) =
     let same : t ≡ tree_of m = trees_one bytes t (tree_of m) is g in
     let plain : section_floats t kind ≡ false = subst (λ x. section_floats x kind ≡ false) (sym same) (modules_plain m kind) in
     let some : section_floats t kind ≡ true = first.0 in
     cc
-within_fit bytes m g w (inr (which, value, o, is, first)) =
+within_fit bytes m g w (inr (which, value, (o, is, first))) =
     let same : o ≡ m = one_module bytes o m is g in
     none_above (bound_of narrow which) (counts_of m which) value (w which)
     (subst (λ x. IsFirstAbove (bound_of narrow which) (counts_of x which) value) same first.0)

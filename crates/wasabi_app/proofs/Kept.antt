@@ -58,20 +58,20 @@ short_read line old new told bytes status e n g (read other _ h s m) =
 
 -- an unfit module is a module
 unfit_module : (bytes : List ℕ) → IsUnfit bytes → IsNoModule bytes → ⊥
-unfit_module bytes (inl (section, m, kind, is, first, e)) no = no m is
-unfit_module bytes (inr (which, value, m, is, first)) no = no (tree_of m) is
+unfit_module bytes (inl (section, (m, kind, is, first, e))) none = none m is
+unfit_module bytes (inr (which, value, (m, is, first))) none = none (tree_of m) is
 
 -- a subject that is no module
 made_malformed : (line : Line) (bytes : List ℕ) (old new : Seen) (status : ℕ) → IsNoModule bytes → Made line bytes old new status → IsKept status 6
-made_malformed line bytes old new status no (malformed n u) = inl refl
-made_malformed line bytes old new status no (unfit un u) = absurd (unfit_module bytes un no)
-made_malformed line bytes old new status no (other_form form u) = absurd (no (tree_of form.0) form.1)
-made_malformed line bytes old new status no (make_no_memory u) = inr (inr refl)
-made_malformed line bytes old new status no (made name count output _ f i p) = absurd (no (tree_of f.0) f.1)
+made_malformed line bytes old new status none (malformed n u) = inl refl
+made_malformed line bytes old new status none (unfit un u) = absurd (unfit_module bytes un none)
+made_malformed line bytes old new status none (other_form form u) = absurd (none (tree_of form.0) form.1)
+made_malformed line bytes old new status none (make_no_memory u) = inr (inr refl)
+made_malformed line bytes old new status none (made name count output _ f i p) = absurd (none (tree_of f.0) f.1)
 
 -- a subject that is unfit
 made_unfit : (line : Line) (bytes : List ℕ) (old new : Seen) (status : ℕ) → IsUnfit bytes → Made line bytes old new status → IsKept status 7
-made_unfit line bytes old new status un (malformed no u) = absurd (unfit_module bytes un no)
+made_unfit line bytes old new status un (malformed none u) = absurd (unfit_module bytes un none)
 made_unfit line bytes old new status un (unfit n u) = inl refl
 made_unfit line bytes old new status un (other_form form u) = absurd (within_fit bytes form.0 form.1 form.2 un)
 made_unfit line bytes old new status un (make_no_memory u) = inr (inr refl)
@@ -79,7 +79,7 @@ made_unfit line bytes old new status un (made name count output _ f i p) = absur
 
 -- a subject of another form
 made_other_form : (line : Line) (bytes : List ℕ) (old new : Seen) (status : ℕ) → IsOther bytes → Made line bytes old new status → IsKept status 17
-made_other_form line bytes old new status o (malformed no u) = absurd (no (tree_of o.0) o.1)
+made_other_form line bytes old new status o (malformed none u) = absurd (none (tree_of o.0) o.1)
 made_other_form line bytes old new status o (unfit un u) = absurd (within_fit bytes o.0 o.1 o.2 un)
 made_other_form line bytes old new status o (other_form form u) = inl refl
 made_other_form line bytes old new status o (make_no_memory u) = inr (inr refl)
@@ -94,7 +94,7 @@ put_kept target output old new status (put_no_memory w) = inr (inr (inr refl))
 -- a subject of nops
 made_complete : (line : Line) (bytes name : List ℕ) (count : ℕ) (old new : Seen) (status : ℕ) → IsNopFile bytes name count
     → Made line bytes old new status → (status ≡ 5) ⊎ IsKept status 0
-made_complete line bytes name count old new status f (malformed no u) = absurd (no (tree_of f.0) f.1)
+made_complete line bytes name count old new status f (malformed none u) = absurd (none (tree_of f.0) f.1)
 made_complete line bytes name count old new status f (unfit un u) = absurd (within_fit bytes f.0 f.1 f.2 un)
 made_complete line bytes name count old new status f (other_form form u) = absurd (nops_not_other bytes name count f form)
 made_complete line bytes name count old new status f (make_no_memory u) = inr (inr (inr refl))
@@ -115,9 +115,9 @@ decides_too_long words line old new status l m other told bytes e o n g =
 -- a subject that is no module is 6
 pub decides_malformed : (words : List (List ℕ)) (line : Line) (old new : Seen) (status : ℕ) → IsLine words line → Ended line old new status
     → DecidesMalformed words old.contents status
-decides_malformed words line old new status l m other told bytes e o n g no =
+decides_malformed words line old new status l m other told bytes e o n g none =
     elim (short_read line old new told bytes status e (rw (one_subject words line other l o) n) g m) [
-      | inl k ↦ made_malformed line bytes old new status no k
+      | inl k ↦ made_malformed line bytes old new status none k
       | inr k ↦ inr k
     ]
 

@@ -102,7 +102,8 @@ fn instrument_bytes<S: Shelf>(alloc: Global, line: &Line<'_>, bytes: &[u8], shel
     let module = match decode(alloc, bytes, &Limits::narrow()) {
         Ok(module) => module,
         Err(DecodeFault::Malformed { .. }) => return 6,
-        Err(DecodeFault::Float { .. } | DecodeFault::Limit { .. }) => return 7,
+        Err(DecodeFault::Float { .. }) => return 7,
+        Err(DecodeFault::Limit { .. }) => return 7,
         Err(DecodeFault::NoMemory) => return 14,
     };
     let Some(nops) = nops_of(&module) else {
