@@ -14,4 +14,4 @@ pub mod NopMatch
 pub mod NopQuiet
 pub mod NopCount
 pub mod NopSame
-pub mod NopAccepted
+pub mod NopCustoms
