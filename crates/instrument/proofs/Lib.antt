@@ -15,3 +15,5 @@ pub mod NopQuiet
 pub mod NopCount
 pub mod NopSame
 pub mod NopCustoms
+pub mod NopForm
+pub mod NopWhole
