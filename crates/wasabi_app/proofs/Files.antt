@@ -9,7 +9,7 @@ use Rattle.module_ast.specs.Limits.{narrow}
 use Rattle.module_ast.proofs.ModuleTrees.{modules_unique, modules_plain}
 use Rattle.module_ast.proofs.LeastModules.{module_least}
 use Rattle.code_decode.proofs.Modules.{trees_one, faults_have_no_tree}
-use Rattle.instrument.specs.Nops.{IsNops, IsNoNops, IsNopModule, nop_module, narrow_file}
+use Rattle.instrument.specs.Nops.{IsNops, nop_module, narrow_file}
 use Rattle.wasabi_app.specs.Files.{IsNoModule, IsUnfit, IsOther, IsNopFile}
 
 -- bytes with a fault are no module

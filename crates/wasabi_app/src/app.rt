@@ -1,18 +1,25 @@
 // A command, from its words to its status.
 
-ghost use Rattle.std.specs.Prelude.{◌≡◌, ◌≢◌, ◌↔◌, ◌≤◌, ◌⊎◌, length};
+ghost use Rattle.std.specs.Prelude.{◌≡◌, ◌≢◌, ◌↔◌, ◌≤◌, ◌⊎◌, ℕ, List, length, IfOk};
 ghost use Rattle.outside_io.specs.Outside.{Rose, Unchanged};
-ghost use Rattle.instrument.specs.Nops.{IsNopChoice, narrow_file};
+ghost use Rattle.module_ast.specs.declared.module.Module.{Module};
+ghost use Rattle.module_ast.specs.Canonical.{module_bytes};
+ghost use Rattle.module_ast.specs.Decoding.{Gram};
+ghost use Rattle.module_ast.specs.Profile.{IsWithin};
+ghost use Rattle.module_ast.specs.Limits.{narrow};
+ghost use Rattle.instrument.specs.Nops.{IsNopChoice, IsNops, narrow_file, nop_module};
+ghost use Rattle.instrument.specs.Accepted.{IsInstrumented};
 ghost use Rattle.wasabi_app.specs.Words.{IsRefused, texts};
 ghost use Rattle.wasabi_app.specs.Ends.{Status, IsUnread, IsMalformed, IsUnfitModule, IsOtherForm, IsWritten, IsWrittenPart, DecidesMissing, DecidesTooLong, DecidesMalformed, DecidesUnfit, DecidesOtherForm, Completes};
 ghost use Rattle.wasabi_app.specs.Reading.{line_of};
 ghost use Rattle.wasabi_app.specs.Stages.{Put, Made, Ended, seen};
 
 use crate::words::{Line, read_line};
+use hook_select::Hooks;
 use instrument::nops::{nops_of, write_nops};
 use module_ast::module::Limits;
 use outside_io::{ReadFault, Shelf, Sink, WriteFault};
-use std::alloc::Global;
+use std::alloc::{AllocError, Global};
 use std::thread::Threads;
 use wasm_decode::decode;
 use wasm_decode::fault::DecodeFault;
@@ -109,10 +116,19 @@ fn instrument_bytes<S: Shelf>(alloc: Global, line: &Line<'_>, bytes: &[u8], shel
     let Some(nops) = nops_of(&module) else {
         return 17;
     };
-    match write_nops(alloc, nops.name, nops.count, &line.hooks) {
+    match write(alloc, nops.name, nops.count, &line.hooks) {
         Ok(output) => put(line.target, output.as_slice(), shelf),
         Err(_) => 14,
     }
+}
+
+// The output for a file of so many nops under this name.
+fn write(alloc: Global, name: &str, count: u32, hooks: &Hooks) -> Result<Vec<u8>, AllocError>
+    requires short { length (module_bytes (nop_module name.now count)) ≤ narrow_file }
+    requires choice { IsNopChoice hooks.now }
+    ensures { IfOk result (λ output. (file : List ℕ) (m : Module) → Gram file m → IsWithin narrow m → IsNops m name.now count → IsInstrumented file hooks.now output.items) }
+{
+    write_nops(alloc, name, count, hooks)
 }
 
 // Puts the output under the target's name.
