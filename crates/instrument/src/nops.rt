@@ -206,7 +206,9 @@ fn exported_name(exports: &[Export]) -> Option<&str>
     ensures { MatchOption result ((name : List ℕ) → exports.now ≢ record { name = name; kind = Func; index = 0 } ∷ []) (λ name. exports.now ≡ record { name = name.now; kind = Func; index = 0 } ∷ []) }
 {
     match exports {
-        [export] if export.kind == ExportKind::Func && export.index == 0 => Some(export.name.as_str()),
+        [export] if export.kind == ExportKind::Func && export.index == 0 => Some(
+            export.name.as_str(),
+        ),
         _ => None,
     }
 }
