@@ -14,4 +14,6 @@ pub mod NopMatch
 pub mod NopQuiet
 pub mod NopCount
 pub mod NopSame
-pub mod NopAccepted
+pub mod NopCustoms
+pub mod NopForm
+pub mod NopWhole

@@ -21,6 +21,10 @@ use Rattle.instrument.specs.Nops.{nops, nop_module, IsNopChoice}
 use Rattle.instrument.specs.Output.{output}
 use Rattle.instrument.proofs.NopOutput.{told_nops, hooked_module, output_hooked, output_none}
 
+-- the module of nops with custom sections of these names
+abbrev pub dressed : (name : List ℕ) → (count : ℕ) → (customs : List (List ℕ)) → Module
+dressed name count customs = record (nop_module name count) { customs = customs }
+
 -- what holds of the outputs, by cases of what is selected
 pub each_output : (P : Module → Type 0) → ((name : List ℕ) (count : ℕ) → P (nop_module name count)) → ((name : List ℕ) (count : ℕ) → P (hooked_module name count)) → (name : List ℕ) (count : ℕ) (hooks : Hooks) → IsNopChoice hooks → P (output (nop_module name count) hooks)
 each_output P plain hooked name count hooks (inl e) =
@@ -54,27 +58,27 @@ one_body m t b et ef eb h (suc n) ty u d e1 e2 e3 = let f : None ≡ Some ty = s
 one_export : (e : Export) (i j : ℕ) (a b : Export) → i < j → slice_get (e ∷ []) i ≡ Some a → slice_get (e ∷ []) j ≡ Some b → a.name ≢ b.name
 one_export e i j a b l p q = let h = slice_get_within (e ∷ []) j b q in absurd (omega arith)
 
-nop_rules : (name : List ℕ) (count : ℕ) → KeepsRules (nop_module name count)
-nop_rules name count one_result = All-from_recursion (λ (t : FuncType). length t.results ≤ 1) (record { params = []; results = [] } ∷ []) (omega arith, tt)
-nop_rules name count import_types = All-from_recursion _ [] tt
-nop_rules name count function_types = All-from_recursion (λ (ty : ℕ). ty < 1) (0 ∷ []) (omega arith, tt)
-nop_rules name count one_table = omega arith
-nop_rules name count one_memory = omega arith
-nop_rules name count table_limits = All-from_recursion _ [] tt
-nop_rules name count memory_pages = All-from_recursion _ [] tt
-nop_rules name count memory_limits = All-from_recursion _ [] tt
-nop_rules name count init_constant = All-from_recursion _ [] tt
-nop_rules name count init_global = All-from_recursion _ [] tt
-nop_rules name count init_type = All-from_recursion _ [] tt
-nop_rules name count export_indices = All-from_recursion (λ (e : Export). e.index < count_of (nop_module name count) e.kind) (record { name = name; kind = Func; index = 0 } ∷ []) (omega arith, tt)
-nop_rules name count export_names = one_export (record { name = name; kind = Func; index = 0 })
-nop_rules name count start_index = tt
-nop_rules name count start_type = tt
-nop_rules name count element_tables = All-from_recursion _ [] tt
-nop_rules name count element_offsets = All-from_recursion _ [] tt
-nop_rules name count element_funcs = All-from_recursion _ [] tt
-nop_rules name count segment_memories = All-from_recursion _ [] tt
-nop_rules name count segment_offsets = All-from_recursion _ [] tt
+nop_rules : (name : List ℕ) (count : ℕ) (customs : List (List ℕ)) → KeepsRules (dressed name count customs)
+nop_rules name count customs one_result = All-from_recursion (λ (t : FuncType). length t.results ≤ 1) (record { params = []; results = [] } ∷ []) (omega arith, tt)
+nop_rules name count customs import_types = All-from_recursion _ [] tt
+nop_rules name count customs function_types = All-from_recursion (λ (ty : ℕ). ty < 1) (0 ∷ []) (omega arith, tt)
+nop_rules name count customs one_table = omega arith
+nop_rules name count customs one_memory = omega arith
+nop_rules name count customs table_limits = All-from_recursion _ [] tt
+nop_rules name count customs memory_pages = All-from_recursion _ [] tt
+nop_rules name count customs memory_limits = All-from_recursion _ [] tt
+nop_rules name count customs init_constant = All-from_recursion _ [] tt
+nop_rules name count customs init_global = All-from_recursion _ [] tt
+nop_rules name count customs init_type = All-from_recursion _ [] tt
+nop_rules name count customs export_indices = All-from_recursion (λ (e : Export). e.index < count_of (dressed name count customs) e.kind) (record { name = name; kind = Func; index = 0 } ∷ []) (omega arith, tt)
+nop_rules name count customs export_names = one_export (record { name = name; kind = Func; index = 0 })
+nop_rules name count customs start_index = tt
+nop_rules name count customs start_type = tt
+nop_rules name count customs element_tables = All-from_recursion _ [] tt
+nop_rules name count customs element_offsets = All-from_recursion _ [] tt
+nop_rules name count customs element_funcs = All-from_recursion _ [] tt
+nop_rules name count customs segment_memories = All-from_recursion _ [] tt
+nop_rules name count customs segment_offsets = All-from_recursion _ [] tt
 
 hooked_rules : (name : List ℕ) (count : ℕ) → KeepsRules (hooked_module name count)
 hooked_rules name count one_result = All-from_recursion (λ (t : FuncType). length t.results ≤ 1) (record { params = []; results = [] } ∷ record { params = I32 ∷ I32 ∷ []; results = [] } ∷ []) (omega arith, (omega arith, tt))
@@ -98,11 +102,14 @@ hooked_rules name count element_funcs = All-from_recursion _ [] tt
 hooked_rules name count segment_memories = All-from_recursion _ [] tt
 hooked_rules name count segment_offsets = All-from_recursion _ [] tt
 
-pub nop_valid : (name : List ℕ) (count : ℕ) → IsValid (nop_module name count)
-nop_valid name count = record {
-  rules = nop_rules name count;
-  bodies = one_body (nop_module name count) (record { params = []; results = [] }) (record { groups = []; code = nops count done }) refl refl refl (nops_typed _ count);
+pub dressed_valid : (name : List ℕ) (count : ℕ) (customs : List (List ℕ)) → IsValid (dressed name count customs)
+dressed_valid name count customs = record {
+  rules = nop_rules name count customs;
+  bodies = one_body (dressed name count customs) (record { params = []; results = [] }) (record { groups = []; code = nops count done }) refl refl refl (nops_typed _ count);
 }
+
+pub nop_valid : (name : List ℕ) (count : ℕ) → IsValid (nop_module name count)
+nop_valid name count = dressed_valid name count []
 
 pub hooked_valid : (name : List ℕ) (count : ℕ) → IsValid (hooked_module name count)
 hooked_valid name count = record {

@@ -1,9 +1,10 @@
 -- The modules of one function of nops, which is exported, and the sets of groups that they are told with.
-use Rattle.std.specs.Prelude.{◌≡◌, ℕ, ◌≤◌, ◌⊎◌, List, [], ◌∷◌, length, None, IsUtf8}
+use Rattle.std.specs.Prelude.{◌≡◌, ℕ, ◌≤◌, ◌<◌, ◌^◌, ◌⊎◌, List, [], ◌∷◌, length, None, All, IsUtf8}
 use Rattle.module_ast.specs.declared.module.ExportKind.TheVariants.{Func}
+use Rattle.module_ast.specs.declared.module.Body.{Body}
 use Rattle.module_ast.specs.declared.module.Module.{Module}
 use Rattle.module_ast.specs.Tree.{done}
-use Rattle.module_ast.specs.Canonical.{module_bytes}
+use Rattle.module_ast.specs.Canonical.{code_bytes, module_bytes, without_customs}
 use Rattle.hook_select.specs.declared.GroupName.TheVariants.{Nop}
 pub use Rattle.rewrite.specs.Nops.{nops}
 use Rattle.hook_select.specs.declared.Hooks.{Hooks}
@@ -44,3 +45,25 @@ narrow_file = 16777216
 pub record IsNopModule (name : List ℕ) (count : ℕ) : Type 0 where
   pub text : IsUtf8 name
   pub short : length (module_bytes (nop_module name count)) ≤ narrow_file
+
+-- the module is of this form, custom sections aside
+abbrev pub IsNops : Module → (name : List ℕ) → (count : ℕ) → Type 0
+IsNops m name count = without_customs m ≡ nop_module name count
+
+-- it is so under no name and with no number of nops
+abbrev pub IsNoNops : Module → Type 0
+IsNoNops m = (name : List ℕ) (count : ℕ) → IsNops m name count → ⊥
+
+-- the module has functions, their types and exports alone, custom sections aside
+pub record HasFunctionsAlone (m : Module) : Type 0 where
+  pub imports : m.imports ≡ []
+  pub tables : m.tables ≡ []
+  pub memories : m.memories ≡ []
+  pub globals : m.globals ≡ []
+  pub start : m.start ≡ None
+  pub elements : m.elements ≡ []
+  pub segments : m.segments ≡ []
+
+-- the code of each of these bodies has fewer than 2 ^ 32 bytes
+abbrev pub AreShort : List Body → Type 0
+AreShort bodies = All (λ (b : Body). length (code_bytes b.code) < 2 ^ 32) bodies

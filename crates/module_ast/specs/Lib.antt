@@ -18,4 +18,7 @@ pub mod Limits
 pub mod LiveMarks
 pub mod Decoding
 pub mod Memory
+pub mod Tokens
+pub mod Laws
+pub mod Shortest
 pub mod Fits

@@ -5,8 +5,22 @@ ghost use Rattle.module_ast.specs.Grammar.{IsModule};
 ghost use Rattle.module_ast.specs.Canonical.{module_bytes, without_customs};
 ghost use Rattle.module_ast.specs.Profile.{tree_of};
 ghost use Rattle.module_ast.specs.Fits.{Fits};
+ghost use Rattle.module_ast.specs.Shortest.{CanonicalBytesAreShortest};
+ghost use Rattle.module_ast.specs.Laws.{ModulesAreUnique, ModulesHaveNoFloat, TreesWithoutFloatAreModules};
 
 /// The canonical bytes of a module are in the grammar, and are that module without its custom sections.
 pub fn canonical_bytes_are_spelled()
     ensures { (m : Module) → Fits m → IsModule (module_bytes m) (tree_of (without_customs m)) }
+{}
+
+/// No bytes of a module are fewer than its canonical bytes.
+pub fn canonical_bytes_are_shortest()
+    ensures { CanonicalBytesAreShortest }
+{}
+
+/// A module of the grammar without floating node is one module of the program, and no module of the program has one.
+pub fn modules_are_trees()
+    ensures unique { ModulesAreUnique }
+    ensures whole { ModulesHaveNoFloat }
+    ensures all { TreesWithoutFloatAreModules }
 {}

@@ -2,8 +2,9 @@
 use Rattle.std.proofs.Common.{◌≡◌, ◌≢◌, ℕ, ◌⊎◌, inl, inr, List, refl, arith}
 use Rattle.outside_io.specs.Outside.{Rose, Unchanged, Wrote, WrotePart}
 use Rattle.wasabi_app.specs.Words.{Line, IsLine}
-use Rattle.wasabi_app.specs.Ends.{Status, done, unread, read_failed as reads_failed, write_failed, no_memory, other_form as of_other_form, IsSubject, HasOutput, IsUnread, IsOtherForm, IsWritten, IsWrittenPart}
-use Rattle.wasabi_app.specs.Stages.{Seen, Put, put_whole, put_failed, put_no_memory, Made, other_form, make_no_memory, made, Ended, missing, too_long, read_failed, read_no_memory, read}
+use Rattle.wasabi_app.specs.Files.{IsNoModule, IsUnfit, IsOther}
+use Rattle.wasabi_app.specs.Ends.{Status, done, unread, read_failed as reads_failed, write_failed, malformed as of_malformed, unfit as of_unfit, no_memory, other_form as of_other_form, IsSubject, HasOutput, IsUnread, IsMalformed, IsUnfitModule, IsOtherForm, IsWritten, IsWrittenPart}
+use Rattle.wasabi_app.specs.Stages.{Seen, Put, put_whole, put_failed, put_no_memory, Made, malformed, unfit, other_form, make_no_memory, made, Ended, missing, too_long, read_failed, read_no_memory, read}
 
 -- the statuses of each stage
 put_status : (target output : List ℕ) (old new : Seen) (status : ℕ) → Put target output old new status → Status status
@@ -13,6 +14,8 @@ put_status target output old new status (put_no_memory w) = no_memory
 
 -- of what was made
 made_status : (line : Line) (bytes : List ℕ) (old new : Seen) (status : ℕ) → Made line bytes old new status → Status status
+made_status line bytes old new status (malformed none u) = of_malformed
+made_status line bytes old new status (unfit un u) = of_unfit
 made_status line bytes old new status (other_form form u) = of_other_form
 made_status line bytes old new status (make_no_memory u) = no_memory
 made_status line bytes old new status (made name count output _ f i p) = put_status line.target output old new status p
@@ -34,10 +37,12 @@ put_late target output old new status (put_no_memory w) = inr (inr refl)
 
 -- the same, where something was to be made
 made_late : (line : Line) (bytes : List ℕ) (old new : Seen) (status : ℕ) → Made line bytes old new status
-    → (status ≡ 17) ⊎ ((status ≡ 0) ⊎ ((status ≡ 5) ⊎ (status ≡ 14)))
-made_late line bytes old new status (other_form form u) = inl refl
-made_late line bytes old new status (make_no_memory u) = inr (inr (inr refl))
-made_late line bytes old new status (made name count output _ f i p) = inr (put_late line.target output old new status p)
+    → (status ≡ 6) ⊎ ((status ≡ 7) ⊎ ((status ≡ 17) ⊎ ((status ≡ 0) ⊎ ((status ≡ 5) ⊎ (status ≡ 14)))))
+made_late line bytes old new status (malformed none u) = inl refl
+made_late line bytes old new status (unfit un u) = inr (inl refl)
+made_late line bytes old new status (other_form form u) = inr (inr (inl refl))
+made_late line bytes old new status (make_no_memory u) = inr (inr (inr (inr (inr refl))))
+made_late line bytes old new status (made name count output _ f i p) = inr (inr (inr (put_late line.target output old new status p)))
 
 -- Why a status came.
 
@@ -60,19 +65,46 @@ why_read_failed line old new status (read_failed r u) e = r
 why_read_failed line old new status (read bytes _ h s m) e = let l = made_late line bytes old new status m in absurd (omega arith)
 why_read_failed line old new status _ e = absurd (omega arith)
 
--- the subject was of another form
-made_other : (words : List (List ℕ)) (line : Line) (bytes : List ℕ) (old new : Seen) (status : ℕ) → IsSubject words old.contents line bytes
-    → Made line bytes old new status → status ≡ 17 → IsOtherForm words old.contents
-made_other words line bytes old new status s (other_form form u) e = (line, bytes, s, form)
-made_other words line bytes old new status s (make_no_memory u) e = absurd (omega arith)
-made_other words line bytes old new status s (made name count output _ f i p) e =
+-- no module had the subject's bytes
+made_malformed : (line : Line) (bytes : List ℕ) (old new : Seen) (status : ℕ) → Made line bytes old new status → status ≡ 6 → IsNoModule bytes
+made_malformed line bytes old new status (malformed none u) e = none
+made_malformed line bytes old new status (made name count output _ f i p) e =
     let l = put_late line.target output old new status p in absurd (omega arith)
+made_malformed line bytes old new status _ e = absurd (omega arith)
+
+-- so it was where the command ends with 6
+pub why_malformed : (words : List (List ℕ)) (line : Line) (old new : Seen) (status : ℕ) → IsLine words line → Ended line old new status → status ≡ 6
+    → IsMalformed words old.contents
+why_malformed words line old new status l (read bytes _ h s m) e =
+    (line, bytes, record { command = l; there = h; short = s }, made_malformed line bytes old new status m e)
+why_malformed words line old new status l _ e = absurd (omega arith)
+
+-- the subject was a module that is unfit
+made_unfit : (line : Line) (bytes : List ℕ) (old new : Seen) (status : ℕ) → Made line bytes old new status → status ≡ 7 → IsUnfit bytes
+made_unfit line bytes old new status (unfit un u) e = un
+made_unfit line bytes old new status (made name count output _ f i p) e =
+    let l = put_late line.target output old new status p in absurd (omega arith)
+made_unfit line bytes old new status _ e = absurd (omega arith)
+
+-- so it was where the command ends with 7
+pub why_unfit : (words : List (List ℕ)) (line : Line) (old new : Seen) (status : ℕ) → IsLine words line → Ended line old new status → status ≡ 7
+    → IsUnfitModule words old.contents
+why_unfit words line old new status l (read bytes _ h s m) e =
+    (line, bytes, record { command = l; there = h; short = s }, made_unfit line bytes old new status m e)
+why_unfit words line old new status l _ e = absurd (omega arith)
+
+-- the subject was of another form
+made_other : (line : Line) (bytes : List ℕ) (old new : Seen) (status : ℕ) → Made line bytes old new status → status ≡ 17 → IsOther bytes
+made_other line bytes old new status (other_form form u) e = form
+made_other line bytes old new status (made name count output _ f i p) e =
+    let l = put_late line.target output old new status p in absurd (omega arith)
+made_other line bytes old new status _ e = absurd (omega arith)
 
 -- so it was where the command ends with 17
 pub why_other_form : (words : List (List ℕ)) (line : Line) (old new : Seen) (status : ℕ) → IsLine words line → Ended line old new status → status ≡ 17
     → IsOtherForm words old.contents
 why_other_form words line old new status l (read bytes _ h s m) e =
-    made_other words line bytes old new status (record { command = l; there = h; short = s }) m e
+    (line, bytes, record { command = l; there = h; short = s }, made_other line bytes old new status m e)
 why_other_form words line old new status l _ e = absurd (omega arith)
 
 -- the outside failed at the write
@@ -108,6 +140,10 @@ record IsPut (words : List (List ℕ)) (old new : Seen) (status : ℕ) : Type 0 
 -- what was made is put, or all is as before
 made_put : (words : List (List ℕ)) (line : Line) (bytes : List ℕ) (old new : Seen) (status : ℕ) → IsSubject words old.contents line bytes
     → Made line bytes old new status → IsUntouched old new status ⊎ IsPut words old new status
+made_put words line bytes old new status s (malformed none u) =
+    inl (record { same = u; not_done = λ e. omega arith; not_part = λ e. omega arith })
+made_put words line bytes old new status s (unfit un u) =
+    inl (record { same = u; not_done = λ e. omega arith; not_part = λ e. omega arith })
 made_put words line bytes old new status s (other_form form u) =
     inl (record { same = u; not_done = λ e. omega arith; not_part = λ e. omega arith })
 made_put words line bytes old new status s (make_no_memory u) =

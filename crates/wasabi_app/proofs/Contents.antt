@@ -2,7 +2,7 @@
 use Rattle.std.proofs.Common.{◌≡◌, ℕ, List, refl, ◌∙◌, subst, inl, inr, Option, Some, None}
 use Rattle.outside_io.specs.Outside.{Contents, Unchanged, Wrote, WrotePart, Holds, IsMissing, IsTooLong}
 use Rattle.wasabi_app.specs.Words.{Line}
-use Rattle.wasabi_app.specs.Stages.{Seen, Put, put_whole, put_failed, put_no_memory, Made, other_form, make_no_memory, made}
+use Rattle.wasabi_app.specs.Stages.{Seen, Put, put_whole, put_failed, put_no_memory, Made, malformed, unfit, other_form, make_no_memory, made}
 
 -- what was not touched at all
 pub unchanged_same : (held : Option Contents) → Unchanged held held
@@ -49,6 +49,8 @@ put_after target output old mid new status u e (put_no_memory w) =
 -- what was made after such contents
 pub made_after : (line : Line) (bytes : List ℕ) (old mid new : Seen) (status : ℕ) → Unchanged old.contents mid.contents → mid.writes ≡ old.writes
     → Made line bytes mid new status → Made line bytes old new status
+made_after line bytes old mid new status u e (malformed none v) = malformed none (unchanged_both old.contents mid.contents new.contents u v)
+made_after line bytes old mid new status u e (unfit un v) = unfit un (unchanged_both old.contents mid.contents new.contents u v)
 made_after line bytes old mid new status u e (other_form form v) =
     other_form form (unchanged_both old.contents mid.contents new.contents u v)
 made_after line bytes old mid new status u e (make_no_memory v) = make_no_memory (unchanged_both old.contents mid.contents new.contents u v)

@@ -1,6 +1,4 @@
 pub mod Lines
-pub mod Sized
-pub mod Nops
 pub mod Files
 pub mod Contents
 pub mod Clauses

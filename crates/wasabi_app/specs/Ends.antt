@@ -4,7 +4,7 @@ use Rattle.outside_io.specs.Outside.{Contents, Wrote, WrotePart, Holds, IsMissin
 use Rattle.instrument.specs.Nops.{narrow_file}
 use Rattle.instrument.specs.Accepted.{IsInstrumented}
 use Rattle.wasabi_app.specs.Words.{Line, IsLine}
-use Rattle.wasabi_app.specs.NopFile.{IsNopFile, IsNoNopFile}
+use Rattle.wasabi_app.specs.Files.{IsNoModule, IsUnfit, IsOther, IsNopFile}
 
 -- the statuses
 pub data Status : ℕ → Type 0 where
@@ -13,6 +13,8 @@ pub data Status : ℕ → Type 0 where
   unread : Status 3
   read_failed : Status 4
   write_failed : Status 5
+  malformed : Status 6
+  unfit : Status 7
   no_memory : Status 14
   other_form : Status 17
 
@@ -28,9 +30,17 @@ IsUnread words held old new =
     (line : Line) × IsLine words line
     × (IsMissing held line.subject old new ⊎ ((long : ℕ) × IsTooLong held line.subject narrow_file long old new))
 
--- the subject's bytes are of no form that is taken
+-- no module has the subject's bytes
+abbrev pub IsMalformed : List (List ℕ) → (held : Option Contents) → Type 0
+IsMalformed words held = (line : Line) × (bytes : List ℕ) × IsSubject words held line bytes × IsNoModule bytes
+
+-- the subject's bytes are a module with a floating node, or above a narrow limit
+abbrev pub IsUnfitModule : List (List ℕ) → (held : Option Contents) → Type 0
+IsUnfitModule words held = (line : Line) × (bytes : List ℕ) × IsSubject words held line bytes × IsUnfit bytes
+
+-- the subject's bytes are a module of no form that is taken
 abbrev pub IsOtherForm : List (List ℕ) → (held : Option Contents) → Type 0
-IsOtherForm words held = (line : Line) × (bytes : List ℕ) × IsSubject words held line bytes × IsNoNopFile bytes
+IsOtherForm words held = (line : Line) × (bytes : List ℕ) × IsSubject words held line bytes × IsOther bytes
 
 -- the subject's bytes are those of a module of nops, and this is its output for the command's groups
 pub record HasOutput (words : List (List ℕ)) (held : Option Contents) (line : Line) (written : List ℕ) : Type 0 where
@@ -61,10 +71,20 @@ DecidesTooLong words held status =
     (line : Line) (told : Contents) (bytes : List ℕ) → held ≡ Some told → IsLine words line
     → told line.subject ≡ Some bytes → narrow_file < length bytes → IsKept status 3
 
+abbrev pub DecidesMalformed : List (List ℕ) → Option Contents → (status : ℕ) → Type 0
+DecidesMalformed words held status =
+    (line : Line) (told : Contents) (bytes : List ℕ) → held ≡ Some told → IsLine words line
+    → told line.subject ≡ Some bytes → length bytes ≤ narrow_file → IsNoModule bytes → IsKept status 6
+
+abbrev pub DecidesUnfit : List (List ℕ) → Option Contents → (status : ℕ) → Type 0
+DecidesUnfit words held status =
+    (line : Line) (told : Contents) (bytes : List ℕ) → held ≡ Some told → IsLine words line
+    → told line.subject ≡ Some bytes → length bytes ≤ narrow_file → IsUnfit bytes → IsKept status 7
+
 abbrev pub DecidesOtherForm : List (List ℕ) → Option Contents → (status : ℕ) → Type 0
 DecidesOtherForm words held status =
     (line : Line) (told : Contents) (bytes : List ℕ) → held ≡ Some told → IsLine words line
-    → told line.subject ≡ Some bytes → length bytes ≤ narrow_file → IsNoNopFile bytes → IsKept status 17
+    → told line.subject ≡ Some bytes → length bytes ≤ narrow_file → IsOther bytes → IsKept status 17
 
 -- 4 and 5 come only where a count of faults rose, so that without faults the status is 0, or want of memory
 abbrev pub Completes : List (List ℕ) → Option Contents → (status : ℕ) → Type 0

@@ -1,6 +1,5 @@
 pub mod Words
 pub mod Reading
-pub mod NopFile
-pub mod Sections
+pub mod Files
 pub mod Ends
 pub mod Stages

@@ -4,7 +4,7 @@ use Rattle.outside_io.specs.Outside.{Contents, Rose, Unchanged, Wrote, WrotePart
 use Rattle.instrument.specs.Nops.{narrow_file}
 use Rattle.instrument.specs.Accepted.{IsInstrumented}
 use Rattle.wasabi_app.specs.Words.{Line}
-use Rattle.wasabi_app.specs.NopFile.{IsNopFile, IsNoNopFile}
+use Rattle.wasabi_app.specs.Files.{IsNoModule, IsUnfit, IsOther, IsNopFile}
 
 -- a shelf: its contents, and its counts of faults
 pub record Seen : Type 0 where
@@ -21,9 +21,11 @@ pub data Put (target output : List ℕ) (old new : Seen) : ℕ → Type 0 where
   put_failed : Rose old.writes new.writes → WrotePart target output old.contents new.contents → Put target output old new 5
   put_no_memory : WrotePart target output old.contents new.contents → Put target output old new 14
 
--- the subject's bytes were to be instrumented, and the output to be put
+-- the subject's bytes were to be decoded and instrumented, and the output to be put
 pub data Made (line : Line) (bytes : List ℕ) (old new : Seen) : ℕ → Type 0 where
-  other_form : IsNoNopFile bytes → Unchanged old.contents new.contents → Made line bytes old new 17
+  malformed : IsNoModule bytes → Unchanged old.contents new.contents → Made line bytes old new 6
+  unfit : IsUnfit bytes → Unchanged old.contents new.contents → Made line bytes old new 7
+  other_form : IsOther bytes → Unchanged old.contents new.contents → Made line bytes old new 17
   make_no_memory : Unchanged old.contents new.contents → Made line bytes old new 14
   made : (name : List ℕ) (count : ℕ) (output : List ℕ) (status : ℕ) → IsNopFile bytes name count
       → IsInstrumented bytes line.hooks output → Put line.target output old new status → Made line bytes old new status

@@ -2,7 +2,6 @@
 #![tactic(auto)]
 
 mod app;
-mod nop_file;
 mod words;
 
 pub use app::run_app;

@@ -3,7 +3,7 @@ use Rattle.instrument.proofs.NopParts.{original_long, added, all_sections, nop_b
 use Rattle.instrument.specs.Nops.{nop_module}
 use Rattle.instrument.specs.Output.{output_bytes}
 use Rattle.instrument.proofs.NopOutput.{nop_site}
-use Rattle.instrument.proofs.NopAccepted.{nop_instrumented}
+use Rattle.instrument.proofs.NopCustoms.{nops_instrumented}
 use Rattle.instrument.proofs.nops.write_nops.Goals as goal
 
 pub put_export-requires : goal.put_export-requires
@@ -24,4 +24,4 @@ returns-clause-written c = written c
 
 pub returns-clause-instrumented : goal.returns-clause-instrumented
 returns-clause-instrumented c =
-    nop_instrumented c.args.name.now c.args.count c.args.hooks.now c.is_told-told.result c.put_code.new.out.items c.requires.known c.requires.choice c.is_told-told.ensures (written c)
+    nops_instrumented c.args.name.now c.args.count c.args.hooks.now c.is_told-told.result c.put_code.new.out.items c.requires.known c.requires.choice c.is_told-told.ensures (written c)

@@ -1,8 +1,8 @@
 -- No command has refused words; any other command ends as its stages say.
 use Rattle.wasabi_app.specs.Reading.{line_of}
 use Rattle.wasabi_app.specs.Ends.{bad_words}
-use Rattle.wasabi_app.proofs.Clauses.{ended_status, known_words, why_unread, why_read_failed, why_other_form, why_write_failed, is_written, is_part, is_out_of_memory, is_kept}
-use Rattle.wasabi_app.proofs.Kept.{decides_missing, decides_too_long, decides_other_form, completes}
+use Rattle.wasabi_app.proofs.Clauses.{ended_status, known_words, why_unread, why_read_failed, why_malformed, why_unfit, why_other_form, why_write_failed, is_written, is_part, is_out_of_memory, is_kept}
+use Rattle.wasabi_app.proofs.Kept.{decides_missing, decides_too_long, decides_malformed, decides_unfit, decides_other_form, completes}
 use Rattle.wasabi_app.proofs.app.run_app.Goals as goal
 
 pub returns-in_default-clause-status : goal.returns-in_default-clause-status
@@ -13,6 +13,12 @@ returns-in_default-clause-missing g c = λ line told e l n. absurd (c.in_default
 
 pub returns-in_default-clause-too_long : goal.returns-in_default-clause-too_long
 returns-in_default-clause-too_long g c = λ line told bytes e l n s. absurd (c.in_default.ensures.exact line l)
+
+pub returns-in_default-clause-malformed_file : goal.returns-in_default-clause-malformed_file
+returns-in_default-clause-malformed_file g c = λ line told bytes e l n s f. absurd (c.in_default.ensures.exact line l)
+
+pub returns-in_default-clause-unfit_file : goal.returns-in_default-clause-unfit_file
+returns-in_default-clause-unfit_file g c = λ line told bytes e l n s f. absurd (c.in_default.ensures.exact line l)
 
 pub returns-in_default-clause-another_form : goal.returns-in_default-clause-another_form
 returns-in_default-clause-another_form g c = λ line told bytes e l n s f. absurd (c.in_default.ensures.exact line l)
@@ -29,6 +35,12 @@ returns-clause-bad_words g c =
 
 pub returns-clause-unread : goal.returns-clause-unread
 returns-clause-unread g c = why_unread _ (line_of c.in-Some.line) _ _ _ c.in-Some.ensures.exact c.instrument.ensures.ended
+
+pub returns-clause-malformed : goal.returns-clause-malformed
+returns-clause-malformed g c = why_malformed _ (line_of c.in-Some.line) _ _ _ c.in-Some.ensures.exact c.instrument.ensures.ended
+
+pub returns-clause-unfit : goal.returns-clause-unfit
+returns-clause-unfit g c = why_unfit _ (line_of c.in-Some.line) _ _ _ c.in-Some.ensures.exact c.instrument.ensures.ended
 
 pub returns-clause-other_form : goal.returns-clause-other_form
 returns-clause-other_form g c = why_other_form _ (line_of c.in-Some.line) _ _ _ c.in-Some.ensures.exact c.instrument.ensures.ended
@@ -50,6 +62,12 @@ returns-clause-missing g c = decides_missing _ (line_of c.in-Some.line) _ _ _ c.
 
 pub returns-clause-too_long : goal.returns-clause-too_long
 returns-clause-too_long g c = decides_too_long _ (line_of c.in-Some.line) _ _ _ c.in-Some.ensures.exact c.instrument.ensures.ended
+
+pub returns-clause-malformed_file : goal.returns-clause-malformed_file
+returns-clause-malformed_file g c = decides_malformed _ (line_of c.in-Some.line) _ _ _ c.in-Some.ensures.exact c.instrument.ensures.ended
+
+pub returns-clause-unfit_file : goal.returns-clause-unfit_file
+returns-clause-unfit_file g c = decides_unfit _ (line_of c.in-Some.line) _ _ _ c.in-Some.ensures.exact c.instrument.ensures.ended
 
 pub returns-clause-another_form : goal.returns-clause-another_form
 returns-clause-another_form g c = decides_other_form _ (line_of c.in-Some.line) _ _ _ c.in-Some.ensures.exact c.instrument.ensures.ended

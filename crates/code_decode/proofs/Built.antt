@@ -1,0 +1,264 @@
+-- The bytes of a tree that is being built.
+use Rattle.std.proofs.Common.{◌≡◌, ℕ, List, [], ◌∷◌, ◌++◌, Some, None, refl, sym, ap, ◌∙◌, subst, append_assoc, append-nil}
+use Rattle.leb_binary.specs.Leb.{IsFront}
+use Rattle.module_ast.specs.Grammar as grammar
+use Rattle.module_ast.specs.Grammar.{IsBlockType, IsCode, IsExpr, IsPlain}
+use Rattle.module_ast.specs.Profile.{code, block_type}
+use Rattle.module_ast.specs.Plains.{instr_of}
+use Rattle.module_ast.specs.Seen.{before, onto, code_of, onto_push}
+use Rattle.module_ast.specs.Tree.{Tree, done, plain, Plain, unreachable, nop, br, br_if, br_table, return_, call, call_indirect, drop_, select, local_get, local_set, local_tee, global_get, global_set, load, store, memory_size, memory_grow, i32_const, i64_const, num}
+use Rattle.module_ast.specs.Tokens.{Token, IsToken, plain_t, else_t, end_t}
+use Rattle.module_ast.specs.declared.code.BlockType.{BlockType}
+use Rattle.module_ast.specs.declared.code.Instr.{Instr}
+use Rattle.module_ast.specs.declared.code.Instr.TheVariants.{Block, Loop, If, Unreachable, Nop, Br, BrIf, BrTable, Return, Call, CallIndirect, Drop, Select, LocalGet, LocalSet, LocalTee, GlobalGet, GlobalSet, Load, Store, MemorySize, MemoryGrow, I32Const, I64Const, Num}
+use Rattle.code_decode.specs.Opened.{closed}
+use Rattle.code_decode.specs.Steps.{IsKind}
+use Rattle.code_decode.specs.declared.token.Kind.{Kind}
+use Rattle.code_decode.specs.declared.token.Kind.TheVariants as kinds
+use Rattle.code_decode.specs.declared.expr.Frame.{Frame}
+
+-- one sequence behind another
+abbrev join : grammar.Tree → grammar.Tree → grammar.Tree
+join grammar.done t = t
+join (grammar.plain p k) t = grammar.plain p (join k t)
+join (grammar.floating k) t = grammar.floating (join k t)
+join (grammar.block ty b k) t = grammar.block ty b (join k t)
+join (grammar.loop ty b k) t = grammar.loop ty b (join k t)
+join (grammar.if_then ty b k) t = grammar.if_then ty b (join k t)
+join (grammar.if_else ty b o k) t = grammar.if_else ty b o (join k t)
+
+-- their bytes
+join_code : (s t : grammar.Tree) (a b : List ℕ) → IsCode a s → IsCode b t → IsCode (a ++ b) (join s t)
+join_code grammar.done t a b e h = subst (λ l. IsCode (l ++ b) t) (sym e) h
+join_code (grammar.plain p k) t a b (front, rest, q, i, j) h = (front, rest ++ b, ap (λ l. l ++ b) q ∙ append_assoc front rest b, i, join_code k t rest b j h)
+join_code (grammar.floating k) t a b (front, rest, q, i, j) h = (front, rest ++ b, ap (λ l. l ++ b) q ∙ append_assoc front rest b, i, join_code k t rest b j h)
+join_code (grammar.block ty c k) t a b (front, rest, q, i, j) h = (front, rest ++ b, ap (λ l. l ++ b) q ∙ append_assoc front rest b, i, join_code k t rest b j h)
+join_code (grammar.loop ty c k) t a b (front, rest, q, i, j) h = (front, rest ++ b, ap (λ l. l ++ b) q ∙ append_assoc front rest b, i, join_code k t rest b j h)
+join_code (grammar.if_then ty c k) t a b (front, rest, q, i, j) h = (front, rest ++ b, ap (λ l. l ++ b) q ∙ append_assoc front rest b, i, join_code k t rest b j h)
+join_code (grammar.if_else ty c o k) t a b (front, rest, q, i, j) h = (front, rest ++ b, ap (λ l. l ++ b) q ∙ append_assoc front rest b, i, join_code k t rest b j h)
+
+-- instructions before a sequence are one sequence behind another
+instrs_join : (is : List Instr) (t : Tree) → code (onto is t) ≡ join (code (code_of is)) (code t)
+instrs_join [] t = refl
+instrs_join (Block ty a ∷ is) t = ap (grammar.block (block_type ty) (code a)) (instrs_join is t)
+instrs_join (Loop ty a ∷ is) t = ap (grammar.loop (block_type ty) (code a)) (instrs_join is t)
+instrs_join (If ty a None ∷ is) t = ap (grammar.if_then (block_type ty) (code a)) (instrs_join is t)
+instrs_join (If ty a (Some e) ∷ is) t = ap (grammar.if_else (block_type ty) (code a) (code e)) (instrs_join is t)
+instrs_join (Unreachable ∷ is) t = ap (grammar.plain unreachable) (instrs_join is t)
+instrs_join (Nop ∷ is) t = ap (grammar.plain nop) (instrs_join is t)
+instrs_join (Br a ∷ is) t = ap (grammar.plain (br a)) (instrs_join is t)
+instrs_join (BrIf a ∷ is) t = ap (grammar.plain (br_if a)) (instrs_join is t)
+instrs_join (BrTable a b ∷ is) t = ap (grammar.plain (br_table a b)) (instrs_join is t)
+instrs_join (Return ∷ is) t = ap (grammar.plain return_) (instrs_join is t)
+instrs_join (Call a ∷ is) t = ap (grammar.plain (call a)) (instrs_join is t)
+instrs_join (CallIndirect a ∷ is) t = ap (grammar.plain (call_indirect a)) (instrs_join is t)
+instrs_join (Drop ∷ is) t = ap (grammar.plain drop_) (instrs_join is t)
+instrs_join (Select ∷ is) t = ap (grammar.plain select) (instrs_join is t)
+instrs_join (LocalGet a ∷ is) t = ap (grammar.plain (local_get a)) (instrs_join is t)
+instrs_join (LocalSet a ∷ is) t = ap (grammar.plain (local_set a)) (instrs_join is t)
+instrs_join (LocalTee a ∷ is) t = ap (grammar.plain (local_tee a)) (instrs_join is t)
+instrs_join (GlobalGet a ∷ is) t = ap (grammar.plain (global_get a)) (instrs_join is t)
+instrs_join (GlobalSet a ∷ is) t = ap (grammar.plain (global_set a)) (instrs_join is t)
+instrs_join (Load a b ∷ is) t = ap (grammar.plain (load a b)) (instrs_join is t)
+instrs_join (Store a b ∷ is) t = ap (grammar.plain (store a b)) (instrs_join is t)
+instrs_join (MemorySize ∷ is) t = ap (grammar.plain memory_size) (instrs_join is t)
+instrs_join (MemoryGrow ∷ is) t = ap (grammar.plain memory_grow) (instrs_join is t)
+instrs_join (I32Const a ∷ is) t = ap (grammar.plain (i32_const a)) (instrs_join is t)
+instrs_join (I64Const a ∷ is) t = ap (grammar.plain (i64_const a)) (instrs_join is t)
+instrs_join (Num a ∷ is) t = ap (grammar.plain (num a)) (instrs_join is t)
+
+-- a plain instruction before a sequence
+before_plain : (p : Plain) (t : Tree) → before (instr_of p) t ≡ plain p t
+before_plain unreachable t = refl
+before_plain nop t = refl
+before_plain (br a) t = refl
+before_plain (br_if a) t = refl
+before_plain (br_table a b) t = refl
+before_plain return_ t = refl
+before_plain (call a) t = refl
+before_plain (call_indirect a) t = refl
+before_plain drop_ t = refl
+before_plain select t = refl
+before_plain (local_get a) t = refl
+before_plain (local_set a) t = refl
+before_plain (local_tee a) t = refl
+before_plain (global_get a) t = refl
+before_plain (global_set a) t = refl
+before_plain (load a b) t = refl
+before_plain (store a b) t = refl
+before_plain memory_size t = refl
+before_plain memory_grow t = refl
+before_plain (i32_const a) t = refl
+before_plain (i64_const a) t = refl
+before_plain (num a) t = refl
+
+-- these instructions have these bytes
+abbrev AreInstrs : List ℕ → List Instr → Type 0
+AreInstrs bytes is = IsCode bytes (code (code_of is))
+
+-- one instruction more
+instrs_push : (is : List Instr) (i : Instr) (a b : List ℕ) → AreInstrs a is → IsCode b (code (before i done)) → AreInstrs (a ++ b) (is ++ i ∷ [])
+instrs_push is i a b h k =
+    subst (IsCode (a ++ b)) (sym (ap code (onto_push is i done) ∙ instrs_join is (before i done)))
+    (join_code (code (code_of is)) (code (before i done)) a b h k)
+
+-- the bytes of a plain instruction
+plain_code : (p : Plain) (i : Instr) (b : List ℕ) → i ≡ instr_of p → IsPlain b p → IsCode b (code (before i done))
+plain_code p i b e h = subst (λ t. IsCode b (code t)) (sym (ap (λ j. before j done) e ∙ before_plain p done)) (b, [], sym (append-nil b), h, refl)
+
+-- how a sequence begins that is open
+abbrev Begun : List ℕ → Kind → Type 0
+Begun b (kinds.Block ty) = (t : List ℕ) × (b ≡ 0x02 ∷ t) × IsBlockType t (block_type ty)
+Begun b (kinds.Loop ty) = (t : List ℕ) × (b ≡ 0x03 ∷ t) × IsBlockType t (block_type ty)
+Begun b (kinds.Then ty) = (t : List ℕ) × (b ≡ 0x04 ∷ t) × IsBlockType t (block_type ty)
+Begun b (kinds.Else ty c) = (t x : List ℕ) × (b ≡ 0x04 ∷ (t ++ (x ++ 0x05 ∷ []))) × IsBlockType t (block_type ty) × IsCode x (code c)
+
+-- a token that opens a sequence begins it
+begun : (k : Kind) (t : Token) (b : List ℕ) → IsKind k t → IsToken b t → Begun b k
+begun (kinds.Block ty) t b e h = subst (IsToken b) e h
+begun (kinds.Loop ty) t b e h = subst (IsToken b) e h
+begun (kinds.Then ty) t b e h = subst (IsToken b) e h
+begun (kinds.Else ty c) t b e h = absurd e
+
+-- with what stands in it and its end
+closed_code : (k : Kind) (c : Tree) (y x : List ℕ) → Begun y k → IsCode x (code c) → IsCode (y ++ (x ++ 0x0B ∷ [])) (code (before (closed k c) done))
+closed_code (kinds.Block ty) c y x (t, e, h) i =
+    (y ++ (x ++ 0x0B ∷ []), [], sym (append-nil (y ++ (x ++ 0x0B ∷ []))), (t ++ (x ++ 0x0B ∷ []), ap (λ l. l ++ (x ++ 0x0B ∷ [])) e, (t, x, sym (append_assoc t x (0x0B ∷ [])), h, i)), refl)
+closed_code (kinds.Loop ty) c y x (t, e, h) i =
+    (y ++ (x ++ 0x0B ∷ []), [], sym (append-nil (y ++ (x ++ 0x0B ∷ []))), (t ++ (x ++ 0x0B ∷ []), ap (λ l. l ++ (x ++ 0x0B ∷ [])) e, (t, x, sym (append_assoc t x (0x0B ∷ [])), h, i)), refl)
+closed_code (kinds.Then ty) c y x (t, e, h) i =
+    (y ++ (x ++ 0x0B ∷ []), [], sym (append-nil (y ++ (x ++ 0x0B ∷ []))), (t ++ (x ++ 0x0B ∷ []), ap (λ l. l ++ (x ++ 0x0B ∷ [])) e, (t, x, sym (append_assoc t x (0x0B ∷ [])), h, i)), refl)
+closed_code (kinds.Else ty a) c y x (t, z, e, h, j) i =
+    (y ++ (x ++ 0x0B ∷ []), [], sym (append-nil (y ++ (x ++ 0x0B ∷ []))), (t ++ ((z ++ 0x05 ∷ x) ++ 0x0B ∷ []), ap (λ l. l ++ (x ++ 0x0B ∷ [])) e ∙ simp append_assoc, (t, z ++ 0x05 ∷ x, sym (append_assoc t (z ++ 0x05 ∷ x) (0x0B ∷ [])), h, (z, x, refl, j, i))), refl)
+
+-- sequences that are open, the outermost first, with what stands before each
+Opened : List Frame → List ℕ → Type 0
+Opened [] b = b ≡ []
+Opened (f ∷ fs) b = (x y z : List ℕ) × (b ≡ x ++ (y ++ z)) × AreInstrs x f.before.items × Begun y f.kind × Opened fs z
+
+-- the innermost of them
+record Last (fs : List Frame) (f : Frame) (b : List ℕ) : Type 0 where
+  outer : List ℕ
+  front : List ℕ
+  begin : List ℕ
+  split : b ≡ outer ++ (front ++ begin)
+  is_outer : Opened fs outer
+  is_front : AreInstrs front f.before.items
+  is_begin : Begun begin f.kind
+
+-- one more
+opened_push : (fs : List Frame) (f : Frame) (b : List ℕ) → Last fs f b → Opened (fs ++ f ∷ []) b
+unfolding Opened
+opened_push [] f b l = (l.front, l.begin, [], l.split ∙ ap (λ o. o ++ (l.front ++ l.begin)) l.is_outer ∙ ap (λ e. l.front ++ e) (sym (append-nil l.begin)), l.is_front, l.is_begin, refl)
+opened_push (g ∷ fs) f b l =
+    let (x, y, z, e, h, i, j) = l.is_outer in (
+      x,
+      y,
+      z ++ (l.front ++ l.begin),
+      l.split ∙ ap (λ o. o ++ (l.front ++ l.begin)) e ∙ simp append_assoc,
+      h,
+      i,
+      opened_push fs f (z ++ (l.front ++ l.begin)) (record { outer = z; front = l.front; begin = l.begin; split = refl; is_outer = j; is_front = l.is_front; is_begin = l.is_begin }),
+    )
+
+-- and one less
+opened_pop : (fs : List Frame) (f : Frame) (b : List ℕ) → Opened (fs ++ f ∷ []) b → Last fs f b
+unfolding Opened
+opened_pop [] f b (x, y, z, e, h, i, j) = record { outer = []; front = x; begin = y; split = e ∙ ap (λ l. x ++ (y ++ l)) j ∙ ap (λ l. x ++ l) (append-nil y); is_outer = refl; is_front = h; is_begin = i }
+opened_pop (g ∷ fs) f b (x, y, z, e, h, i, j) =
+    let r = opened_pop fs f z j in
+    record {
+      outer = x ++ (y ++ r.outer);
+      front = r.front;
+      begin = r.begin;
+      split = e ∙ ap (λ l. x ++ (y ++ l)) r.split ∙ simp append_assoc;
+      is_outer = (x, y, r.outer, refl, h, i, r.is_outer);
+      is_front = r.is_front;
+      is_begin = r.is_begin;
+    }
+
+-- ---- what was read so far is what is open, and the instructions in it
+
+-- all bytes are what is open, the instructions in it, and what is left
+pub record Built (all : List ℕ) (fs : List Frame) (is : List Instr) (left : List ℕ) : Type 0 where
+  outer : List ℕ
+  inner : List ℕ
+  split : all ≡ outer ++ (inner ++ left)
+  is_outer : Opened fs outer
+  is_inner : AreInstrs inner is
+
+-- at the start
+pub built_nothing : (all : List ℕ) → Built all [] [] all
+unfolding Opened
+built_nothing all = record { outer = []; inner = []; split = refl; is_outer = refl; is_inner = refl }
+
+module _ (all left rest : List ℕ) (fs : List Frame) (is : List Instr) where
+  -- a plain instruction
+  pub built_plain : (p : Plain) (i : Instr) → i ≡ instr_of p → IsFront IsToken left rest (plain_t p) → Built all fs is left → Built all fs (is ++ i ∷ []) rest
+  built_plain p i e (t, q, h) b = record {
+    outer = b.outer;
+    inner = b.inner ++ t;
+    split = b.split ∙ ap (λ l. b.outer ++ (b.inner ++ l)) q ∙ simp append_assoc;
+    is_outer = b.is_outer;
+    is_inner = instrs_push is i b.inner t b.is_inner (plain_code p i t e h);
+  }
+
+  -- a sequence opens
+  pub built_open : (k : Kind) (t : Token) (f : Frame) → f.before.items ≡ is → f.kind ≡ k → IsKind k t → IsFront IsToken left rest t → Built all fs is left → Built all (fs ++ f ∷ []) [] rest
+  built_open k t f e d h (front, q, i) b = record {
+    outer = b.outer ++ (b.inner ++ front);
+    inner = [];
+    split = b.split ∙ ap (λ l. b.outer ++ (b.inner ++ l)) q ∙ simp append_assoc;
+    is_outer = opened_push fs f (b.outer ++ (b.inner ++ front)) (record {
+      outer = b.outer;
+      front = b.inner;
+      begin = front;
+      split = refl;
+      is_outer = b.is_outer;
+      is_front = subst (AreInstrs b.inner) (sym e) b.is_inner;
+      is_begin = subst (Begun front) (sym d) (begun k t front h i);
+    });
+    is_inner = refl;
+  }
+
+  -- `end` closes one
+  pub built_end : (f : Frame) (i : Instr) → i ≡ closed f.kind (code_of is) → IsFront IsToken left rest end_t → Built all (fs ++ f ∷ []) is left → Built all fs (f.before.items ++ i ∷ []) rest
+  built_end f i e (t, q, h) b =
+      let l = opened_pop fs f b.outer b.is_outer in
+      let c = closed_code f.kind (code_of is) l.begin b.inner l.is_begin b.is_inner in
+      record {
+        outer = l.outer;
+        inner = l.front ++ (l.begin ++ (b.inner ++ 0x0B ∷ []));
+        split = b.split ∙ ap (λ o. o ++ (b.inner ++ left)) l.split ∙ ap (λ r. (l.outer ++ (l.front ++ l.begin)) ++ (b.inner ++ r)) (q ∙ ap (λ t. t ++ rest) h) ∙ simp append_assoc;
+        is_outer = l.is_outer;
+        is_inner = instrs_push f.before.items i l.front (l.begin ++ (b.inner ++ 0x0B ∷ [])) l.is_front (subst (λ j. IsCode (l.begin ++ (b.inner ++ 0x0B ∷ [])) (code (before j done))) (sym e) c);
+      }
+
+  -- the first part of an `if` becomes a part of the open second one
+  pub built_else : (ty : BlockType) (f g : Frame) → f.kind ≡ kinds.Then ty → g.before.items ≡ f.before.items → g.kind ≡ kinds.Else ty (code_of is) → IsFront IsToken left rest else_t → Built all (fs ++ f ∷ []) is left → Built all (fs ++ g ∷ []) [] rest
+  built_else ty f g d e k (t, q, h) b =
+      let l = opened_pop fs f b.outer b.is_outer in
+      let n : Begun l.begin (kinds.Then ty) = subst (Begun l.begin) d l.is_begin in
+      let begin = l.begin ++ (b.inner ++ 0x05 ∷ []) in
+      let m : Begun begin (kinds.Else ty (code_of is)) = (n.0, b.inner, ap (λ o. o ++ (b.inner ++ 0x05 ∷ [])) n.1, n.2, b.is_inner) in
+      record {
+        outer = l.outer ++ (l.front ++ begin);
+        inner = [];
+        split = b.split ∙ ap (λ o. o ++ (b.inner ++ left)) l.split ∙ ap (λ r. (l.outer ++ (l.front ++ l.begin)) ++ (b.inner ++ r)) (q ∙ ap (λ t. t ++ rest) h) ∙ simp append_assoc;
+        is_outer = opened_push fs g (l.outer ++ (l.front ++ begin)) (record {
+          outer = l.outer;
+          front = l.front;
+          begin = begin;
+          split = refl;
+          is_outer = l.is_outer;
+          is_front = subst (AreInstrs l.front) (sym e) l.is_front;
+          is_begin = subst (Begun begin) (sym k) m;
+        });
+        is_inner = refl;
+      }
+
+-- the whole expression
+pub built_whole : (all left rest : List ℕ) (is : List Instr) → IsFront IsToken left rest end_t → Built all [] is left → IsFront IsExpr all rest (code (code_of is))
+unfolding Opened
+built_whole all left rest is (t, q, h) b =
+    (b.inner ++ 0x0B ∷ [], b.split ∙ ap (λ o. o ++ (b.inner ++ left)) b.is_outer ∙ ap (λ r. b.inner ++ r) (q ∙ ap (λ t. t ++ rest) h) ∙ sym (append_assoc b.inner (0x0B ∷ []) rest), (b.inner, refl, b.is_inner))

@@ -1,0 +1,14 @@
+pub mod Bodies
+pub mod Bridges
+pub mod Built
+pub mod Classes
+pub mod Faults
+pub mod Items
+pub mod Known
+pub mod Modules
+pub mod Operands
+pub mod Rest
+pub mod Stand
+pub mod State
+pub mod TypeBytes
+pub mod Unique

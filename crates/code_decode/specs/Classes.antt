@@ -1,0 +1,77 @@
+-- What the classes of opcodes stand for.
+use Rattle.std.specs.Prelude.{◌≡◌, ℕ, ◌≤◌}
+use Rattle.wasm_num.specs.declared.NumOp.{NumOp}
+use Rattle.module_ast.specs.declared.ops.LoadOp.{LoadOp}
+use Rattle.module_ast.specs.declared.ops.StoreOp.{StoreOp}
+use Rattle.module_ast.specs.declared.ops.MemArg.{MemArg}
+use Rattle.module_ast.specs.Opcodes.{num_opcode, load_opcode, store_opcode}
+use Rattle.module_ast.specs.Tree.{Plain, unreachable, nop, br, br_if, return_, call, drop_, select, local_get, local_set, local_tee, global_get, global_set, load, store, memory_size, memory_grow, num}
+use Rattle.module_ast.specs.Tokens as tokens
+use Rattle.module_ast.specs.Tokens.{Shape}
+use Rattle.code_decode.specs.declared.class.Bare.{Bare}
+use Rattle.code_decode.specs.declared.class.Bare.TheVariants as bares
+use Rattle.code_decode.specs.declared.class.Indexed.{Indexed}
+use Rattle.code_decode.specs.declared.class.Indexed.TheVariants as indexed
+use Rattle.code_decode.specs.declared.class.Access.{Access}
+use Rattle.code_decode.specs.declared.class.Access.TheVariants as accesses
+use Rattle.code_decode.specs.declared.class.Class.{Class}
+use Rattle.code_decode.specs.declared.class.Class.TheVariants as classes
+
+-- an opcode of a load, of a store, of a test or comparison, of arithmetic
+abbrev pub IsLoad : ℕ → Type 0
+IsLoad opcode = (op : LoadOp) × (load_opcode op ≡ opcode)
+
+abbrev pub IsStore : ℕ → Type 0
+IsStore opcode = (op : StoreOp) × (store_opcode op ≡ opcode)
+
+abbrev pub IsTest : ℕ → Type 0
+IsTest opcode = (op : NumOp) × (num_opcode op ≡ opcode) × (opcode ≤ 0x5A)
+
+abbrev pub IsArith : ℕ → Type 0
+IsArith opcode = (op : NumOp) × (num_opcode op ≡ opcode) × (0x67 ≤ opcode) × (opcode ≤ 0x8A)
+
+-- the instruction
+abbrev pub bare_plain : Bare → Plain
+bare_plain bares.Unreachable = unreachable
+bare_plain bares.Nop = nop
+bare_plain bares.Return = return_
+bare_plain bares.Drop = drop_
+bare_plain bares.Select = select
+bare_plain bares.MemorySize = memory_size
+bare_plain bares.MemoryGrow = memory_grow
+bare_plain (bares.Num op) = num op
+
+abbrev pub index_plain : Indexed → ℕ → Plain
+index_plain indexed.Br n = br n
+index_plain indexed.BrIf n = br_if n
+index_plain indexed.Call n = call n
+index_plain indexed.LocalGet n = local_get n
+index_plain indexed.LocalSet n = local_set n
+index_plain indexed.LocalTee n = local_tee n
+index_plain indexed.GlobalGet n = global_get n
+index_plain indexed.GlobalSet n = global_set n
+
+abbrev pub access_plain : Access → MemArg → Plain
+access_plain (accesses.Load op) m = load op m
+access_plain (accesses.Store op) m = store op m
+
+-- what follows the opcode
+abbrev pub shape_of : Class → Shape
+shape_of classes.Nothing = tokens.nothing
+shape_of (classes.Bare b) = tokens.bare (bare_plain b)
+shape_of (classes.Index i) = tokens.index (index_plain i)
+shape_of classes.Table = tokens.table
+shape_of classes.Indirect = tokens.indirect
+shape_of (classes.ZeroByte b) = tokens.zero_byte (bare_plain b)
+shape_of (classes.Arg a) = tokens.arg (access_plain a)
+shape_of classes.Small = tokens.small
+shape_of classes.Wide = tokens.wide
+shape_of classes.FloatBare = tokens.float_bare
+shape_of classes.FloatArg = tokens.float_arg
+shape_of classes.FloatFour = tokens.float_four
+shape_of classes.FloatEight = tokens.float_eight
+shape_of classes.Block = tokens.block_s
+shape_of classes.Loop = tokens.loop_s
+shape_of classes.If = tokens.if_s
+shape_of classes.Else = tokens.else_s
+shape_of classes.End = tokens.end_s

@@ -1,0 +1,14 @@
+-- What a sequence that is open becomes at its end.
+use Rattle.std.specs.Prelude.{Some, None}
+use Rattle.module_ast.specs.Tree.{Tree}
+use Rattle.module_ast.specs.declared.code.Instr.{Instr}
+use Rattle.module_ast.specs.declared.code.Instr.TheVariants as instrs
+use Rattle.code_decode.specs.declared.token.Kind.{Kind}
+use Rattle.code_decode.specs.declared.token.Kind.TheVariants as kinds
+
+-- the instruction of a block that closes behind this code
+abbrev pub closed : Kind → Tree → Instr
+closed (kinds.Block ty) code = instrs.Block ty code
+closed (kinds.Loop ty) code = instrs.Loop ty code
+closed (kinds.Then ty) code = instrs.If ty code None
+closed (kinds.Else ty then) code = instrs.If ty then (Some code)

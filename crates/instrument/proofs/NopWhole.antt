@@ -1,0 +1,62 @@
+-- The modules of nops, part by part.
+use Rattle.std.proofs.Common.{◌≡◌, ℕ, suc, ◌+◌, ◌^◌, ◌<◌, ◌≤◌, List, [], ◌∷◌, ◌++◌, refl, ap, arith, length, length-append, All}
+use Rattle.std.proofs.lemmas.List.Elements.{All-nil, All-cons}
+use Rattle.leb_binary.specs.Shortest.{unsigned_bytes}
+use Rattle.module_ast.specs.declared.module.Body.{Body}
+use Rattle.module_ast.specs.declared.module.ExportKind.TheVariants.{Func}
+use Rattle.module_ast.specs.declared.module.Module.{Module}
+use Rattle.module_ast.specs.Grammar.{header}
+use Rattle.module_ast.specs.Tree.{done}
+use Rattle.module_ast.specs.Canonical.{body_bytes, code_bytes, element_bytes, export_bytes, func_type_bytes, global_bytes, group_bytes, import_bytes, items_bytes, limits_bytes, module_bytes, segment_bytes, sized_bytes, start_bytes, table_bytes, vec_bytes, vec_section}
+use Rattle.instrument.specs.Nops.{nops, AreShort, HasFunctionsAlone, IsNops, narrow_file}
+
+-- a module of these parts is of this form
+pub nops_from : (m : Module) (name : List ℕ) (count : ℕ) → m.types ≡ record { params = []; results = [] } ∷ [] → m.funcs ≡ 0 ∷ [] → HasFunctionsAlone m
+    → m.exports ≡ record { name = name; kind = Func; index = 0 } ∷ [] → m.bodies ≡ record { groups = []; code = nops count done } ∷ [] → IsNops m name count
+nops_from m name count types funcs alone exports bodies =
+    cc (types, funcs, alone.imports, alone.tables, alone.memories, alone.globals, alone.start, alone.elements, alone.segments, exports, bodies)
+
+-- it has functions, their types and exports alone
+pub nops_alone : (m : Module) (name : List ℕ) (count : ℕ) → IsNops m name count → HasFunctionsAlone m
+nops_alone m name count h = record {
+  imports = ap (λ (x : Module). x.imports) h;
+  tables = ap (λ (x : Module). x.tables) h;
+  memories = ap (λ (x : Module). x.memories) h;
+  globals = ap (λ (x : Module). x.globals) h;
+  start = ap (λ (x : Module). x.start) h;
+  elements = ap (λ (x : Module). x.elements) h;
+  segments = ap (λ (x : Module). x.segments) h;
+}
+
+-- the code of a body is shorter than the body in its section
+body_longer : (b : Body) → length (code_bytes b.code) ≤ length (sized_bytes (body_bytes b))
+body_longer b =
+    omega (arith, length-append (unsigned_bytes (length (body_bytes b))) (body_bytes b), length-append (vec_bytes group_bytes b.groups) (code_bytes b.code ++ 0x0B ∷ []), length-append (code_bytes b.code) (0x0B ∷ []))
+
+bodies_short : (bs : List Body) → length (items_bytes (λ b. sized_bytes (body_bytes b)) bs) < 2 ^ 32 → AreShort bs
+bodies_short [] h = All-nil (λ (b : Body). length (code_bytes b.code) < 2 ^ 32)
+bodies_short (b ∷ bs) h =
+    let e = length-append (sized_bytes (body_bytes b)) (items_bytes (λ b. sized_bytes (body_bytes b)) bs) in
+    All-cons (λ (b : Body). length (code_bytes b.code) < 2 ^ 32) b bs (omega (arith, e, body_longer b)) (bodies_short bs (omega (arith, e)))
+
+-- the entries are shorter than their section
+section_longer : (bs : List Body) → length (items_bytes (λ b. sized_bytes (body_bytes b)) bs) ≤ length (vec_section 10 (λ b. sized_bytes (body_bytes b)) bs)
+section_longer [] = omega arith
+section_longer (b ∷ bs) =
+    let content = vec_bytes (λ b. sized_bytes (body_bytes b)) (b ∷ bs) in
+    omega (arith, length-append (unsigned_bytes (length content)) content, length-append (unsigned_bytes (suc (length bs))) (items_bytes (λ b. sized_bytes (body_bytes b)) (b ∷ bs)))
+
+-- one of twelve parts
+part_longer : (a b c d e f g h i j k l : List ℕ) → length k ≤ length (a ++ b ++ c ++ d ++ e ++ f ++ g ++ h ++ i ++ j ++ k ++ l)
+part_longer a b c d e f g h i j k l = simp length-append (omega arith)
+
+-- and the section is no longer than the module
+module_longer : (m : Module) → length (vec_section 10 (λ b. sized_bytes (body_bytes b)) m.bodies) ≤ length (module_bytes m)
+module_longer m =
+    part_longer header (vec_section 1 func_type_bytes m.types) (vec_section 2 import_bytes m.imports) (vec_section 3 unsigned_bytes m.funcs) (vec_section 4 table_bytes m.tables)
+    (vec_section 5 limits_bytes m.memories) (vec_section 6 global_bytes m.globals) (vec_section 7 export_bytes m.exports) (start_bytes m.start) (vec_section 9 element_bytes m.elements)
+    (vec_section 10 (λ b. sized_bytes (body_bytes b)) m.bodies) (vec_section 11 segment_bytes m.segments)
+
+-- so in a short module the code of each body is short
+pub short_bodies : (m : Module) → length (module_bytes m) ≤ narrow_file → AreShort m.bodies
+short_bodies m h = bodies_short m.bodies (omega (arith, section_longer m.bodies, module_longer m))

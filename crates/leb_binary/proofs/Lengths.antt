@@ -1,0 +1,78 @@
+-- How long the shortest spellings are: no signed spelling is shorter, and a greater unsigned number has no fewer bytes.
+use Rattle.std.proofs.Common.{◌≡◌, ℕ, zero, suc, ◌+◌, ◌-◌, ◌*◌, ◌/◌, ◌<◌, ◌≤◌, inl, inr, List, [], ◌∷◌, length, ap, arith}
+use Rattle.std.specs.Prelude.{ℤ, pos, negsuc, ◌+ℤ◌, ◌-ℤ◌, ◌*ℤ◌}
+use Rattle.std.proofs.lemmas.Bool.{cases_lt}
+use Rattle.std.proofs.lemmas.Int.{ints}
+use Rattle.leb_binary.specs.Leb.{IsSigned}
+use Rattle.leb_binary.specs.Shortest.{unsigned_bytes, signed_bytes}
+use Rattle.leb_binary.proofs.Written.{unsigned_last, unsigned_next, positive_last, positive_next, negative_last, negative_next}
+
+-- a spelling has a byte at least
+unsigned_one : (n : ℕ) → 1 ≤ length (unsigned_bytes n)
+unsigned_one n =
+    elim (cases_lt n 128) [
+      | inl l ↦ let r = ap length (unsigned_last n l) in omega arith
+      | inr g ↦ let r = ap length (unsigned_next n g) in omega arith
+    ]
+
+-- by as many steps as the greater number allows
+longer_by : (fuel n m : ℕ) → m ≤ fuel → n ≤ m → length (unsigned_bytes n) ≤ length (unsigned_bytes m)
+longer_by zero n m f h = let e : n ≡ m = omega arith in let k = ap (λ x. length (unsigned_bytes x)) e in omega arith
+longer_by (suc fuel) n m f h =
+    elim (cases_lt n 128) [
+      | inl l ↦ let r = ap length (unsigned_last n l) in let s = unsigned_one m in omega arith
+      | inr g ↦
+          let r = ap length (unsigned_next n g) in
+          let s = ap length (unsigned_next m (omega arith)) in
+          let k = longer_by fuel (n / 128) (m / 128) (omega arith) (omega arith) in
+          omega arith
+    ]
+
+-- a greater number has no fewer bytes
+pub longer_unsigned : (n m : ℕ) → n ≤ m → length (unsigned_bytes n) ≤ length (unsigned_bytes m)
+longer_unsigned n m h = longer_by m n m (omega arith) h
+
+-- one byte, without the sign and with it
+positive_end : (b : ℕ) (z : ℤ) → b < 64 → z ≡ pos b → length (signed_bytes z) ≤ 1
+positive_end b z l e = let r = ap length (positive_last b l) in let k = ap (λ x. length (signed_bytes x)) e in omega arith
+
+negative_end : (b : ℕ) (z : ℤ) → 64 ≤ b → b < 128 → z ≡ pos b -ℤ pos 128 → length (signed_bytes z) ≤ 1
+negative_end b z l g e =
+    let f : z ≡ negsuc (127 - b) = omega (arith, ints) in
+    let r = ap length (negative_last (127 - b) (omega arith)) in
+    let k = ap (λ x. length (signed_bytes x)) f in
+    omega arith
+
+-- one byte more, where the number without its lowest seven bits is `high`
+positive_step : (n high count : ℕ) → 1 ≤ count → n / 128 ≡ high → length (signed_bytes (pos high)) ≤ count → length (signed_bytes (pos n)) ≤ suc count
+positive_step n high count c q i =
+    elim (cases_lt n 64) [
+      | inl l ↦ let r = ap length (positive_last n l) in omega arith
+      | inr g ↦ let r = ap length (positive_next n g) in let k = ap (λ m. length (signed_bytes (pos m))) q in omega arith
+    ]
+
+negative_step : (n high count : ℕ) → 1 ≤ count → n / 128 ≡ high → length (signed_bytes (negsuc high)) ≤ count → length (signed_bytes (negsuc n)) ≤ suc count
+negative_step n high count c q i =
+    elim (cases_lt n 64) [
+      | inl l ↦ let r = ap length (negative_last n l) in omega arith
+      | inr g ↦ let r = ap length (negative_next n g) in let k = ap (λ m. length (signed_bytes (negsuc m))) q in omega arith
+    ]
+
+signed_step : (b count : ℕ) (z high : ℤ) → 1 ≤ count → 128 ≤ b → b < 256 → z ≡ pos 128 *ℤ high +ℤ pos (b - 128) → length (signed_bytes high) ≤ count → length (signed_bytes z) ≤ suc count
+signed_step b count z (pos h) c l g e i =
+    let f : z ≡ pos (128 * h + (b - 128)) = omega (arith, ints) in
+    let k = ap (λ x. length (signed_bytes x)) f in
+    let s = positive_step (128 * h + (b - 128)) h count c (omega arith) i in
+    omega arith
+signed_step b count z (negsuc h) c l g e i =
+    let f : z ≡ negsuc (128 * h + (255 - b)) = omega (arith, ints) in
+    let k = ap (λ x. length (signed_bytes x)) f in
+    let s = negative_step (128 * h + (255 - b)) h count c (omega arith) i in
+    omega arith
+
+-- no spelling is shorter
+pub shortest_signed : (size : ℕ) (bytes : List ℕ) (z : ℤ) → IsSigned size bytes z → length (signed_bytes z) ≤ length bytes
+shortest_signed size [] z p = absurd p
+shortest_signed size (b ∷ []) z (inl p) = positive_end b z p.0 p.2
+shortest_signed size (b ∷ []) z (inr p) = negative_end b z p.0 p.1 p.3
+shortest_signed size (b ∷ c ∷ bytes) z p = signed_step b (length (c ∷ bytes)) z p.3 (omega arith) p.0 p.1 p.5 (shortest_signed (size - 7) (c ∷ bytes) p.3 p.4)

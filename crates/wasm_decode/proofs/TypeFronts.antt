@@ -1,0 +1,87 @@
+-- Types: what stands at the front of bytes.
+use Rattle.std.proofs.Common.{◌≡◌, ◌≢◌, ℕ, List, [], ◌∷◌, ◌++◌, refl, sym, ap, ◌∙◌, subst, arith}
+use Rattle.std.specs.Prelude.{Option, Some, None, true, false}
+use Rattle.wasm_num.specs.declared.ValType.TheVariants.{I32, I64}
+use Rattle.leb_binary.specs.Leb.{IsFront, HasNoFront}
+use Rattle.leb_binary.specs.Reading.{IsByte}
+use Rattle.leb_binary.proofs.Fronts.{one_unsigned, front_one}
+use Rattle.module_ast.specs.declared.module.Range.{Range}
+use Rattle.module_ast.specs.Grammar as grammar
+use Rattle.module_ast.specs.Grammar.{NumberType, IsU32, Both, IsOp, IsValType, AreLimits, IsMemoryType, IsTableType, IsMutability}
+use Rattle.module_ast.proofs.Compose.{both_some, both_parts}
+use Rattle.wasm_decode.proofs.Ops.{op_parts, op_end, byte_is}
+
+pub val_type_none : (bytes rest : List ℕ) (b : ℕ) → IsFront IsByte bytes rest b → b ≢ 0x7F → b ≢ 0x7E → b ≢ 0x7D → b ≢ 0x7C → HasNoFront IsValType bytes
+val_type_none bytes rest b f h1 h2 h3 h4 after (grammar.integer I32) (front, e, i) = h1 (byte_is bytes rest after b 0x7F front f e i)
+val_type_none bytes rest b f h1 h2 h3 h4 after (grammar.integer I64) (front, e, i) = h2 (byte_is bytes rest after b 0x7E front f e i)
+val_type_none bytes rest b f h1 h2 h3 h4 after grammar.f32 (front, e, i) = h3 (byte_is bytes rest after b 0x7D front f e i)
+val_type_none bytes rest b f h1 h2 h3 h4 after grammar.f64 (front, e, i) = h4 (byte_is bytes rest after b 0x7C front f e i)
+
+pub val_type_end : (bytes : List ℕ) → HasNoFront IsByte bytes → HasNoFront IsValType bytes
+val_type_end bytes h after (grammar.integer I32) (front, e, i) = op_end 0x7F bytes after front [] h (omega arith) e i
+val_type_end bytes h after (grammar.integer I64) (front, e, i) = op_end 0x7E bytes after front [] h (omega arith) e i
+val_type_end bytes h after grammar.f32 (front, e, i) = op_end 0x7D bytes after front [] h (omega arith) e i
+val_type_end bytes h after grammar.f64 (front, e, i) = op_end 0x7C bytes after front [] h (omega arith) e i
+
+-- ---- limits: with no maximum, or with one
+
+pub limits_end : (bytes : List ℕ) → HasNoFront IsByte bytes → HasNoFront IsMemoryType bytes
+limits_end bytes h after r p = go r.min r.max p
+  where
+    go : (m : ℕ) (x : Option ℕ) → (front : List ℕ) × (bytes ≡ front ++ after) × AreLimits front m x → ⊥
+    go m None (front, e, (inner, k, i)) = op_end 0 bytes after front inner h (omega arith) e k
+    go m (Some n) (front, e, (inner, k, i)) = op_end 1 bytes after front inner h (omega arith) e k
+
+pub limits_other : (bytes mid : List ℕ) (b : ℕ) → IsFront IsByte bytes mid b → b ≢ 0 → b ≢ 1 → HasNoFront IsMemoryType bytes
+limits_other bytes mid b f h0 h1 after r p = go r.min r.max p
+  where
+    go : (m : ℕ) (x : Option ℕ) → (front : List ℕ) × (bytes ≡ front ++ after) × AreLimits front m x → ⊥
+    go m None (front, e, i) = h0 (op_parts 0 (λ rest. IsU32 rest m) bytes mid after front b f e i).opcode
+    go m (Some n) (front, e, i) = h1 (op_parts 1 (λ rest. Both IsU32 IsU32 rest m n) bytes mid after front b f e i).opcode
+
+pub limits_no_min : (bytes mid : List ℕ) (b : ℕ) → IsFront IsByte bytes mid b → HasNoFront IsU32 mid → HasNoFront IsMemoryType bytes
+limits_no_min bytes mid b f h after r p = go r.min r.max p
+  where
+    go : (m : ℕ) (x : Option ℕ) → (front : List ℕ) × (bytes ≡ front ++ after) × AreLimits front m x → ⊥
+    go m None (front, e, i) =
+        let r = op_parts 0 (λ rest. IsU32 rest m) bytes mid after front b f e i in
+        h after m (r.inner, r.behind, r.operands)
+    go m (Some n) (front, e, i) =
+        let r = op_parts 1 (λ rest. Both IsU32 IsU32 rest m n) bytes mid after front b f e i in
+        let t = both_parts IsU32 IsU32 mid after r.inner m n r.behind r.operands in
+        h t.0 m t.1
+
+pub limits_no_max : (bytes mid more : List ℕ) (b least : ℕ) → IsFront IsByte bytes mid b → b ≡ 1 → IsFront IsU32 mid more least → HasNoFront IsU32 more → HasNoFront IsMemoryType bytes
+limits_no_max bytes mid more b least f one m0 h after r p = go r.min r.max p
+  where
+    go : (m : ℕ) (x : Option ℕ) → (front : List ℕ) × (bytes ≡ front ++ after) × AreLimits front m x → ⊥
+    go m None (front, e, i) =
+        let z = (op_parts 0 (λ rest. IsU32 rest m) bytes mid after front b f e i).opcode in
+        absurd (omega (arith, z, one))
+    go m (Some n) (front, e, i) =
+        let r = op_parts 1 (λ rest. Both IsU32 IsU32 rest m n) bytes mid after front b f e i in
+        let t = both_parts IsU32 IsU32 mid after r.inner m n r.behind r.operands in
+        let s = front_one IsU32 (one_unsigned 32) mid more t.0 least m m0 t.1 in
+        h after n (subst (λ l. IsFront IsU32 l after n) (sym s.0) t.2)
+
+abbrev range_with : ℕ → Option ℕ → Range
+range_with m x = record { min = m; max = x }
+
+pub limits_without : (bytes mid rest : List ℕ) (b m : ℕ) → IsFront IsByte bytes mid b → b ≡ 0 → IsFront IsU32 mid rest m → IsFront IsMemoryType bytes rest (range_with m None)
+limits_without bytes mid rest b m (f, e, (p, q)) h (inner, k, i) =
+    (0 ∷ inner, e ∙ ap (λ l. l ++ mid) p ∙ ap (λ v. v ∷ mid) h ∙ ap (λ l. 0 ∷ l) k, (inner, refl, i))
+
+pub limits_with : (bytes mid more rest : List ℕ) (b m n : ℕ) → IsFront IsByte bytes mid b → b ≡ 1 → IsFront IsU32 mid more m → IsFront IsU32 more rest n → IsFront IsMemoryType bytes rest (range_with m (Some n))
+limits_with bytes mid more rest b m n (f, e, (p, q)) h g j =
+    let (inner, k, i) = both_some IsU32 IsU32 mid more rest m n g j in
+    (1 ∷ inner, e ∙ ap (λ l. l ++ mid) p ∙ ap (λ v. v ∷ mid) h ∙ ap (λ l. 1 ∷ l) k, (inner, refl, i))
+
+-- ---- mutability
+
+pub mutability_end : (bytes : List ℕ) → HasNoFront IsByte bytes → HasNoFront IsMutability bytes
+mutability_end bytes h after false (front, e, i) = op_end 0 bytes after front [] h (omega arith) e i
+mutability_end bytes h after true (front, e, i) = op_end 1 bytes after front [] h (omega arith) e i
+
+pub mutability_none : (bytes rest : List ℕ) (b : ℕ) → IsFront IsByte bytes rest b → b ≢ 0 → b ≢ 1 → HasNoFront IsMutability bytes
+mutability_none bytes rest b f h0 h1 after false (front, e, i) = h0 (byte_is bytes rest after b 0 front f e i)
+mutability_none bytes rest b f h0 h1 after true (front, e, i) = h1 (byte_is bytes rest after b 1 front f e i)

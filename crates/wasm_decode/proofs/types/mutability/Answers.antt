@@ -1,0 +1,6 @@
+use Rattle.wasm_decode.proofs.Errors.{on_err}
+use Rattle.wasm_decode.proofs.TypeFronts.{mutability_end}
+use Rattle.wasm_decode.proofs.types.mutability.Goals as goal
+
+pub returns-in_err-byte-clause-bad : goal.returns-in_err-byte-clause-bad
+returns-in_err-byte-clause-bad c = on_err c.from_residual.result (mutability_end _ c.in_err-byte.ensures.bad.1)

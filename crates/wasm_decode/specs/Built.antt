@@ -1,0 +1,13 @@
+-- What an expression that was read is of a tree.
+use Rattle.std.specs.Prelude.{◌≡◌, ℕ, ◌<◌, ◌≤◌, true}
+use Rattle.module_ast.specs.Tree.{Tree}
+use Rattle.module_ast.specs.Grammar as grammar
+use Rattle.module_ast.specs.Positions.{code_nesting}
+use Rattle.module_ast.specs.Profile.{code, code_floats}
+use Rattle.code_decode.specs.declared.expr.Expr.{Expr}
+use Rattle.code_decode.specs.declared.expr.Expr.TheVariants.{Built, Floats, Deep}
+
+abbrev pub IsBuilt : (bound : ℕ) → Expr → grammar.Tree → Type 0
+IsBuilt bound (Built c) t = (t ≡ code c) × (code_nesting c ≤ bound)
+IsBuilt bound Floats t = code_floats t ≡ true
+IsBuilt bound (Deep found) t = (c : Tree) × (t ≡ code c) × (found ≡ code_nesting c) × (bound < found)

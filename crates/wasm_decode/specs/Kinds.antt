@@ -1,0 +1,75 @@
+-- The kinds of items that a module has.
+use Rattle.std.specs.Prelude.{ℕ, Bool, false, ◌||◌}
+use Rattle.wasm_num.specs.declared.ValType.{ValType}
+use Rattle.module_ast.specs.declared.module.Range.{Range}
+use Rattle.module_ast.specs.declared.module.FuncType.{FuncType}
+use Rattle.module_ast.specs.declared.module.Import.{Import}
+use Rattle.module_ast.specs.declared.module.GlobalDef.{GlobalDef}
+use Rattle.module_ast.specs.declared.module.Export.{Export}
+use Rattle.module_ast.specs.declared.module.Element.{Element}
+use Rattle.module_ast.specs.declared.module.Segment.{Segment}
+use Rattle.module_ast.specs.declared.module.Group.{Group}
+use Rattle.module_ast.specs.declared.module.Body.{Body}
+use Rattle.module_ast.specs.Tree.{done}
+use Rattle.module_ast.specs.Grammar as grammar
+use Rattle.module_ast.specs.Positions.{code_nesting}
+use Rattle.module_ast.specs.Profile.{is_floating, some_in, item_floats, code_floats, func_type, import_of, global, export, element, segment, group, body}
+use Rattle.wasm_decode.specs.Forms.{Form}
+
+-- items without code
+abbrev pub flat : {T G : Type 0} → (G → Bool) → (T → G) → Form T G
+flat floats view = record { floats = floats; view = view; nests = λ x. 0; blank = λ x. x }
+
+abbrev pub val_form : Form ValType grammar.NumberType
+val_form = flat is_floating grammar.integer
+
+abbrev pub index_form : Form ℕ ℕ
+index_form = flat (λ x. false) (λ x. x)
+
+abbrev pub range_form : Form Range Range
+range_form = flat (λ r. false) (λ r. r)
+
+abbrev pub group_form : Form Group grammar.Group
+group_form = flat (λ (g : grammar.Group). is_floating g.ty) group
+
+abbrev pub func_type_form : Form FuncType grammar.FuncType
+func_type_form = flat (λ (t : grammar.FuncType). some_in is_floating t.params || some_in is_floating t.results) func_type
+
+abbrev pub import_form : Form Import grammar.Import
+import_form = flat (λ (i : grammar.Import). item_floats i.item) import_of
+
+abbrev pub export_form : Form Export grammar.Export
+export_form = flat (λ e. false) export
+
+-- items with code
+abbrev pub global_form : Form GlobalDef grammar.GlobalDef
+global_form = record {
+  floats = λ g. is_floating g.ty.ty || code_floats g.init;
+  view = global;
+  nests = λ g. code_nesting g.init;
+  blank = λ g. record g { init = done };
+}
+
+abbrev pub element_form : Form Element grammar.Element
+element_form = record {
+  floats = λ e. code_floats e.offset;
+  view = element;
+  nests = λ e. code_nesting e.offset;
+  blank = λ e. record e { offset = done };
+}
+
+abbrev pub segment_form : Form Segment grammar.Segment
+segment_form = record {
+  floats = λ d. code_floats d.offset;
+  view = segment;
+  nests = λ d. code_nesting d.offset;
+  blank = λ d. record d { offset = done };
+}
+
+abbrev pub body_form : Form Body grammar.Body
+body_form = record {
+  floats = λ b. some_in (λ (g : grammar.Group). is_floating g.ty) b.groups || code_floats b.code;
+  view = body;
+  nests = λ b. code_nesting b.code;
+  blank = λ b. record b { code = done };
+}

@@ -1,0 +1,10 @@
+pub mod Built
+pub mod Counts
+pub mod Drafts
+pub mod Files
+pub mod Forms
+pub mod Kinds
+pub mod Makes
+pub mod Parts
+pub mod Settled
+pub mod Laws

@@ -1,0 +1,176 @@
+// Items with code: globals and segments.
+
+ghost use Rattle.std.specs.Prelude.{◌≡◌, ℕ, true, MatchOption, IfOk, IsErrOf};
+ghost use Rattle.leb_binary.specs.Leb.{IsFront, HasNoFront};
+ghost use Rattle.module_ast.specs.Grammar as grammar;
+ghost use Rattle.module_ast.specs.Grammar.{AreItems, IsVec, IsByte, IsGlobal, IsElement, IsSegment};
+ghost use Rattle.module_ast.specs.Profile as profile;
+ghost use Rattle.module_ast.specs.Profile.{is_floating};
+ghost use Rattle.wasm_decode.specs.Built.{IsBuilt};
+ghost use Rattle.wasm_decode.specs.Kinds.{global_form, element_form, segment_form};
+ghost use Rattle.wasm_decode.specs.Parts.{IsPiece};
+ghost use Rattle.wasm_decode.specs.Makes.{global_by, element_by, segment_by};
+ghost use Rattle.code_decode.proofs.Items.{one_global, one_element, one_segment};
+
+use crate::part::{Entry, Piece, read_vec};
+use crate::types::{Indices, global_type};
+use code_decode::expr::{Expr, read_expr};
+use code_decode::fault::Fault;
+use leb_binary::Cursor;
+use module_ast::code::Code;
+use module_ast::module::{Element, GlobalDef, GlobalType, Segment};
+use module_ast::seq::Seq;
+use std::alloc::{AllocError, Global};
+
+// A global of its parts.
+fn global(alloc: Global, ty: Option<GlobalType>, init: Expr) -> Piece<GlobalDef>
+    ensures { (bound : ℕ) (g : grammar.GlobalType) (t : grammar.Tree) → MatchOption ty (is_floating g.ty ≡ true) (λ x. g ≡ profile.global_type x) → IsBuilt bound init t → IsPiece global_form bound result (global_by g t) }
+{
+    let Some(ty) = ty else {
+        return Piece::Floats;
+    };
+    match init {
+        Expr::Built(init) => Piece::Whole(GlobalDef { ty, init }),
+        Expr::Floats => Piece::Floats,
+        Expr::Deep { found } => {
+            let init = Code::new(alloc);
+            Piece::Deep(GlobalDef { ty, init }, found)
+        }
+    }
+}
+
+/// Globals (5.5.9).
+pub struct Globals;
+
+impl Entry for Globals {
+    type Value = GlobalDef;
+
+    ghost Shape = { grammar.GlobalDef };
+
+    ghost is = { IsGlobal };
+
+    ghost form = { global_form };
+
+    fn read(alloc: Global, cursor: &mut Cursor, nesting: u32) -> Result<Piece<GlobalDef>, Fault> {
+        let ty = global_type(cursor)?;
+        let init = read_expr(alloc, cursor, nesting)?;
+        Ok(global(alloc, ty, init))
+    }
+
+    ghost one = { one_global };
+}
+
+// An element segment of its parts.
+fn element(alloc: Global, table: u32, offset: Expr, funcs: Seq<u32>) -> Piece<Element>
+    ensures { (bound : ℕ) (t : grammar.Tree) → IsBuilt bound offset t → IsPiece element_form bound result (element_by table t funcs) }
+{
+    match offset {
+        Expr::Built(offset) => Piece::Whole(Element {
+            table,
+            offset,
+            funcs,
+        }),
+        Expr::Floats => Piece::Floats,
+        Expr::Deep { found } => {
+            let offset = Code::new(alloc);
+            Piece::Deep(
+                Element {
+                    table,
+                    offset,
+                    funcs,
+                },
+                found,
+            )
+        }
+    }
+}
+
+/// Element segments (5.5.12).
+pub struct Elements;
+
+impl Entry for Elements {
+    type Value = Element;
+
+    ghost Shape = { grammar.Element };
+
+    ghost is = { IsElement };
+
+    ghost form = { element_form };
+
+    fn read(alloc: Global, cursor: &mut Cursor, nesting: u32) -> Result<Piece<Element>, Fault> {
+        let table = cursor.read_u32()?;
+        let offset = read_expr(alloc, cursor, nesting)?;
+        let funcs = read_vec::<Indices>(alloc, cursor, nesting)?;
+        let funcs = Seq::from_vec(funcs.items);
+        Ok(element(alloc, table, offset, funcs))
+    }
+
+    ghost one = { one_element };
+}
+
+// The bytes of a slice, which are items of a vector.
+fn copied(alloc: Global, bytes: &[u8]) -> Result<Vec<u8>, AllocError>
+    ensures ok { IfOk result (λ v. (v.items ≡ bytes.now) × AreItems IsByte bytes.now bytes.now) }
+{
+    let copied = bytes.to_vec(alloc)?;
+    Ok(copied)
+}
+
+// A vector of bytes, copied.
+fn byte_vec(alloc: Global, cursor: &mut Cursor) -> Result<Vec<u8>, Fault>
+    ensures ok { IfOk result (λ v. IsFront (IsVec IsByte) cursor.old.left cursor.new.left v.items) }
+    ensures malformed { IsErrOf result Fault.Malformed → HasNoFront (IsVec IsByte) cursor.old.left }
+{
+    let count = cursor.read_u32()?;
+    let taken = cursor.take(count)?;
+    let bytes = copied(alloc, taken)?;
+    Ok(bytes)
+}
+
+// A data segment of its parts.
+fn segment(alloc: Global, memory: u32, offset: Expr, bytes: Seq<u8>) -> Piece<Segment>
+    ensures { (bound : ℕ) (t : grammar.Tree) → IsBuilt bound offset t → IsPiece segment_form bound result (segment_by memory t bytes) }
+{
+    match offset {
+        Expr::Built(offset) => Piece::Whole(Segment {
+            memory,
+            offset,
+            bytes,
+        }),
+        Expr::Floats => Piece::Floats,
+        Expr::Deep { found } => {
+            let offset = Code::new(alloc);
+            Piece::Deep(
+                Segment {
+                    memory,
+                    offset,
+                    bytes,
+                },
+                found,
+            )
+        }
+    }
+}
+
+/// Data segments (5.5.14).
+pub struct Segments;
+
+impl Entry for Segments {
+    type Value = Segment;
+
+    ghost Shape = { grammar.Segment };
+
+    ghost is = { IsSegment };
+
+    ghost form = { segment_form };
+
+    fn read(alloc: Global, cursor: &mut Cursor, nesting: u32) -> Result<Piece<Segment>, Fault> {
+        let memory = cursor.read_u32()?;
+        let offset = read_expr(alloc, cursor, nesting)?;
+        let bytes = byte_vec(alloc, cursor)?;
+        let bytes = Seq::from_vec(bytes);
+        Ok(segment(alloc, memory, offset, bytes))
+    }
+
+    ghost one = { one_segment };
+}

@@ -1,0 +1,54 @@
+// Whole modules from bytes.
+#![tactic(auto)]
+
+ghost use Rattle.std.specs.Prelude.{◌≡◌, ◌≤◌, ℕ, length, IfOk, IsErrOf};
+ghost use Rattle.module_ast.specs.Grammar.{IsFault};
+ghost use Rattle.module_ast.specs.Profile.{IsWithin};
+ghost use Rattle.module_ast.specs.Decoding.{Gram, FileFloats, FileExceeds};
+ghost use Rattle.module_ast.specs.declared.module.Which.{Which};
+ghost use Rattle.wasm_decode.specs.declared.fault.DecodeFault.{DecodeFault};
+
+pub mod bodies;
+pub mod codes;
+pub mod draft;
+pub mod fault;
+pub mod files;
+pub mod laws;
+pub mod limits;
+pub mod names;
+pub mod part;
+pub mod sections;
+pub mod settle;
+#[cfg(test)]
+mod tests;
+pub mod types;
+
+use crate::fault::DecodeFault;
+use crate::files::{behind_header, read_sections};
+use crate::settle::settle;
+use leb_binary::Cursor;
+use module_ast::module::{Limits, Module};
+use std::alloc::Global;
+
+/// The module with these bytes (5.5.16), of at most 268,435,456.
+///
+/// The limits are those of the counted quantities, with nesting at most 1,002. It is linear in the bytes, and nothing is
+/// reserved by a number that they state. `DecodeFault` says when each error comes.
+pub fn decode(alloc: Global, bytes: &[u8], limits: &Limits) -> Result<Module, DecodeFault>
+    requires short { length bytes.now ≤ 268435456 }
+    requires nesting { limits.now.nesting ≤ 1002 }
+    ensures ok { IfOk result (λ m. Gram bytes.now m × IsWithin limits.now m) }
+    ensures malformed { (n : ℕ) → IsErrOf result (DecodeFault.Malformed n) → IsFault bytes.now n }
+    ensures float { (n : ℕ) → IsErrOf result (DecodeFault.Float n) → FileFloats bytes.now n }
+    ensures limit { (which : Which) (value : ℕ) → IsErrOf result (DecodeFault.Limit which value) → FileExceeds limits.now bytes.now which value }
+{
+    let Some(rest) = behind_header(bytes) else {
+        return Err(DecodeFault::Malformed { section: 256 });
+    };
+    let mut cursor = Cursor::new(rest);
+    let draft = read_sections(alloc, &mut cursor, limits.nesting)?;
+    if draft.funcs.count != draft.bodies.count {
+        return Err(DecodeFault::Malformed { section: 257 });
+    }
+    settle(draft, limits)
+}

@@ -1,0 +1,93 @@
+// Which quantities of a module are above their limits.
+
+ghost use Rattle.std.specs.Prelude.{◌≡◌, ◌<◌, ◌≤◌, ◌^◌, ◌++◌, ℕ, List, length, map, MatchOption};
+ghost use Rattle.module_ast.specs.Profile.{AreWithin, IsFirstAbove, IsFirstExceeded, bound_of, counts_of, order_of, locals_of};
+ghost use Rattle.module_ast.specs.Spaces.{imported_funcs};
+ghost use Rattle.module_ast.specs.declared.module.FuncType.{FuncType};
+ghost use Rattle.module_ast.specs.declared.module.Body.{Body};
+ghost use Rattle.module_ast.specs.declared.module.Which.{Which};
+ghost use Rattle.wasm_decode.specs.Counts.{AreFew};
+
+use module_ast::module::{Body, FuncType, Group, Import, Item, Limits, Module, Which};
+
+// How many functions are imported.
+fn imported(imports: &[Import]) -> usize
+    ensures is { result ≡ length (imported_funcs imports.now) }
+    ensures at_most { result ≤ length imports.now }
+{
+    let mut count = 0;
+    for import in imports {
+        if let Item::Func(_) = import.item {
+            count += 1;
+        }
+    }
+    count
+}
+
+// How many functions there are, imported ones included.
+fn functions(imports: &[Import], funcs: &[u32]) -> u64
+    ensures { result ≡ length (imported_funcs imports.now ++ funcs.now) }
+{
+    imported(imports) as u64 + funcs.len() as u64
+}
+
+// The first number of parameters above the bound.
+fn first_parameters(types: &[FuncType], bound: u32) -> Option<u64>
+    ensures { MatchOption result (AreWithin bound (map (λ (t : FuncType). length t.params) types.now)) (IsFirstAbove bound (map (λ (t : FuncType). length t.params) types.now)) }
+{
+    for ty in types {
+        let count = ty.params.as_slice().len() as u64;
+        if count > bound as u64 {
+            return Some(count);
+        }
+    }
+    None
+}
+
+// How many locals the groups have.
+fn locals(groups: &[Group]) -> u64
+    requires { locals_of groups.now < 2 ^ 32 }
+    ensures { result ≡ locals_of groups.now }
+{
+    let mut total: u64 = 0;
+    for group in groups {
+        total += group.count as u64;
+    }
+    total
+}
+
+// The first number of locals above the bound.
+fn first_locals(bodies: &[Body], bound: u32) -> Option<u64>
+    requires few { AreFew bodies.now }
+    ensures { MatchOption result (AreWithin bound (map (λ (b : Body). locals_of b.groups) bodies.now)) (IsFirstAbove bound (map (λ (b : Body). locals_of b.groups) bodies.now)) }
+{
+    for body in bodies {
+        let count = locals(body.groups.as_slice());
+        if count > bound as u64 {
+            return Some(count);
+        }
+    }
+    None
+}
+
+/// The first of functions, types, parameters and locals that is above its limit, and its number.
+pub fn first_exceeded(kept: &Module, limits: &Limits) -> Option<(Which, u64)>
+    requires few { AreFew kept.now.bodies }
+    ensures { MatchOption result ((w : Which) → order_of w < 4 → AreWithin (bound_of limits.now w) (counts_of kept.now w)) (λ p. (order_of p.0 < 4) × IsFirstExceeded limits.now kept.now p.0 p.1) }
+{
+    let functions = functions(kept.imports.as_slice(), kept.funcs.as_slice());
+    if functions > limits.functions as u64 {
+        return Some((Which::Functions, functions));
+    }
+    let types = kept.types.as_slice().len() as u64;
+    if types > limits.types as u64 {
+        return Some((Which::Types, types));
+    }
+    if let Some(count) = first_parameters(kept.types.as_slice(), limits.parameters) {
+        return Some((Which::Parameters, count));
+    }
+    if let Some(count) = first_locals(kept.bodies.as_slice(), limits.locals) {
+        return Some((Which::Locals, count));
+    }
+    None
+}

@@ -1,0 +1,116 @@
+// What a module takes from outside and gives to it, by names.
+
+ghost use Rattle.std.specs.Prelude.{◌≡◌, true, MatchOption, IfOk, OnErr, IsErrOf};
+ghost use Rattle.leb_binary.specs.Leb.{IsName, IsFront, HasNoFront};
+ghost use Rattle.module_ast.specs.Grammar as grammar;
+ghost use Rattle.module_ast.specs.Grammar.{IsItem, IsImport, IsExport, IsExportKind};
+ghost use Rattle.module_ast.specs.Profile as profile;
+ghost use Rattle.module_ast.specs.Profile.{item_floats};
+ghost use Rattle.wasm_decode.specs.Kinds.{import_form, export_form};
+ghost use Rattle.code_decode.proofs.Items.{one_import, one_export};
+
+use crate::part::{Entry, Piece};
+use crate::types::{global_type, limits, table_type};
+use code_decode::fault::Fault;
+use leb_binary::{Bad, Cursor};
+use module_ast::module::{Export, ExportKind, Import, Item};
+use module_ast::name::Name;
+use std::alloc::Global;
+
+/// A name (5.2.4), copied.
+pub fn read_name(alloc: Global, cursor: &mut Cursor) -> Result<Name, Fault>
+    ensures ok { IfOk result (λ n. IsFront IsName cursor.old.left cursor.new.left n) }
+    ensures malformed { IsErrOf result Fault.Malformed → HasNoFront IsName cursor.old.left }
+{
+    let text = cursor.read_name()?;
+    let text = text.to_owned(alloc)?;
+    Ok(Name::from_string(text))
+}
+
+/// What is imported (5.5.5); none is a global of a floating type.
+fn item(cursor: &mut Cursor) -> Result<Option<Item>, Bad>
+    ensures ok { IfOk result (λ o. (i : grammar.Item) × IsFront IsItem cursor.old.left cursor.new.left i × MatchOption o (item_floats i ≡ true) (λ x. i ≡ profile.item x)) }
+    ensures bad { OnErr result (HasNoFront IsItem cursor.old.left) }
+{
+    let byte = cursor.byte()?;
+    match byte {
+        0x00 => {
+            let ty = cursor.read_u32()?;
+            Ok(Some(Item::Func(ty)))
+        }
+        0x01 => {
+            let range = table_type(cursor)?;
+            Ok(Some(Item::Table(range)))
+        }
+        0x02 => {
+            let range = limits(cursor)?;
+            Ok(Some(Item::Memory(range)))
+        }
+        0x03 => match global_type(cursor)? {
+            Some(ty) => Ok(Some(Item::Global(ty))),
+            None => Ok(None),
+        },
+        _ => Err(Bad),
+    }
+}
+
+/// Imports (5.5.5).
+pub struct Imports;
+
+impl Entry for Imports {
+    type Value = Import;
+
+    ghost Shape = { grammar.Import };
+
+    ghost is = { IsImport };
+
+    ghost form = { import_form };
+
+    fn read(alloc: Global, cursor: &mut Cursor, _nesting: u32) -> Result<Piece<Import>, Fault> {
+        let module = read_name(alloc, cursor)?;
+        let name = read_name(alloc, cursor)?;
+        match item(cursor)? {
+            Some(item) => Ok(Piece::Whole(Import { module, name, item })),
+            None => Ok(Piece::Floats),
+        }
+    }
+
+    ghost one = { one_import };
+}
+
+/// The kind of what is exported (5.5.10).
+fn export_kind(cursor: &mut Cursor) -> Result<ExportKind, Bad>
+    ensures ok { IfOk result (λ k. IsFront IsExportKind cursor.old.left cursor.new.left k) }
+    ensures bad { OnErr result (HasNoFront IsExportKind cursor.old.left) }
+{
+    let byte = cursor.byte()?;
+    match byte {
+        0x00 => Ok(ExportKind::Func),
+        0x01 => Ok(ExportKind::Table),
+        0x02 => Ok(ExportKind::Memory),
+        0x03 => Ok(ExportKind::Global),
+        _ => Err(Bad),
+    }
+}
+
+/// Exports (5.5.10).
+pub struct Exports;
+
+impl Entry for Exports {
+    type Value = Export;
+
+    ghost Shape = { grammar.Export };
+
+    ghost is = { IsExport };
+
+    ghost form = { export_form };
+
+    fn read(alloc: Global, cursor: &mut Cursor, _nesting: u32) -> Result<Piece<Export>, Fault> {
+        let name = read_name(alloc, cursor)?;
+        let kind = export_kind(cursor)?;
+        let index = cursor.read_u32()?;
+        Ok(Piece::Whole(Export { name, kind, index }))
+    }
+
+    ghost one = { one_export };
+}

@@ -1,0 +1,98 @@
+// How many bytes instructions have.
+
+ghost use Rattle.std.specs.Prelude.{◌≡◌, [], ◌∷◌, ◌++◌, ◌+◌, ◌<◌, ◌≤◌, ◌^◌, length};
+ghost use Rattle.leb_binary.specs.Shortest.{unsigned_bytes, signed_bytes};
+ghost use Rattle.module_ast.specs.Tree.{Tree, done};
+ghost use Rattle.module_ast.specs.Seen.{before};
+ghost use Rattle.module_ast.specs.Canonical.{vec_bytes, mem_arg_bytes, code_bytes, expr_bytes};
+
+use crate::numbers::{signed_length, unsigned_length};
+use crate::vectors::vec_length;
+use module_ast::code::{Code, Instr};
+use module_ast::ops::MemArg;
+
+// An opcode with one index.
+fn indexed_length(index: u32) -> u64
+    ensures { result ≡ 1 + length (unsigned_bytes index) }
+{
+    1 + unsigned_length(u64::from(index))
+}
+
+// A branch by a table.
+fn table_branch_length(labels: &[u32], last: u32) -> u64
+    requires { 1 + length (vec_bytes unsigned_bytes labels.now ++ unsigned_bytes last) < 2 ^ 63 }
+    ensures { result ≡ 1 + length (vec_bytes unsigned_bytes labels.now ++ unsigned_bytes last) }
+{
+    vec_length(labels) + indexed_length(last)
+}
+
+// The opcode of a load or store, its alignment and its offset.
+fn access_length(arg: MemArg) -> u64
+    ensures { result ≡ 1 + length (mem_arg_bytes arg) }
+{
+    1 + unsigned_length(u64::from(arg.align)) + unsigned_length(u64::from(arg.offset))
+}
+
+// A constant.
+fn const_length(value: i64) -> u64
+    ensures { result ≡ 1 + length (signed_bytes value) }
+{
+    1 + signed_length(value)
+}
+
+/// How many bytes instructions have, with nothing that closes them.
+#[cycle(code_length)]
+pub fn code_length(code: &Code) -> u64
+    requires { length (code_bytes code.now) < 2 ^ 63 }
+    ensures { result ≡ length (code_bytes code.now) }
+{
+    let mut total = 0;
+    for instr in code.as_slice() {
+        total += instr_length(instr);
+    }
+    total
+}
+
+// How many bytes one instruction has.
+#[cycle(code_length)]
+fn instr_length(instr: &Instr) -> u64
+    requires { length (code_bytes (before instr.now done)) < 2 ^ 63 }
+    ensures { (t : Tree) → result + length (code_bytes t) ≡ length (code_bytes (before instr.now t)) }
+{
+    match instr {
+        Instr::Unreachable => 1,
+        Instr::Nop => 1,
+        Instr::Block(_, body) => 3 + code_length(body),
+        Instr::Loop(_, body) => 3 + code_length(body),
+        Instr::If(_, body, None) => 3 + code_length(body),
+        Instr::If(_, body, Some(other)) => 4 + code_length(body) + code_length(other),
+        Instr::Br(label) => indexed_length(*label),
+        Instr::BrIf(label) => indexed_length(*label),
+        Instr::BrTable(labels, last) => table_branch_length(labels.as_slice(), *last),
+        Instr::Return => 1,
+        Instr::Call(func) => indexed_length(*func),
+        Instr::CallIndirect(ty) => 1 + indexed_length(*ty),
+        Instr::Drop => 1,
+        Instr::Select => 1,
+        Instr::LocalGet(local) => indexed_length(*local),
+        Instr::LocalSet(local) => indexed_length(*local),
+        Instr::LocalTee(local) => indexed_length(*local),
+        Instr::GlobalGet(global) => indexed_length(*global),
+        Instr::GlobalSet(global) => indexed_length(*global),
+        Instr::Load(_, arg) => access_length(*arg),
+        Instr::Store(_, arg) => access_length(*arg),
+        Instr::MemorySize => 2,
+        Instr::MemoryGrow => 2,
+        Instr::I32Const(value) => const_length(i64::from(*value)),
+        Instr::I64Const(value) => const_length(*value),
+        Instr::Num(_) => 1,
+    }
+}
+
+/// How many bytes instructions have with the `end` behind them (5.4.9).
+pub fn expr_length(code: &Code) -> u64
+    requires { length (expr_bytes code.now) < 2 ^ 63 }
+    ensures { result ≡ length (expr_bytes code.now) }
+{
+    code_length(code) + 1
+}

@@ -1,0 +1,65 @@
+// The canonical bytes of modules (5). They are counted first, and then written.
+#![tactic(auto)]
+
+ghost use Rattle.std.specs.Prelude.{◌≡◌, ◌<◌, ◌≤◌, ◌^◌, ℕ, length, All, IfOk, IsErrOf};
+ghost use Rattle.module_ast.specs.declared.module.Body.{Body};
+ghost use Rattle.module_ast.specs.declared.module.Which.TheVariants.{Nesting};
+ghost use Rattle.module_ast.specs.Profile.{locals_of, counts_of, AreWithin};
+ghost use Rattle.module_ast.specs.Canonical.{module_bytes};
+ghost use Rattle.wasm_encode.specs.declared.EncodeFault.TheVariants.{TooLarge, NoMemory};
+
+mod bodies;
+mod code;
+mod code_length;
+mod numbers;
+mod opcodes;
+mod sections;
+mod tables;
+#[cfg(test)]
+mod tests;
+mod types;
+mod vectors;
+mod whole;
+
+use crate::whole::{module_length, spell_module};
+use module_ast::module::Module;
+use std::alloc::{AllocError, Global};
+
+/// Why a module has no bytes.
+#[derive(Clone, Copy, Debug, PartialEq, Eq)]
+pub enum EncodeFault {
+    /// The canonical bytes are this many, and more than were allowed.
+    TooLarge { length: u64 },
+    /// The allocator gave no memory.
+    NoMemory,
+}
+
+impl From<AllocError> for EncodeFault {
+    ghost from_gives = { λ _ e. e ≡ NoMemory };
+
+    fn from(_e: AllocError) -> EncodeFault {
+        EncodeFault::NoMemory
+    }
+}
+
+/// The canonical bytes of a module (5): every number in its shortest spelling, no section without entries, no custom one.
+///
+/// `max` is how many bytes there may be. Where there are more, the answer is `TooLarge` with their number, and nothing
+/// is allocated; so `NoMemory` comes only where they are few enough.
+pub fn encode(alloc: Global, m: &Module, max: u64) -> Result<Vec<u8>, EncodeFault>
+    requires most { max ≤ 268435456 }
+    requires bodies { length m.now.funcs ≡ length m.now.bodies }
+    requires locals { All (λ (b : Body). locals_of b.groups < 2 ^ 32) m.now.bodies }
+    requires nesting { AreWithin 1002 (counts_of m.now Nesting) }
+    requires room { length (module_bytes m.now) < 2 ^ 63 }
+    ensures ok { IfOk result (λ bytes. bytes.items ≡ module_bytes m.now) }
+    ensures few { IfOk result (λ bytes. length bytes.items ≤ max) }
+    ensures large { (n : ℕ) → IsErrOf result (TooLarge n) → (n ≡ length (module_bytes m.now)) × (max < n) }
+    ensures memory { IsErrOf result NoMemory → length (module_bytes m.now) ≤ max }
+{
+    let length = module_length(m);
+    if length > max {
+        return Err(EncodeFault::TooLarge { length });
+    }
+    Ok(spell_module(alloc, m, length)?)
+}

@@ -1,0 +1,171 @@
+// The entries of the sections (5.5), and the start section.
+
+ghost use Rattle.std.specs.Prelude.{◌≡◌, ◌++◌, ◌<◌, ◌^◌, OnOk, length};
+ghost use Rattle.module_ast.specs.Canonical.{sized_bytes, import_bytes, global_bytes, kind_byte, export_bytes, element_bytes, group_bytes, body_bytes, segment_bytes, start_bytes};
+
+use crate::code::put_expr;
+use crate::code_length::expr_length;
+use crate::numbers::{put_size, put_sized, sized_length, unsigned_length};
+use crate::types::val_type_byte;
+use crate::vectors::{Encode, put_vec, vec_length};
+use leb_binary::put_u32;
+use module_ast::module::{Body, Element, Export, ExportKind, GlobalDef, Group, Import, Segment};
+use module_ast::name::Name;
+use std::alloc::AllocError;
+
+// How many bytes a name has.
+fn name_length(name: &Name) -> u64
+    requires { length (sized_bytes name.now) < 2 ^ 63 }
+    ensures { result ≡ length (sized_bytes name.now) }
+{
+    sized_length(name.as_str().as_bytes())
+}
+
+// Adds a name (5.2.4).
+fn put_name(out: &mut Vec<u8>, name: &Name) -> Result<(), AllocError>
+    ensures { OnOk result (out.new.items ≡ out.old.items ++ sized_bytes name.now) }
+{
+    put_sized(out, name.as_str().as_bytes())
+}
+
+// 5.5.5
+impl Encode for Import {
+    ghost bytes = { import_bytes };
+
+    fn spelled_length(&self) -> u64 {
+        name_length(&self.module) + name_length(&self.name) + self.item.spelled_length()
+    }
+
+    fn put(&self, out: &mut Vec<u8>) -> Result<(), AllocError> {
+        put_name(out, &self.module)?;
+        put_name(out, &self.name)?;
+        self.item.put(out)
+    }
+}
+
+// 5.5.9
+impl Encode for GlobalDef {
+    ghost bytes = { global_bytes };
+
+    fn spelled_length(&self) -> u64 {
+        self.ty.spelled_length() + expr_length(&self.init)
+    }
+
+    fn put(&self, out: &mut Vec<u8>) -> Result<(), AllocError> {
+        self.ty.put(out)?;
+        put_expr(out, &self.init)
+    }
+}
+
+// The byte of what is exported.
+fn kind_byte(kind: ExportKind) -> u8
+    ensures { result ≡ kind_byte kind }
+{
+    match kind {
+        ExportKind::Func => 0x00,
+        ExportKind::Table => 0x01,
+        ExportKind::Memory => 0x02,
+        ExportKind::Global => 0x03,
+    }
+}
+
+// 5.5.10
+impl Encode for Export {
+    ghost bytes = { export_bytes };
+
+    fn spelled_length(&self) -> u64 {
+        name_length(&self.name) + 1 + unsigned_length(u64::from(self.index))
+    }
+
+    fn put(&self, out: &mut Vec<u8>) -> Result<(), AllocError> {
+        put_name(out, &self.name)?;
+        out.push(kind_byte(self.kind))?;
+        put_u32(out, self.index)
+    }
+}
+
+// 5.5.12
+impl Encode for Element {
+    ghost bytes = { element_bytes };
+
+    fn spelled_length(&self) -> u64 {
+        unsigned_length(u64::from(self.table))
+            + expr_length(&self.offset)
+            + vec_length(self.funcs.as_slice())
+    }
+
+    fn put(&self, out: &mut Vec<u8>) -> Result<(), AllocError> {
+        put_u32(out, self.table)?;
+        put_expr(out, &self.offset)?;
+        put_vec(out, self.funcs.as_slice())
+    }
+}
+
+// 5.5.14
+impl Encode for Segment {
+    ghost bytes = { segment_bytes };
+
+    fn spelled_length(&self) -> u64 {
+        unsigned_length(u64::from(self.memory))
+            + expr_length(&self.offset)
+            + sized_length(self.bytes.as_slice())
+    }
+
+    fn put(&self, out: &mut Vec<u8>) -> Result<(), AllocError> {
+        put_u32(out, self.memory)?;
+        put_expr(out, &self.offset)?;
+        put_sized(out, self.bytes.as_slice())
+    }
+}
+
+// 5.5.13, the locals of a body
+impl Encode for Group {
+    ghost bytes = { group_bytes };
+
+    fn spelled_length(&self) -> u64 {
+        unsigned_length(u64::from(self.count)) + 1
+    }
+
+    fn put(&self, out: &mut Vec<u8>) -> Result<(), AllocError> {
+        put_u32(out, self.count)?;
+        out.push(val_type_byte(self.ty))?;
+        Ok(())
+    }
+}
+
+// 5.5.13, a body without its size
+impl Encode for Body {
+    ghost bytes = { body_bytes };
+
+    fn spelled_length(&self) -> u64 {
+        vec_length(self.groups.as_slice()) + expr_length(&self.code)
+    }
+
+    fn put(&self, out: &mut Vec<u8>) -> Result<(), AllocError> {
+        put_vec(out, self.groups.as_slice())?;
+        put_expr(out, &self.code)
+    }
+}
+
+/// How many bytes the start section has.
+pub fn start_length(start: Option<u32>) -> u64
+    ensures { result ≡ length (start_bytes start) }
+{
+    let Some(func) = start else {
+        return 0;
+    };
+    let size = unsigned_length(u64::from(func));
+    1 + unsigned_length(size) + size
+}
+
+/// Adds the start section (5.5.11), or nothing.
+pub fn put_start(out: &mut Vec<u8>, start: Option<u32>) -> Result<(), AllocError>
+    ensures { OnOk result (out.new.items ≡ out.old.items ++ start_bytes start) }
+{
+    let Some(func) = start else {
+        return Ok(());
+    };
+    out.push(8)?;
+    put_size(out, unsigned_length(u64::from(func)))?;
+    put_u32(out, func)
+}

@@ -1,0 +1,50 @@
+// The section of tables (5.5.7), whose limits have a byte before them.
+
+ghost use Rattle.std.specs.Prelude.{◌≡◌, ◌++◌, ◌<◌, ◌^◌, OnOk, length};
+ghost use Rattle.module_ast.specs.Canonical.{table_bytes, vec_bytes, vec_section};
+
+use crate::numbers::{put_size, unsigned_length};
+use crate::types::{put_table, table_length};
+use module_ast::module::Range;
+use std::alloc::AllocError;
+
+// How many bytes the tables have, with their number in front.
+fn tables_length(tables: &[Range]) -> u64
+    requires { length (vec_bytes table_bytes tables.now) < 2 ^ 63 }
+    ensures { result ≡ length (vec_bytes table_bytes tables.now) }
+{
+    let mut total = unsigned_length(tables.len() as u64);
+    for table in tables {
+        total += table_length(table);
+    }
+    total
+}
+
+/// How many bytes the section has.
+pub fn table_section_length(tables: &[Range]) -> u64
+    requires { length (vec_section 4 table_bytes tables.now) < 2 ^ 63 }
+    ensures { result ≡ length (vec_section 4 table_bytes tables.now) }
+{
+    if tables.is_empty() {
+        return 0;
+    }
+    let size = tables_length(tables);
+    1 + unsigned_length(size) + size
+}
+
+/// Adds the section, and nothing where there is no table.
+pub fn put_table_section(out: &mut Vec<u8>, tables: &[Range]) -> Result<(), AllocError>
+    requires { length (vec_section 4 table_bytes tables.now) < 2 ^ 63 }
+    ensures { OnOk result (out.new.items ≡ out.old.items ++ vec_section 4 table_bytes tables.now) }
+{
+    if tables.is_empty() {
+        return Ok(());
+    }
+    out.push(4)?;
+    put_size(out, tables_length(tables))?;
+    put_size(out, tables.len() as u64)?;
+    for table in tables {
+        put_table(out, table)?;
+    }
+    Ok(())
+}

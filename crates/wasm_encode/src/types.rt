@@ -1,0 +1,153 @@
+// Value types, function types, limits and the types of globals (5.3).
+
+ghost use Rattle.std.specs.Prelude.{◌≡◌, [], ◌∷◌, ◌++◌, ◌<◌, ◌^◌, OnOk, length};
+ghost use Rattle.module_ast.specs.Canonical.{val_type_byte, val_type_bytes, block_type_bytes, func_type_bytes, limits_bytes, table_bytes, global_type_bytes, item_bytes};
+
+use crate::numbers::unsigned_length;
+use crate::vectors::{Encode, put_vec, vec_length};
+use leb_binary::put_u32;
+use module_ast::code::BlockType;
+use module_ast::module::{FuncType, GlobalType, Item, Range};
+use std::alloc::AllocError;
+use wasm_num::ValType;
+
+/// The byte of a value type (5.3.1).
+pub fn val_type_byte(ty: ValType) -> u8
+    ensures { result ≡ val_type_byte ty }
+{
+    match ty {
+        ValType::I32 => 0x7F,
+        ValType::I64 => 0x7E,
+    }
+}
+
+/// The byte of a block's type (5.4.1).
+pub fn block_type_byte(ty: BlockType) -> u8
+    ensures { block_type_bytes ty ≡ result ∷ [] }
+{
+    match ty {
+        BlockType::Empty => 0x40,
+        BlockType::Value(ty) => val_type_byte(ty),
+    }
+}
+
+impl Encode for ValType {
+    ghost bytes = { val_type_bytes };
+
+    fn spelled_length(&self) -> u64 {
+        1
+    }
+
+    fn put(&self, out: &mut Vec<u8>) -> Result<(), AllocError> {
+        out.push(val_type_byte(*self))?;
+        Ok(())
+    }
+}
+
+// 5.3.3
+impl Encode for FuncType {
+    ghost bytes = { func_type_bytes };
+
+    fn spelled_length(&self) -> u64 {
+        1 + vec_length(self.params.as_slice()) + vec_length(self.results.as_slice())
+    }
+
+    fn put(&self, out: &mut Vec<u8>) -> Result<(), AllocError> {
+        out.push(0x60)?;
+        put_vec(out, self.params.as_slice())?;
+        put_vec(out, self.results.as_slice())
+    }
+}
+
+// 5.3.4, which is the type of a memory too (5.3.5)
+impl Encode for Range {
+    ghost bytes = { limits_bytes };
+
+    fn spelled_length(&self) -> u64 {
+        let least = 1 + unsigned_length(u64::from(self.min));
+        match self.max {
+            None => least,
+            Some(max) => least + unsigned_length(u64::from(max)),
+        }
+    }
+
+    fn put(&self, out: &mut Vec<u8>) -> Result<(), AllocError> {
+        match self.max {
+            None => {
+                out.push(0x00)?;
+                put_u32(out, self.min)
+            }
+            Some(max) => {
+                out.push(0x01)?;
+                put_u32(out, self.min)?;
+                put_u32(out, max)
+            }
+        }
+    }
+}
+
+/// How many bytes the type of a table has.
+pub fn table_length(range: &Range) -> u64
+    requires { length (table_bytes range.now) < 2 ^ 63 }
+    ensures { result ≡ length (table_bytes range.now) }
+{
+    1 + range.spelled_length()
+}
+
+/// Adds the type of a table of functions (5.3.6).
+pub fn put_table(out: &mut Vec<u8>, range: &Range) -> Result<(), AllocError>
+    ensures { OnOk result (out.new.items ≡ out.old.items ++ table_bytes range.now) }
+{
+    out.push(0x70)?;
+    range.put(out)
+}
+
+// 5.3.7
+impl Encode for GlobalType {
+    ghost bytes = { global_type_bytes };
+
+    fn spelled_length(&self) -> u64 {
+        2
+    }
+
+    fn put(&self, out: &mut Vec<u8>) -> Result<(), AllocError> {
+        out.push(val_type_byte(self.ty))?;
+        out.push(if self.mutable { 0x01 } else { 0x00 })?;
+        Ok(())
+    }
+}
+
+// 5.5.5, the description of an import
+impl Encode for Item {
+    ghost bytes = { item_bytes };
+
+    fn spelled_length(&self) -> u64 {
+        match self {
+            Item::Func(ty) => 1 + unsigned_length(u64::from(*ty)),
+            Item::Table(range) => 1 + table_length(range),
+            Item::Memory(range) => 1 + range.spelled_length(),
+            Item::Global(ty) => 1 + ty.spelled_length(),
+        }
+    }
+
+    fn put(&self, out: &mut Vec<u8>) -> Result<(), AllocError> {
+        match self {
+            Item::Func(ty) => {
+                out.push(0x00)?;
+                put_u32(out, *ty)
+            }
+            Item::Table(range) => {
+                out.push(0x01)?;
+                put_table(out, range)
+            }
+            Item::Memory(range) => {
+                out.push(0x02)?;
+                range.put(out)
+            }
+            Item::Global(ty) => {
+                out.push(0x03)?;
+                ty.put(out)
+            }
+        }
+    }
+}

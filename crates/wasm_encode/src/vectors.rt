@@ -1,0 +1,83 @@
+// Vectors (5.1.3) and sections (5.5.2) of entries of any kind.
+
+ghost use Rattle.std.specs.Prelude.{◌≡◌, ◌++◌, ◌<◌, ◌^◌, ℕ, List, OnOk, length};
+ghost use Rattle.leb_binary.specs.Shortest.{unsigned_bytes};
+ghost use Rattle.module_ast.specs.Canonical.{vec_bytes, vec_section};
+
+use crate::numbers::{put_size, unsigned_length};
+use leb_binary::put_u32;
+use std::alloc::AllocError;
+
+/// What has one canonical spelling. Its length is known before anything is written.
+pub trait Encode {
+    ghost bytes: { Self → List ℕ };
+
+    /// How many bytes the spelling has.
+    fn spelled_length(&self) -> u64
+        requires { length (bytes self.now) < 2 ^ 63 }
+        ensures { result ≡ length (bytes self.now) };
+
+    /// Adds the spelling. An error is that of the allocator.
+    fn put(&self, out: &mut Vec<u8>) -> Result<(), AllocError>
+        ensures { OnOk result (out.new.items ≡ out.old.items ++ bytes self.now) };
+}
+
+impl Encode for u32 {
+    ghost bytes = { unsigned_bytes };
+
+    fn spelled_length(&self) -> u64 {
+        unsigned_length(u64::from(*self))
+    }
+
+    fn put(&self, out: &mut Vec<u8>) -> Result<(), AllocError> {
+        put_u32(out, *self)
+    }
+}
+
+/// How many bytes the entries have, with their number in front.
+pub fn vec_length<T: Encode>(entries: &[T]) -> u64
+    requires { length (vec_bytes T.bytes entries.now) < 2 ^ 63 }
+    ensures { result ≡ length (vec_bytes T.bytes entries.now) }
+{
+    let mut total = unsigned_length(entries.len() as u64);
+    for entry in entries {
+        total += entry.spelled_length();
+    }
+    total
+}
+
+/// Adds the number of the entries, and each of them.
+pub fn put_vec<T: Encode>(out: &mut Vec<u8>, entries: &[T]) -> Result<(), AllocError>
+    ensures { OnOk result (out.new.items ≡ out.old.items ++ vec_bytes T.bytes entries.now) }
+{
+    put_size(out, entries.len() as u64)?;
+    for entry in entries {
+        entry.put(out)?;
+    }
+    Ok(())
+}
+
+/// How many bytes a section of these entries has, with its id and size.
+pub fn section_length<T: Encode>(id: u8, entries: &[T]) -> u64
+    requires { length (vec_section id T.bytes entries.now) < 2 ^ 63 }
+    ensures { result ≡ length (vec_section id T.bytes entries.now) }
+{
+    if entries.is_empty() {
+        return 0;
+    }
+    let size = vec_length(entries);
+    1 + unsigned_length(size) + size
+}
+
+/// Adds a section of these entries, and nothing where there are none.
+pub fn put_section<T: Encode>(out: &mut Vec<u8>, id: u8, entries: &[T]) -> Result<(), AllocError>
+    requires { length (vec_section id T.bytes entries.now) < 2 ^ 63 }
+    ensures { OnOk result (out.new.items ≡ out.old.items ++ vec_section id T.bytes entries.now) }
+{
+    if entries.is_empty() {
+        return Ok(());
+    }
+    out.push(id)?;
+    put_size(out, vec_length(entries))?;
+    put_vec(out, entries)
+}
