@@ -5,6 +5,7 @@ pub mod NopParts
 pub mod NopValid
 pub mod NopShell
 pub mod NopWritten
+pub mod NopEncoded
 pub mod Sim
 pub mod SimFollow
 pub mod NopSteps

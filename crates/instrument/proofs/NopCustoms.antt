@@ -1,5 +1,5 @@
 -- What is written for a module of nops does not depend on its custom sections.
-use Rattle.std.proofs.Common.{◌≡◌, ℕ, zero, suc, List, [], ◌∷◌, ◌++◌, Option, Some, None, Bool, true, false, refl, sym, ap, ◌∙◌, subst, All}
+use Rattle.std.proofs.Common.{◌≡◌, ℕ, suc, List, [], ◌∷◌, ◌++◌, Option, Some, None, Bool, true, false, refl, sym, ap, ◌∙◌, subst}
 use Rattle.std.specs.Prelude.{◌≢◌, map, filter, slice_get, nat_le}
 use Rattle.std.proofs.lemmas.List.Elements.{All-from_recursion}
 use Rattle.wasm_num.specs.declared.Value.{Value}
@@ -11,14 +11,10 @@ use Rattle.module_ast.specs.Decoding.{Gram}
 use Rattle.module_ast.specs.Profile.{IsWithin}
 use Rattle.module_ast.specs.Validity.{IsValid}
 use Rattle.module_ast.specs.Limits.{narrow}
-use Rattle.hook_select.specs.declared.Event.{Event}
-use Rattle.hook_select.specs.declared.GroupName.{GroupName}
 use Rattle.hook_select.specs.declared.GroupName.TheVariants as groups
 use Rattle.hook_select.specs.declared.Hooks.{Hooks}
-use Rattle.hook_select.specs.Groups.{has}
 use Rattle.hook_mono.specs.declared.HookKey.{HookKey}
 use Rattle.hook_mono.specs.declared.HookKey.TheVariants as keys
-use Rattle.hook_mono.specs.Needed.{needed}
 use Rattle.wasm_sem.specs.declared.Call.{Call}
 use Rattle.wasm_sem.specs.declared.HookCall.{HookCall}
 use Rattle.wasm_sem.specs.declared.Script.{Script}
@@ -30,12 +26,12 @@ use Rattle.static_info.specs.Info.{info_of}
 use Rattle.static_info.specs.Items.{read, read_call, read_entry}
 use Rattle.static_info.specs.Read.{hook_events, found_events, func_events, known_events, is_selected, loc_of, numbers}
 use Rattle.instrument.specs.Nops.{nop_module, IsNops, IsNopChoice, IsNopModule}
-use Rattle.instrument.specs.Output.{IsFree, output, output_bytes}
+use Rattle.instrument.specs.Output.{IsFree, output_bytes}
 use Rattle.instrument.specs.Shell.{Shell}
 use Rattle.wasm_sem.specs.Trace.{trace_of}
 use Rattle.instrument.specs.Same.{Same, SameRuns, Matches, env_of}
 use Rattle.instrument.specs.Made.{IsSound}
-use Rattle.instrument.specs.Accepted.{IsAccepted, IsInstrumented}
+use Rattle.instrument.specs.Accepted.{IsInstrumented}
 use Rattle.instrument.proofs.NopParts.{IsTold}
 use Rattle.instrument.proofs.NopValid.{dressed, dressed_valid}
 use Rattle.instrument.proofs.NopWritten.{written_sound}
@@ -175,10 +171,6 @@ sound_dressed name count customs hooks bytes h = record {
   shell = shell_dressed name count customs hooks h.result h.shell;
   same = same_dressed name count customs hooks h.result h.same;
 }
-
--- its output is that of the module without them
-output_dressed : (name : List ℕ) (count : ℕ) (customs : List (List ℕ)) (hooks : Hooks) → output (nop_module name count) hooks ≡ output (dressed name count customs) hooks
-output_dressed name count customs hooks = refl
 
 -- it imports nothing
 free_dressed : (name : List ℕ) (count : ℕ) (customs : List (List ℕ)) → IsFree (dressed name count customs)

@@ -1,11 +1,11 @@
 -- Which sequences of instructions are nops alone, and how many bytes they are.
-use Rattle.std.proofs.Common.{◌≡◌, ℕ, zero, suc, ◌+◌, ◌^◌, ◌<◌, ◌≤◌, List, [], ◌∷◌, ◌++◌, Option, Some, None, Bool, true, false, refl, sym, ap, ◌∙◌, arith, length, length-append, append-nil, drop}
+use Rattle.std.proofs.Common.{◌≡◌, ℕ, zero, suc, ◌+◌, ◌<◌, ◌≤◌, List, ◌∷◌, Some, None, Bool, true, false, refl, sym, ap, ◌∙◌, arith, length, drop}
 use Rattle.std.specs.Prelude.{◌≢◌, slice_index_or}
 use Rattle.std.proofs.Math.Seq.{drop-cons}
 use Rattle.std.proofs.lemmas.List.{drop_all}
 use Rattle.module_ast.specs.declared.code.Instr.{Instr}
 use Rattle.module_ast.specs.declared.code.Instr.TheVariants as instrs
-use Rattle.module_ast.specs.Tree.{Tree, done, plain, block, loop, if_then, if_else, nop}
+use Rattle.module_ast.specs.Tree.{Tree, done, plain, nop}
 use Rattle.module_ast.specs.Seen.{before, code_of}
 use Rattle.module_ast.specs.Canonical.{code_bytes}
 use Rattle.instrument.specs.Nops.{nops}

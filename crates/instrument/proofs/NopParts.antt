@@ -1,9 +1,10 @@
 -- The bytes of the module of nops with hooks, section by section.
 use Rattle.std.proofs.Common.{◌≡◌, ℕ, zero, suc, ◌+◌, ◌*◌, ◌^◌, ◌<◌, ◌≤◌, inl, inr, List, [], ◌∷◌, ◌++◌, Bool, true, false, refl, sym, ap, ◌∙◌, length, arith, length-append, append-nil}
-use Rattle.std.specs.Prelude.{IsTrue, ◌↔◌}
+use Rattle.std.specs.Prelude.{IsTrue, ◌↔◌, None}
 use Rattle.module_ast.specs.declared.module.ExportKind.TheVariants.{Func}
 use Rattle.module_ast.specs.declared.module.Export.{Export}
 use Rattle.module_ast.specs.declared.module.Body.{Body}
+use Rattle.module_ast.specs.declared.module.Module.{Module}
 use Rattle.module_ast.specs.Tree.{done}
 use Rattle.module_ast.specs.Grammar.{header}
 use Rattle.leb_binary.specs.Shortest.{unsigned_bytes}
@@ -16,7 +17,7 @@ use Rattle.rewrite.specs.Rewrite.{rewritten_body}
 use Rattle.rewrite.specs.Nops.{IsFirst, nop_keys, nop_setting, nops_rewritten}
 use Rattle.rewrite.proofs.Lengths.{unsigned_five, sized_length, section_length, rewritten_length}
 use Rattle.instrument.specs.Nops.{nops, nop_module, no_groups, nop_group, IsNopChoice, narrow_file}
-use Rattle.instrument.specs.Output.{output, output_with, output_bytes}
+use Rattle.instrument.specs.Output.{output, output_with}
 use Rattle.instrument.specs.Parts.{nops_output, nop_types, nop_imports}
 use Rattle.instrument.proofs.NopOutput.{nop_site, temps_hooked, temps_none, needed_hooked, needed_none, output_empty, output_none}
 
@@ -42,6 +43,44 @@ body_with told s count temps = record {
 body_is : (told : Bool) (name : List ℕ) (count : ℕ) → rewritten_body (nop_setting told (nop_site name count)) ≡ nop_body told (nop_site name count) count
 body_is true name count = ap (body_with true (nop_site name count) count) (temps_hooked name count)
 body_is false name count = ap (body_with false (nop_site name count) count) (temps_none name count)
+
+-- a module of types, imports, functions, exports and bodies alone
+pub record IsBare (m : Module) : Type 0 where
+  pub tables : m.tables ≡ []
+  pub memories : m.memories ≡ []
+  pub globals : m.globals ≡ []
+  pub start : m.start ≡ None
+  pub elements : m.elements ≡ []
+  pub segments : m.segments ≡ []
+  pub customs : m.customs ≡ []
+
+-- the module of these types, imports, export and body
+abbrev parts_module : (told : Bool) → Export → Body → Module
+parts_module told e b = record {
+  types = nop_types told;
+  imports = nop_imports told;
+  funcs = 0 ∷ [];
+  tables = [];
+  memories = [];
+  globals = [];
+  exports = e ∷ [];
+  start = None;
+  elements = [];
+  bodies = b ∷ [];
+  segments = [];
+  customs = [];
+}
+
+parts_are : (told : Bool) (name : List ℕ) (count : ℕ) (b : Body) → parts_module told (nop_export name (length (nop_keys told))) b ≡ record (nops_output told name count) { bodies = b ∷ [] }
+parts_are true name count b = refl
+parts_are false name count b = refl
+
+-- A module of these parts, and of nothing else, is the one that is written.
+pub output_from : (told : Bool) (name : List ℕ) (count : ℕ) (m : Module) → m.types ≡ nop_types told → m.imports ≡ nop_imports told → m.funcs ≡ 0 ∷ [] → m.exports ≡ nop_export name (length (nop_keys told)) ∷ []
+    → m.bodies ≡ nop_body told (nop_site name count) count ∷ [] → IsBare m → m ≡ nops_output told name count
+output_from told name count m types imports funcs exports bodies bare =
+    let parts : record { types = m.types; imports = m.imports; funcs = m.funcs; tables = m.tables; memories = m.memories; globals = m.globals; exports = m.exports; start = m.start; elements = m.elements; bodies = m.bodies; segments = m.segments; customs = m.customs } ≡ parts_module told (nop_export name (length (nop_keys told))) (nop_body told (nop_site name count) count) = cc (types, imports, funcs, exports, bodies, bare.tables, bare.memories, bare.globals, bare.start, bare.elements, bare.segments, bare.customs) in
+    parts ∙ parts_are told name count (nop_body told (nop_site name count) count) ∙ ap (λ b. record (nops_output told name count) { bodies = b ∷ [] }) (sym (body_is told name count))
 
 -- its sections, for these types, imports, export and body
 abbrev sections_bytes : (told : Bool) → Export → Body → List ℕ
@@ -94,23 +133,6 @@ told_output name zero hooks told (inr e) t =
 told_output name (suc c) hooks told (inr e) t =
     ap (output (nop_module name (suc c))) e ∙ ap (output_with (nop_module name (suc c)) nop_group) (needed_hooked name c)
     ∙ ap (λ t. nops_output t name (suc c)) (is_told told (t.1 (ap (λ (g : Hooks). g.nop) e, omega arith)))
-
--- all sections, one after the other
-pub all_sections : (name : List ℕ) (count : ℕ) (hooks : Hooks) (told : Bool) (index : ℕ) → IsNopChoice hooks → IsTold hooks count told → index ≡ length (nop_keys told) → sections_bytes told (nop_export name index) (nop_body told (nop_site name count) count) ≡ output_bytes (nop_module name count) hooks
-all_sections name count hooks told index choice t e =
-    ap (λ i. sections_bytes told (nop_export name i) (nop_body told (nop_site name count) count)) e
-    ∙ sym (output_sections told name count)
-    ∙ ap module_bytes (sym (told_output name count hooks told choice t))
-
--- what each function adds, one after the other
-pub added : (told : Bool) (e : Export) (b : Body) (z h t i f x whole : List ℕ) → z ≡ [] → h ≡ z ++ header → t ≡ h ++ vec_section 1 func_type_bytes (nop_types told) → i ≡ t ++ vec_section 2 import_bytes (nop_imports told) → f ≡ i ++ vec_section 3 unsigned_bytes (0 ∷ []) → x ≡ f ++ vec_section 7 export_bytes (e ∷ []) → whole ≡ x ++ vec_section 10 (λ b. sized_bytes (body_bytes b)) (b ∷ []) → whole ≡ sections_bytes told e b
-added told e b z h t i f x whole ez eh et ei ef ex ew =
-    let coded = vec_section 10 (λ b. sized_bytes (body_bytes b)) (b ∷ []) in
-    let named = vec_section 7 export_bytes (e ∷ []) in
-    let funcs = vec_section 3 unsigned_bytes (0 ∷ []) in
-    let imports = vec_section 2 import_bytes (nop_imports told) in
-    let types = vec_section 1 func_type_bytes (nop_types told) in
-    ew ∙ ap (λ l. l ++ coded) (ex ∙ ap (λ l. l ++ named) (ef ∙ ap (λ l. l ++ funcs) (ei ∙ ap (λ l. l ++ imports) (et ∙ ap (λ l. l ++ types) (eh ∙ ap (λ l. l ++ header) ez)))))
 
 -- Lengths.
 
@@ -186,11 +208,11 @@ coded_length told s n f h =
     omega (arith, section_length 10 (vec_bytes (λ b. sized_bytes (body_bytes b)) (nop_body told s n ∷ [])) (omega arith))
 
 -- three parts of bytes
-short_by : (a b c whole : List ℕ) (name count : ℕ) → length whole ≡ length (a ++ b ++ c) → name ≤ narrow_file → count ≤ narrow_file → length a ≤ 60 → length b ≤ name + 18 → length c ≤ 11 * count + 14 → length whole < 2 ^ 32
+short_by : (a b c whole : List ℕ) (name count : ℕ) → length whole ≡ length (a ++ b ++ c) → name ≤ narrow_file → count ≤ narrow_file → length a ≤ 60 → length b ≤ name + 18 → length c ≤ 11 * count + 14 → length whole ≤ 268435456
 short_by a b c whole name count e n k f g h = omega (arith, length-append (a ++ b) c, length-append a b)
 
--- The bytes that are written are fewer than 2 ^ 32.
-pub output_short : (told : Bool) (name : List ℕ) (count : ℕ) → length name ≤ narrow_file → count ≤ narrow_file → length (module_bytes (nops_output told name count)) < 2 ^ 32
+-- The bytes that are written are no more than an output may have.
+pub output_short : (told : Bool) (name : List ℕ) (count : ℕ) → length name ≤ narrow_file → count ≤ narrow_file → length (module_bytes (nops_output told name count)) ≤ 268435456
 output_short told name count n c =
     let index = length (nop_keys told) in
     let s = nop_site name count in

@@ -1,32 +1,12 @@
 -- The modules of nops, part by part.
-use Rattle.std.proofs.Common.{◌≡◌, ℕ, suc, ◌+◌, ◌^◌, ◌<◌, ◌≤◌, List, [], ◌∷◌, ◌++◌, refl, ap, arith, length, length-append, All}
+use Rattle.std.proofs.Common.{ℕ, suc, ◌^◌, ◌<◌, ◌≤◌, List, [], ◌∷◌, ◌++◌, arith, length, length-append}
 use Rattle.std.proofs.lemmas.List.Elements.{All-nil, All-cons}
 use Rattle.leb_binary.specs.Shortest.{unsigned_bytes}
 use Rattle.module_ast.specs.declared.module.Body.{Body}
-use Rattle.module_ast.specs.declared.module.ExportKind.TheVariants.{Func}
 use Rattle.module_ast.specs.declared.module.Module.{Module}
 use Rattle.module_ast.specs.Grammar.{header}
-use Rattle.module_ast.specs.Tree.{done}
 use Rattle.module_ast.specs.Canonical.{body_bytes, code_bytes, element_bytes, export_bytes, func_type_bytes, global_bytes, group_bytes, import_bytes, items_bytes, limits_bytes, module_bytes, segment_bytes, sized_bytes, start_bytes, table_bytes, vec_bytes, vec_section}
-use Rattle.instrument.specs.Nops.{nops, AreShort, HasFunctionsAlone, IsNops, narrow_file}
-
--- a module of these parts is of this form
-pub nops_from : (m : Module) (name : List ℕ) (count : ℕ) → m.types ≡ record { params = []; results = [] } ∷ [] → m.funcs ≡ 0 ∷ [] → HasFunctionsAlone m
-    → m.exports ≡ record { name = name; kind = Func; index = 0 } ∷ [] → m.bodies ≡ record { groups = []; code = nops count done } ∷ [] → IsNops m name count
-nops_from m name count types funcs alone exports bodies =
-    cc (types, funcs, alone.imports, alone.tables, alone.memories, alone.globals, alone.start, alone.elements, alone.segments, exports, bodies)
-
--- it has functions, their types and exports alone
-pub nops_alone : (m : Module) (name : List ℕ) (count : ℕ) → IsNops m name count → HasFunctionsAlone m
-nops_alone m name count h = record {
-  imports = ap (λ (x : Module). x.imports) h;
-  tables = ap (λ (x : Module). x.tables) h;
-  memories = ap (λ (x : Module). x.memories) h;
-  globals = ap (λ (x : Module). x.globals) h;
-  start = ap (λ (x : Module). x.start) h;
-  elements = ap (λ (x : Module). x.elements) h;
-  segments = ap (λ (x : Module). x.segments) h;
-}
+use Rattle.instrument.specs.Nops.{AreShort, narrow_file}
 
 -- the code of a body is shorter than the body in its section
 body_longer : (b : Body) → length (code_bytes b.code) ≤ length (sized_bytes (body_bytes b))

@@ -96,7 +96,8 @@ output_fits name (suc k) hooks (inr e) u c =
 pub output_spelled : (name : List ℕ) (count : ℕ) (hooks : Hooks) (told : Bool) → IsNopModule name count → IsNopChoice hooks → IsTold hooks count told → IsModule (output_bytes (nop_module name count) hooks) (tree_of (output (nop_module name count) hooks))
 output_spelled name count hooks told m choice t =
     let long = original_long name count in
-    let short : length (module_bytes (nops_output told name count)) < 2 ^ 32 = output_short told name count (omega arith) (omega arith) in
+    let few = output_short told name count (omega arith) (omega arith) in
+    let short : length (module_bytes (nops_output told name count)) < 2 ^ 32 = omega arith in
     let whole : length (output_bytes (nop_module name count) hooks) < 2 ^ 32 = subst (λ o. length (module_bytes o) < 2 ^ 32) (sym (told_output name count hooks told choice t)) short in
     module_spelled (output (nop_module name count) hooks) (output_fits name count hooks choice m.text (omega arith) whole)
 

@@ -7,7 +7,7 @@ use Rattle.leb_binary.proofs.Spelled.{spelled_unsigned, spelled_signed}
 use Rattle.module_ast.specs.Canonical.{plain_bytes, items_bytes, code_bytes, sized_bytes, section_bytes}
 use Rattle.rewrite.specs.Nops.{nops_rewritten, IsFirst}
 use Rattle.hook_mono.specs.Needed.{Site}
-use Rattle.rewrite.proofs.NopCode.{nop_code, nops_code, plains_bytes, rewritten_is}
+use Rattle.rewrite.proofs.NopCode.{nop_plains, nops_code, plains_bytes, rewritten_is}
 
 -- a byte for 7 bits
 unsigned_length : (size : ℕ) (bytes : List ℕ) (n : ℕ) → 0 < size → IsUnsigned size bytes n → 7 * length bytes ≤ size + 6
@@ -41,7 +41,7 @@ pub section_length : (id : ℕ) (content : List ℕ) → length content < 2 ^ 32
 section_length id content h = omega (arith, sized_length content h)
 
 -- at most 11 bytes for a nop
-nop_length : (told : Bool) (p : ℕ) → p < 2 ^ 31 → length (items_bytes plain_bytes (nop_code told p)) ≤ 11
+nop_length : (told : Bool) (p : ℕ) → p < 2 ^ 31 → length (items_bytes plain_bytes (nop_plains told p)) ≤ 11
 nop_length true p h = simp length-append (omega (arith, signed_five p h))
 nop_length false p h = omega arith
 
@@ -49,8 +49,8 @@ pub nops_length : (told : Bool) (p n : ℕ) → p + n ≤ 2 ^ 31 → length (cod
 nops_length told p zero h = omega arith
 nops_length told p (suc n) h =
     let r = nops_length told (p + 1) n (omega arith) in
-    let e = ap length (plains_bytes (nop_code told p) (nops_code told (p + 1) n)) in
-    omega (arith, length-append (items_bytes plain_bytes (nop_code told p)) (code_bytes (nops_code told (p + 1) n)), nop_length told p (omega arith))
+    let e = ap length (plains_bytes (nop_plains told p) (nops_code told (p + 1) n)) in
+    omega (arith, length-append (items_bytes plain_bytes (nop_plains told p)) (code_bytes (nops_code told (p + 1) n)), nop_length told p (omega arith))
 
 -- of a body
 pub rewritten_length : (told : Bool) (s : Site) (n : ℕ) → IsFirst s → n ≤ 2 ^ 31 → length (code_bytes (nops_rewritten told s n)) ≤ 11 * n
