@@ -1,7 +1,7 @@
 -- What is known between two tokens of an expression: what may follow, and what was built.
 use Rattle.std.proofs.Common.{◌≡◌, ℕ, suc, ◌+◌, ◌<◌, ◌≤◌, List, [], ◌∷◌, ◌++◌, length, refl, sym, ap, ◌∙◌, subst, arith, length-append, inl, inr}
 use Rattle.std.specs.Prelude.{Bool, true, false, ◌||◌, max, map, ◌⊎◌}
-use Rattle.std.proofs.lemmas.Bool.{cases_lt}
+use Rattle.std.proofs.lemmas.Bool.{cases_lt, or_parts}
 use Rattle.leb_binary.specs.Leb.{IsFront, HasNoFront}
 use Rattle.module_ast.specs.Grammar as grammar
 use Rattle.module_ast.specs.Grammar.{IsExpr}
@@ -24,7 +24,7 @@ use Rattle.code_decode.specs.declared.expr.Frame.{Frame}
 use Rattle.code_decode.specs.declared.expr.Scan.{Scan}
 use Rattle.code_decode.specs.declared.expr.Expr.{Expr}
 use Rattle.code_decode.specs.declared.expr.Expr.TheVariants as exprs
-use Rattle.code_decode.proofs.Bridges.{nesting_same, none_first, none_second, unfloated}
+use Rattle.code_decode.proofs.Bridges.{nesting_same, unfloated}
 use Rattle.code_decode.proofs.Built.{Built, built_nothing, built_plain, built_open, built_else, built_end, built_whole}
 use Rattle.code_decode.proofs.Known.{Known, Reads, start, nothing_fails, plain_at, float_at, opens_at, end_at, else_at, else_fails_at, top_else_at, top_found_at}
 use Rattle.code_decode.proofs.Unique.{one_expr}
@@ -91,7 +91,7 @@ module _ (bound : ℕ) (all left rest : List ℕ) (fs : List Frame) (is : List I
       let k = opens_at all left rest (opens fs) floats nesting kind floating (t, q, (ty, i, g, h)) s.known in
       record {
         known = subst (λ o. Known all o after nesting rest) (ap (λ j. opens fs ++ open_of j ∷ []) (sym d) ∙ sym (opens_push fs f)) (subst (λ b. Known all (opens fs ++ open_of kind ∷ []) b nesting rest) (sym a) k);
-        built = λ n m. built_open all left rest fs is kind t f e d (h (none_second floats floating (sym a ∙ n))) q (s.built (none_first floats floating (sym a ∙ n)) m);
+        built = λ n m. built_open all left rest fs is kind t f e d (h (or_parts floats floating (sym a ∙ n)).1) q (s.built (or_parts floats floating (sym a ∙ n)).0 m);
         room = omega (arith, s.room, length-append fs (f ∷ []));
         deep = s.deep;
       }

@@ -132,6 +132,7 @@ impl Scan {
 ///
 /// It goes over the tokens once, with a stack of its own, and recurses nowhere. What is nested deeper than the bound is
 /// dropped as it closes, so no tree is ever deeper. `Malformed` comes before a floating node, and that before the nesting.
+/// After an `Err` it is not told where the cursor stands.
 pub fn read_expr(alloc: Global, cursor: &mut Cursor, bound: u32) -> Result<Expr, Fault>
     requires bytes { length cursor.now.left ≤ 268435456 }
     requires bound { bound ≤ 1002 }
