@@ -1,6 +1,7 @@
 -- A body is locals and an expression that fill its bytes.
 use Rattle.std.proofs.Common.{◌≡◌, ℕ, ◌+◌, ◌^◌, ◌<◌, ◌≤◌, List, [], ◌∷◌, ◌++◌, refl, sym, ap, ◌∙◌, subst, append-nil, arith}
 use Rattle.std.specs.Prelude.{Bool, true, false, ◌||◌, map}
+use Rattle.std.proofs.lemmas.Bool.{or_left, or_right}
 use Rattle.leb_binary.specs.Leb.{IsFront, HasNoFront}
 use Rattle.leb_binary.specs.Fronts.{OneFront}
 use Rattle.leb_binary.proofs.Fronts.{front_one}
@@ -80,22 +81,13 @@ answer_tree bound (Built c) bytes rest h = (code c, h.0)
 answer_tree bound Floats bytes rest h = (h.0, h.1)
 answer_tree bound (Deep found) bytes rest h = (code h.0, h.1)
 
--- one of two
-pub either_first : (a b : Bool) → a ≡ true → (a || b) ≡ true
-either_first true b h = refl
-either_first false b h = cc
-
-pub either_second : (a b : Bool) → b ≡ true → (a || b) ≡ true
-either_second true b h = refl
-either_second false b h = h
-
 -- locals and an expression that end where the bytes do
 module _ (bytes mid left : List ℕ) (gs : List Group) (f : IsFront AreLocals bytes mid gs) (e : left ≡ []) where
   pub float_groups : (t : Tree) → some_in group_floats gs ≡ true → IsFront IsExpr mid left t → BodyFloats bytes
-  float_groups t h g = (body_by gs t, body_some bytes mid left gs t f g e, either_first (some_in (λ (k : Group). is_floating k.ty) gs) (code_floats t) h)
+  float_groups t h g = (body_by gs t, body_some bytes mid left gs t f g e, or_left (some_in (λ (k : Group). is_floating k.ty) gs) (code_floats t) h)
 
   pub float_code : (t : Tree) → code_floats t ≡ true → IsFront IsExpr mid left t → BodyFloats bytes
-  float_code t h g = (body_by gs t, body_some bytes mid left gs t f g e, either_second (some_in (λ (k : Group). is_floating k.ty) gs) (code_floats t) h)
+  float_code t h g = (body_by gs t, body_some bytes mid left gs t f g e, or_right (some_in (λ (k : Group). is_floating k.ty) gs) (code_floats t) h)
 
   abbrev kept_by : List kept.Group → ast.Tree → kept_body.Body
   kept_by ks c = record { groups = ks; code = c }

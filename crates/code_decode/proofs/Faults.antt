@@ -1,5 +1,5 @@
 -- An error that is passed on.
-use Rattle.std.specs.Prelude.{◌≡◌, Result, Err}
+use Rattle.std.specs.Prelude.{◌≡◌, Result, Ok, Err, OnErr}
 use Rattle.std.specs.Result.{IsErrOf, IsErrAnd}
 use Rattle.std.proofs.lemmas.Result.{err_from_is_err_and}
 use Rattle.code_decode.specs.Locals.{body_fault}
@@ -7,6 +7,11 @@ use Rattle.code_decode.specs.declared.fault.Fault.{Fault}
 use Rattle.code_decode.specs.declared.fault.Fault.TheVariants as faults
 use Rattle.code_decode.specs.declared.body.BodyFault.{BodyFault}
 use Rattle.code_decode.specs.declared.body.BodyFault.TheVariants.{Malformed}
+
+-- what holds of any error
+pub on_err : {A E : Type 0} (r : Result A E) {P : Type 0} → P → OnErr r P
+on_err (Ok x) p = tt
+on_err (Err e) p = p
 
 -- where the result of a `?` is this error, the error that it passes on is
 pub passed_on : {T U E : Type 0} (r : Result T E) (x m : E) → IsErrAnd r (λ y. y ≡ x) → IsErrOf r m → IsErrOf {T = U} (Err x) m

@@ -1,6 +1,7 @@
 -- What is known between two tokens of an expression: what may follow, and what was built.
-use Rattle.std.proofs.Common.{◌≡◌, ℕ, suc, ◌+◌, ◌<◌, ◌≤◌, List, [], ◌∷◌, ◌++◌, length, refl, sym, ap, ◌∙◌, subst, arith, length-append}
-use Rattle.std.specs.Prelude.{Bool, true, false, ◌||◌, max, map}
+use Rattle.std.proofs.Common.{◌≡◌, ℕ, suc, ◌+◌, ◌<◌, ◌≤◌, List, [], ◌∷◌, ◌++◌, length, refl, sym, ap, ◌∙◌, subst, arith, length-append, inl, inr}
+use Rattle.std.specs.Prelude.{Bool, true, false, ◌||◌, max, map, ◌⊎◌}
+use Rattle.std.proofs.lemmas.Bool.{cases_lt, or_parts}
 use Rattle.leb_binary.specs.Leb.{IsFront, HasNoFront}
 use Rattle.module_ast.specs.Grammar as grammar
 use Rattle.module_ast.specs.Grammar.{IsExpr}
@@ -14,13 +15,16 @@ use Rattle.leb_binary.proofs.Fronts.{front_one}
 use Rattle.code_decode.specs.Answers.{IsExprAnswer}
 use Rattle.code_decode.specs.Nesting.{tree_nesting}
 use Rattle.code_decode.specs.Opened.{closed}
+use Rattle.code_decode.specs.Scans.{HasNoThen, Ends}
 use Rattle.code_decode.specs.Steps.{Open, then, open_of}
 use Rattle.code_decode.specs.declared.token.Kind.{Kind}
 use Rattle.code_decode.specs.declared.token.Kind.TheVariants as kinds
 use Rattle.code_decode.specs.declared.token.Read.TheVariants as reads
 use Rattle.code_decode.specs.declared.expr.Frame.{Frame}
+use Rattle.code_decode.specs.declared.expr.Scan.{Scan}
+use Rattle.code_decode.specs.declared.expr.Expr.{Expr}
 use Rattle.code_decode.specs.declared.expr.Expr.TheVariants as exprs
-use Rattle.code_decode.proofs.Bridges.{nesting_same, none_first, none_second, unfloated}
+use Rattle.code_decode.proofs.Bridges.{nesting_same, unfloated}
 use Rattle.code_decode.proofs.Built.{Built, built_nothing, built_plain, built_open, built_else, built_end, built_whole}
 use Rattle.code_decode.proofs.Known.{Known, Reads, start, nothing_fails, plain_at, float_at, opens_at, end_at, else_at, else_fails_at, top_else_at, top_found_at}
 use Rattle.code_decode.proofs.Unique.{one_expr}
@@ -37,14 +41,14 @@ opens_length : (fs : List Frame) → length (opens fs) ≡ length fs
 opens_length [] = refl
 opens_length (g ∷ fs) = ap suc (opens_length fs)
 
--- one of two, where the first is known
-pub or_true : (a b : Bool) → a ≡ true → a ≡ (a || b)
-or_true true b h = refl
-or_true false b h = cc
-
-pub or_false : (a b : Bool) → a ≡ false → b ≡ (a || b)
-or_false false b h = refl
-or_false true b h = cc
+-- a list is empty or has a last item
+at_last : {A : Type 0} (xs : List A) → (xs ≡ []) ⊎ ((init : List A) × (last : A) × (xs ≡ init ++ last ∷ []))
+at_last [] = inl refl
+at_last (x ∷ xs) =
+    elim (at_last xs) [
+      | inl e ↦ inr ([], x, ap (λ l. x ∷ l) e)
+      | inr r ↦ inr (x ∷ r.0, r.1, ap (λ l. x ∷ l) r.2)
+    ]
 
 -- what is known: the tree exists exactly where the rest completes it, and what was built is what was read
 pub record State (bound : ℕ) (all : List ℕ) (fs : List Frame) (is : List Instr) (floats : Bool) (nesting : ℕ) (left : List ℕ) : Type 0 where
@@ -87,7 +91,7 @@ module _ (bound : ℕ) (all left rest : List ℕ) (fs : List Frame) (is : List I
       let k = opens_at all left rest (opens fs) floats nesting kind floating (t, q, (ty, i, g, h)) s.known in
       record {
         known = subst (λ o. Known all o after nesting rest) (ap (λ j. opens fs ++ open_of j ∷ []) (sym d) ∙ sym (opens_push fs f)) (subst (λ b. Known all (opens fs ++ open_of kind ∷ []) b nesting rest) (sym a) k);
-        built = λ n m. built_open all left rest fs is kind t f e d (h (none_second floats floating (sym a ∙ n))) q (s.built (none_first floats floating (sym a ∙ n)) m);
+        built = λ n m. built_open all left rest fs is kind t f e d (h (or_parts floats floating (sym a ∙ n)).1) q (s.built (or_parts floats floating (sym a ∙ n)).0 m);
         room = omega (arith, s.room, length-append fs (f ∷ []));
         deep = s.deep;
       }
@@ -112,7 +116,7 @@ module _ (bound : ℕ) (all left rest : List ℕ) (fs : List Frame) (is : List I
         }
 
     -- `end` closes a sequence
-    pub on_end : (i : Instr) → i ≡ closed f.kind (code_of is) → Reads left rest reads.End → State bound all stack is floats nesting left → State bound all fs (f.before.items ++ i ∷ []) floats (max nesting depth) rest
+    on_end : (i : Instr) → i ≡ closed f.kind (code_of is) → Reads left rest reads.End → State bound all stack is floats nesting left → State bound all fs (f.before.items ++ i ∷ []) floats (max nesting depth) rest
     on_end i h (t, q, k) s =
         let l = token_shorter left rest t q in
         record {
@@ -123,7 +127,7 @@ module _ (bound : ℕ) (all left rest : List ℕ) (fs : List Frame) (is : List I
         }
 
     -- above the bound nothing more is built
-    pub on_end_deep : (js : List Instr) → bound < max nesting depth → Reads left rest reads.End → State bound all stack is floats nesting left → State bound all fs js floats (max nesting depth) rest
+    on_end_deep : (js : List Instr) → bound < max nesting depth → Reads left rest reads.End → State bound all stack is floats nesting left → State bound all fs js floats (max nesting depth) rest
     on_end_deep js h (t, q, k) s =
         let l = token_shorter left rest t q in
         record {
@@ -134,7 +138,7 @@ module _ (bound : ℕ) (all left rest : List ℕ) (fs : List Frame) (is : List I
         }
 
     -- an `else` in another sequence than the first part of an `if`
-    pub else_stops : ((ty : BlockType) → f.kind ≡ kinds.Then ty → ⊥) → Reads left rest reads.Else → State bound all stack is floats nesting left → HasNoFront IsExpr all
+    else_stops : ((ty : BlockType) → f.kind ≡ kinds.Then ty → ⊥) → Reads left rest reads.Else → State bound all stack is floats nesting left → HasNoFront IsExpr all
     else_stops h r s = else_fails_at all left rest (opens fs) floats nesting (opens stack) (open_of f.kind) last_open (not_then f.kind h) r s.known
       where
         not_then : (k : Kind) → ((ty : BlockType) → k ≡ kinds.Then ty → ⊥) → open_of k ≡ then → ⊥
@@ -148,7 +152,7 @@ module _ (bound : ℕ) (all left rest : List ℕ) (fs : List Frame) (is : List I
   nothing_stops h s = nothing_fails all left (opens fs) floats nesting h s.known
 
   -- an `else` in no sequence
-  pub top_else_stops : fs ≡ [] → Reads left rest reads.Else → State bound all fs is floats nesting left → HasNoFront IsExpr all
+  top_else_stops : fs ≡ [] → Reads left rest reads.Else → State bound all fs is floats nesting left → HasNoFront IsExpr all
   top_else_stops h r s = top_else_at all left rest (opens fs) floats nesting (ap opens h) r s.known
 
   -- the last `end`
@@ -156,18 +160,47 @@ module _ (bound : ℕ) (all left rest : List ℕ) (fs : List Frame) (is : List I
     found : (t : grammar.Tree) × IsFront IsExpr all rest t × (floats ≡ code_floats t) × (nesting ≡ tree_nesting t)
     found = top_found_at all left rest (opens fs) floats nesting (ap opens h) r s.known
 
-    pub end_floats : floats ≡ true → IsExprAnswer bound exprs.Floats all rest
+    end_floats : floats ≡ true → IsExprAnswer bound exprs.Floats all rest
     end_floats f = (found.0, found.1, sym found.2 ∙ f)
 
-    pub end_deep : floats ≡ false → bound < nesting → IsExprAnswer bound (exprs.Deep nesting) all rest
+    end_deep : floats ≡ false → bound < nesting → IsExprAnswer bound (exprs.Deep nesting) all rest
     end_deep f n =
         let t = unfloated found.0 (sym found.2 ∙ f) in
         (t.0, subst (IsFront IsExpr all rest) t.1 found.1, found.3 ∙ ap tree_nesting t.1 ∙ nesting_same t.0, n)
 
-    pub end_built : floats ≡ false → nesting ≤ bound → IsExprAnswer bound (exprs.Built (code_of is)) all rest
+    end_built : floats ≡ false → nesting ≤ bound → IsExprAnswer bound (exprs.Built (code_of is)) all rest
     end_built f n =
         let b = subst (λ v. Built all v is left) h (s.built f n) in
         let (t, q, k) = r in
         let w = built_whole all left rest is (subst (IsFront IsToken left rest) k q) b in
         let o = front_one IsExpr one_expr all rest rest found.0 (code (code_of is)) found.1 w in
         (w, omega (arith, n, found.3, ap tree_nesting o.1, nesting_same (code_of is)))
+
+-- an `else` where the innermost frame is not of the first part of an `if`
+pub no_then_stops : (bound : ℕ) (all left rest : List ℕ) (fs : List Frame) (is : List Instr) (floats : Bool) (nesting : ℕ) → HasNoThen fs → Reads left rest reads.Else → State bound all fs is floats nesting left → HasNoFront IsExpr all
+no_then_stops bound all left rest fs is floats nesting h r s =
+    elim (at_last fs) [
+      | inl e ↦ top_else_stops bound all left rest fs is floats nesting e r s
+      | inr (outer, f, e) ↦
+          else_stops bound all left rest outer is floats nesting fs f (suc (length outer)) e refl (λ ty k. h outer f ty e k) r s
+    ]
+
+-- `end` of a sequence whose frame was taken off
+pub on_ends : (bound : ℕ) (all left rest : List ℕ) (old new : Scan) (f : Frame) (stack : List Frame) → Ends old new f bound → stack ≡ old.stack.items ++ f ∷ [] → Reads left rest reads.End → State bound all stack old.items.items old.floats old.nesting left → State bound all new.stack.items new.items.items new.floats new.nesting rest
+on_ends bound all left rest old new f stack e g r s =
+    let deeper : State bound all old.stack.items new.items.items old.floats (max old.nesting (length old.stack.items + 1)) rest =
+    elim (cases_lt bound new.nesting) [
+      | inl l ↦ on_end_deep bound all left rest old.stack.items old.items.items old.floats old.nesting stack f (length old.stack.items + 1) g (omega arith) new.items.items (omega (arith, l, e.nesting)) r s
+      | inr l ↦ rw (e.within l) (on_end bound all left rest old.stack.items old.items.items old.floats old.nesting stack f (length old.stack.items + 1) g (omega arith) (closed f.kind (code_of old.items.items)) refl r s)
+    ] in
+    rw (e.stack, e.floats, e.nesting) deeper
+
+-- the answer at the last `end`
+pub end_answer : (bound : ℕ) (all left rest : List ℕ) (fs : List Frame) (is : List Instr) (floats : Bool) (nesting : ℕ) → fs ≡ [] → Reads left rest reads.End → State bound all fs is floats nesting left → (answer : Expr) → (floats ≡ true → answer ≡ exprs.Floats) → (floats ≡ false → bound < nesting → answer ≡ exprs.Deep nesting) → (floats ≡ false → nesting ≤ bound → answer ≡ exprs.Built (code_of is)) → IsExprAnswer bound answer all rest
+end_answer bound all left rest fs is true nesting h r s answer a b c =
+    subst (λ e. IsExprAnswer bound e all rest) (sym (a refl)) (end_floats bound all left rest fs is true nesting h r s refl)
+end_answer bound all left rest fs is false nesting h r s answer a b c =
+    elim (cases_lt bound nesting) [
+      | inl l ↦ subst (λ e. IsExprAnswer bound e all rest) (sym (b refl l)) (end_deep bound all left rest fs is false nesting h r s refl l)
+      | inr l ↦ subst (λ e. IsExprAnswer bound e all rest) (sym (c refl l)) (end_built bound all left rest fs is false nesting h r s refl l)
+    ]

@@ -14,6 +14,12 @@ use Rattle.code_decode.specs.declared.class.Indexed.{Indexed}
 use Rattle.code_decode.specs.declared.class.Indexed.TheVariants as indexed
 use Rattle.code_decode.specs.declared.class.Access.{Access}
 use Rattle.code_decode.specs.declared.class.Access.TheVariants as accesses
+use Rattle.code_decode.specs.declared.class.Operands.{Operands}
+use Rattle.code_decode.specs.declared.class.Operands.TheVariants as operands
+use Rattle.code_decode.specs.declared.class.FloatOperands.{FloatOperands}
+use Rattle.code_decode.specs.declared.class.FloatOperands.TheVariants as floats
+use Rattle.code_decode.specs.declared.class.Opening.{Opening}
+use Rattle.code_decode.specs.declared.class.Opening.TheVariants as openings
 use Rattle.code_decode.specs.declared.class.Class.{Class}
 use Rattle.code_decode.specs.declared.class.Class.TheVariants as classes
 
@@ -56,22 +62,31 @@ access_plain (accesses.Load op) m = load op m
 access_plain (accesses.Store op) m = store op m
 
 -- what follows the opcode
+abbrev pub plain_shape : Operands → Shape
+plain_shape (operands.Bare b) = tokens.bare (bare_plain b)
+plain_shape (operands.Index i) = tokens.index (index_plain i)
+plain_shape operands.Table = tokens.table
+plain_shape operands.Indirect = tokens.indirect
+plain_shape (operands.ZeroByte b) = tokens.zero_byte (bare_plain b)
+plain_shape (operands.Arg a) = tokens.arg (access_plain a)
+plain_shape operands.Small = tokens.small
+plain_shape operands.Wide = tokens.wide
+
+abbrev pub float_shape : FloatOperands → Shape
+float_shape floats.Nothing = tokens.float_bare
+float_shape floats.Arg = tokens.float_arg
+float_shape floats.FourBytes = tokens.float_four
+float_shape floats.EightBytes = tokens.float_eight
+
+abbrev pub opening_shape : Opening → Shape
+opening_shape openings.Block = tokens.block_s
+opening_shape openings.Loop = tokens.loop_s
+opening_shape openings.If = tokens.if_s
+
 abbrev pub shape_of : Class → Shape
 shape_of classes.Nothing = tokens.nothing
-shape_of (classes.Bare b) = tokens.bare (bare_plain b)
-shape_of (classes.Index i) = tokens.index (index_plain i)
-shape_of classes.Table = tokens.table
-shape_of classes.Indirect = tokens.indirect
-shape_of (classes.ZeroByte b) = tokens.zero_byte (bare_plain b)
-shape_of (classes.Arg a) = tokens.arg (access_plain a)
-shape_of classes.Small = tokens.small
-shape_of classes.Wide = tokens.wide
-shape_of classes.FloatBare = tokens.float_bare
-shape_of classes.FloatArg = tokens.float_arg
-shape_of classes.FloatFour = tokens.float_four
-shape_of classes.FloatEight = tokens.float_eight
-shape_of classes.Block = tokens.block_s
-shape_of classes.Loop = tokens.loop_s
-shape_of classes.If = tokens.if_s
+shape_of (classes.Plain o) = plain_shape o
+shape_of (classes.Float o) = float_shape o
+shape_of (classes.Opens o) = opening_shape o
 shape_of classes.Else = tokens.else_s
 shape_of classes.End = tokens.end_s

@@ -43,10 +43,9 @@ pub enum Access {
     Store(StoreOp),
 }
 
-/// What an opcode begins, and so what follows it.
+/// A plain instruction, by what follows its opcode.
 #[derive(Clone, Copy, Debug, PartialEq, Eq)]
-pub enum Class {
-    Nothing,
+pub enum Operands {
     Bare(Bare),
     Index(Indexed),
     Table,
@@ -55,13 +54,32 @@ pub enum Class {
     Arg(Access),
     Small,
     Wide,
-    FloatBare,
-    FloatArg,
-    FloatFour,
-    FloatEight,
+}
+
+/// A floating instruction, by what follows its opcode.
+#[derive(Clone, Copy, Debug, PartialEq, Eq)]
+pub enum FloatOperands {
+    Nothing,
+    Arg,
+    FourBytes,
+    EightBytes,
+}
+
+/// What opens a sequence. The type of a block follows.
+#[derive(Clone, Copy, Debug, PartialEq, Eq)]
+pub enum Opening {
     Block,
     Loop,
     If,
+}
+
+/// What an opcode begins, and so what follows it. `Nothing` has no such opcode.
+#[derive(Clone, Copy, Debug, PartialEq, Eq)]
+pub enum Class {
+    Nothing,
+    Plain(Operands),
+    Float(FloatOperands),
+    Opens(Opening),
     Else,
     End,
 }
@@ -117,32 +135,32 @@ pub fn class_of(opcode: u8) -> Class
 {
     match opcode {
         0x00..=0x1F => control(opcode),
-        0x20 => Class::Index(Indexed::LocalGet),
-        0x21 => Class::Index(Indexed::LocalSet),
-        0x22 => Class::Index(Indexed::LocalTee),
-        0x23 => Class::Index(Indexed::GlobalGet),
-        0x24 => Class::Index(Indexed::GlobalSet),
-        0x28..=0x29 => Class::Arg(Access::Load(load_op(opcode))),
-        0x2A..=0x2B => Class::FloatArg,
-        0x2C..=0x35 => Class::Arg(Access::Load(load_op(opcode))),
-        0x36..=0x37 => Class::Arg(Access::Store(store_op(opcode))),
-        0x38..=0x39 => Class::FloatArg,
-        0x3A..=0x3E => Class::Arg(Access::Store(store_op(opcode))),
-        0x3F => Class::ZeroByte(Bare::MemorySize),
-        0x40 => Class::ZeroByte(Bare::MemoryGrow),
-        0x41 => Class::Small,
-        0x42 => Class::Wide,
-        0x43 => Class::FloatFour,
-        0x44 => Class::FloatEight,
-        0x45..=0x5A => Class::Bare(Bare::Num(test_op(opcode))),
-        0x5B..=0x66 => Class::FloatBare,
-        0x67..=0x8A => Class::Bare(Bare::Num(arith_op(opcode))),
-        0x8B..=0xA6 => Class::FloatBare,
-        0xA7 => Class::Bare(Bare::Num(NumOp::I32WrapI64)),
-        0xA8..=0xAB => Class::FloatBare,
-        0xAC => Class::Bare(Bare::Num(NumOp::I64ExtendI32S)),
-        0xAD => Class::Bare(Bare::Num(NumOp::I64ExtendI32U)),
-        0xAE..=0xBF => Class::FloatBare,
+        0x20 => Class::Plain(Operands::Index(Indexed::LocalGet)),
+        0x21 => Class::Plain(Operands::Index(Indexed::LocalSet)),
+        0x22 => Class::Plain(Operands::Index(Indexed::LocalTee)),
+        0x23 => Class::Plain(Operands::Index(Indexed::GlobalGet)),
+        0x24 => Class::Plain(Operands::Index(Indexed::GlobalSet)),
+        0x28..=0x29 => Class::Plain(Operands::Arg(Access::Load(load_op(opcode)))),
+        0x2A..=0x2B => Class::Float(FloatOperands::Arg),
+        0x2C..=0x35 => Class::Plain(Operands::Arg(Access::Load(load_op(opcode)))),
+        0x36..=0x37 => Class::Plain(Operands::Arg(Access::Store(store_op(opcode)))),
+        0x38..=0x39 => Class::Float(FloatOperands::Arg),
+        0x3A..=0x3E => Class::Plain(Operands::Arg(Access::Store(store_op(opcode)))),
+        0x3F => Class::Plain(Operands::ZeroByte(Bare::MemorySize)),
+        0x40 => Class::Plain(Operands::ZeroByte(Bare::MemoryGrow)),
+        0x41 => Class::Plain(Operands::Small),
+        0x42 => Class::Plain(Operands::Wide),
+        0x43 => Class::Float(FloatOperands::FourBytes),
+        0x44 => Class::Float(FloatOperands::EightBytes),
+        0x45..=0x5A => Class::Plain(Operands::Bare(Bare::Num(test_op(opcode)))),
+        0x5B..=0x66 => Class::Float(FloatOperands::Nothing),
+        0x67..=0x8A => Class::Plain(Operands::Bare(Bare::Num(arith_op(opcode)))),
+        0x8B..=0xA6 => Class::Float(FloatOperands::Nothing),
+        0xA7 => Class::Plain(Operands::Bare(Bare::Num(NumOp::I32WrapI64))),
+        0xA8..=0xAB => Class::Float(FloatOperands::Nothing),
+        0xAC => Class::Plain(Operands::Bare(Bare::Num(NumOp::I64ExtendI32S))),
+        0xAD => Class::Plain(Operands::Bare(Bare::Num(NumOp::I64ExtendI32U))),
+        0xAE..=0xBF => Class::Float(FloatOperands::Nothing),
         _ => Class::Nothing,
     }
 }
@@ -153,21 +171,21 @@ fn control(opcode: u8) -> Class
     ensures { shape_at opcode ≡ shape_of result }
 {
     match opcode {
-        0x00 => Class::Bare(Bare::Unreachable),
-        0x01 => Class::Bare(Bare::Nop),
-        0x02 => Class::Block,
-        0x03 => Class::Loop,
-        0x04 => Class::If,
+        0x00 => Class::Plain(Operands::Bare(Bare::Unreachable)),
+        0x01 => Class::Plain(Operands::Bare(Bare::Nop)),
+        0x02 => Class::Opens(Opening::Block),
+        0x03 => Class::Opens(Opening::Loop),
+        0x04 => Class::Opens(Opening::If),
         0x05 => Class::Else,
         0x0B => Class::End,
-        0x0C => Class::Index(Indexed::Br),
-        0x0D => Class::Index(Indexed::BrIf),
-        0x0E => Class::Table,
-        0x0F => Class::Bare(Bare::Return),
-        0x10 => Class::Index(Indexed::Call),
-        0x11 => Class::Indirect,
-        0x1A => Class::Bare(Bare::Drop),
-        0x1B => Class::Bare(Bare::Select),
+        0x0C => Class::Plain(Operands::Index(Indexed::Br)),
+        0x0D => Class::Plain(Operands::Index(Indexed::BrIf)),
+        0x0E => Class::Plain(Operands::Table),
+        0x0F => Class::Plain(Operands::Bare(Bare::Return)),
+        0x10 => Class::Plain(Operands::Index(Indexed::Call)),
+        0x11 => Class::Plain(Operands::Indirect),
+        0x1A => Class::Plain(Operands::Bare(Bare::Drop)),
+        0x1B => Class::Plain(Operands::Bare(Bare::Select)),
         _ => Class::Nothing,
     }
 }

@@ -29,7 +29,8 @@ fn read_group(cursor: &mut Cursor) -> Result<(u32, Option<ValType>), Bad>
     Ok((count, ty))
 }
 
-/// The groups of a body's locals, fewer than 2^32 locals together (5.4.6); none has a floating one.
+/// Takes the groups of a body's locals, fewer than 2^32 locals together (5.4.6); `None` has a floating one.
+/// After an `Err` it is not told where the cursor stands.
 pub fn read_locals(alloc: Global, cursor: &mut Cursor) -> Result<Option<Vec<Group>>, Fault>
     ensures ok { IfOk result (λ o. (gs : List grammar.Group) × IsFront AreLocals cursor.old.left cursor.new.left gs × MatchOption o (some_in group_floats gs ≡ true) (λ v. gs ≡ map group v.items)) }
     ensures malformed { IsErrOf result Fault.Malformed → HasNoFront AreLocals cursor.old.left }

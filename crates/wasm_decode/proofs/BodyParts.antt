@@ -1,28 +1,16 @@
 -- Bodies: their locals, and the parts of what a reader hands on.
-use Rattle.std.proofs.Common.{◌≡◌, ℕ, ◌+◌, List, [], ◌∷◌, ◌++◌, refl, arith}
-use Rattle.std.specs.Prelude.{Bool, true, false, ◌||◌, Option}
+use Rattle.std.proofs.Common.{◌≡◌, ℕ, List, [], ◌∷◌}
+use Rattle.std.specs.Prelude.{Bool, true, false, Option}
 use Rattle.module_ast.specs.Grammar as grammar
 use Rattle.module_ast.specs.Grammar.{IsSized, IsBody, AreItems, local_count}
 use Rattle.module_ast.specs.Profile.{some_in}
 use Rattle.wasm_decode.specs.Forms.{Form, StandFor}
 use Rattle.wasm_decode.specs.Drafts.{HaveFewLocals}
 
-pub locals_more : (gs : List grammar.Group) (g : grammar.Group) → local_count (gs ++ g ∷ []) ≡ local_count gs + g.count
-locals_more [] g = omega arith
-locals_more (k ∷ ks) g = let h = locals_more ks g in omega (arith, h)
-
 -- bodies behind their sizes have fewer than 2 ^ 32 locals
 pub few_locals : (bytes : List ℕ) (bs : List grammar.Body) → AreItems (IsSized IsBody) bytes bs → HaveFewLocals bs
 few_locals bytes [] p = tt
 few_locals bytes (b ∷ bs) (front, rest, e, (size, content, d, n, i), more) = (i.0, few_locals rest bs more)
-
-pub or_first : (a b : Bool) → a ≡ true → (a || b) ≡ true
-or_first true b h = refl
-or_first false b h = cc
-
-pub or_second : (a b : Bool) → b ≡ true → (a || b) ≡ true
-or_second true b h = refl
-or_second false b h = h
 
 -- where a part floats, an item does
 pub part_floats : {T G : Type 0} (f : Form T G) (bound : ℕ) (a : Bool) (xs : List T) (d : Option ℕ) (gs : List G) → StandFor f bound a xs d gs → a ≡ true → some_in f.floats gs ≡ true

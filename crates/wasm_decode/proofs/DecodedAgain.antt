@@ -1,11 +1,8 @@
 -- What is encoded is decoded again.
-use Rattle.std.proofs.Common.{◌≡◌, ◌<◌, ◌≤◌, ℕ, List, [], ◌∷◌, inl, inr, true, false, sym, subst, ◌∙◌, ap, arith}
-use Rattle.std.specs.Prelude.{◌⊎◌}
+use Rattle.std.proofs.Common.{◌≡◌, ℕ, List, [], ◌∷◌, inl, inr, true, false, sym, subst, ◌∙◌, arith}
 use Rattle.module_ast.specs.declared.module.Module.{Module}
 use Rattle.module_ast.specs.declared.module.Limits.{Limits}
 use Rattle.module_ast.specs.declared.module.Which.{Which}
-use Rattle.module_ast.specs.Grammar as grammar
-use Rattle.module_ast.specs.Grammar.{IsModule}
 use Rattle.module_ast.specs.Canonical.{module_bytes, without_customs}
 use Rattle.module_ast.specs.Profile.{tree_of, section_floats, bound_of, counts_of, AreWithin, IsWithin, IsFirstAbove}
 use Rattle.module_ast.specs.Decoding.{Gram, FileFloats, FileExceeds}
@@ -13,7 +10,7 @@ use Rattle.module_ast.specs.Fits.{Fits}
 use Rattle.module_ast.proofs.WrittenModules.{module_spelled}
 use Rattle.module_ast.proofs.ModuleTrees.{modules_unique, modules_plain}
 use Rattle.code_decode.proofs.Modules.{trees_one, faults_have_no_tree}
-use Rattle.wasm_decode.specs.Laws.{IsDecodedAgain, EncodedIsDecoded}
+use Rattle.wasm_decode.specs.Laws.{EncodedIsDecoded}
 
 -- numbers within a bound have none above it
 none_above : (bound : ℕ) (ns : List ℕ) (value : ℕ) → AreWithin bound ns → IsFirstAbove bound ns value → ⊥

@@ -1,13 +1,9 @@
 -- Items without code, and those that never float.
 use Rattle.std.proofs.Common.{◌≡◌, ℕ, List, [], ◌∷◌, refl, sym, ap, ◌∙◌}
-use Rattle.std.specs.Prelude.{map, Bool, true, false, ◌||◌, Option, cond, nat_lt}
+use Rattle.std.specs.Prelude.{map, Bool, true, false, Option, cond, nat_lt}
 use Rattle.module_ast.specs.Profile.{some_in}
 use Rattle.wasm_decode.specs.Forms.{drafted, StandFor}
 use Rattle.wasm_decode.specs.Kinds.{flat}
-
-or_true : (a : Bool) → (a || true) ≡ true
-or_true true = refl
-or_true false = refl
 
 cond_same : {A : Type 0} (b : Bool) (x : A) → cond b x x ≡ x
 cond_same true x = refl
@@ -20,14 +16,6 @@ module _ {T G : Type 0} (floats : G → Bool) (view : T → G) (bound : ℕ) whe
 
   pub flat_items : (xs : List T) (deep : Option ℕ) (gs : List G) → StandFor (flat floats view) bound false xs deep gs → gs ≡ map view xs
   flat_items xs deep gs (ys, e, d, a) = e ∙ ap (map view) (sym (d ∙ drafted_same ys))
-
-  pub first_floats : (a : Bool) (xs : List T) (d : Option ℕ) (gs hs : List G) → StandFor (flat floats view) bound a xs d gs → a ≡ true → (some_in floats gs || some_in floats hs) ≡ true
-  first_floats true xs d gs hs p h = ap (λ v. v || some_in floats hs) p
-  first_floats false xs d gs hs p h = cc
-
-  pub second_floats : (a : Bool) (xs : List T) (d : Option ℕ) (gs hs : List G) → StandFor (flat floats view) bound a xs d hs → a ≡ true → (some_in floats gs || some_in floats hs) ≡ true
-  second_floats true xs d gs hs p h = ap (λ v. some_in floats gs || v) p ∙ or_true (some_in floats gs)
-  second_floats false xs d gs hs p h = cc
 
   pub all_items : (a : Bool) (xs : List T) (d : Option ℕ) (gs : List G) → StandFor (flat floats view) bound a xs d gs → a ≡ false → gs ≡ map view xs
   all_items true xs d gs p h = cc

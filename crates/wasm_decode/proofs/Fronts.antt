@@ -1,5 +1,6 @@
 -- Expressions at the front of bytes, and how many bytes are left.
-use Rattle.std.proofs.Common.{◌≡◌, ℕ, suc, ◌+◌, ◌<◌, ◌≤◌, List, [], ◌∷◌, ◌++◌, length, refl, sym, ap, ◌∙◌, subst, length-append, arith}
+use Rattle.std.proofs.Common.{◌≡◌, ℕ, suc, ◌+◌, ◌<◌, ◌≤◌, List, ◌++◌, length, refl, sym, ap, ◌∙◌, subst, length-append, arith}
+use Rattle.std.proofs.lemmas.List.{nil_from_length}
 use Rattle.leb_binary.specs.Leb.{IsFront, HasNoFront}
 use Rattle.leb_binary.specs.Reading.{IsByte}
 use Rattle.leb_binary.specs.Fronts.{OneFront}
@@ -26,10 +27,6 @@ front_shorter item bytes rest x (f, e, p) = let h : length bytes ≡ length f + 
 pub byte_shorter : (bytes rest : List ℕ) (b : ℕ) → IsFront IsByte bytes rest b → length rest < length bytes
 byte_shorter bytes rest b (f, e, (p, q)) = let h : length bytes ≡ suc (length rest) = ap length (e ∙ ap (λ l. l ++ rest) p) in omega arith
 
-none_left : (l : List ℕ) → length l ≡ 0 → l ≡ []
-none_left [] h = refl
-none_left (b ∷ l) h = absurd (omega arith)
-
 -- an item that fills all the bytes
 module _ {A : Type 0} (item : List ℕ → A → Type 0) (start bytes : List ℕ) (same : start ≡ bytes) where
   pub whole_lacks : HasNoFront item start → (y : A) → item bytes y → ⊥
@@ -39,4 +36,4 @@ module _ {A : Type 0} (item : List ℕ → A → Type 0) (start bytes : List ℕ
   whole_left o left x f h y p = whole_none item o start left x f (λ e. h (ap length e)) y (subst (λ l. item l y) (sym same) p)
 
   pub whole_fills : (left : List ℕ) (x : A) → IsFront item start left x → length left ≡ 0 → item bytes x
-  whole_fills left x f h = subst (λ l. item l x) same (whole_some item start left x f (none_left left h))
+  whole_fills left x f h = subst (λ l. item l x) same (whole_some item start left x f (nil_from_length left h))

@@ -2,7 +2,6 @@ pub mod BodyParts
 pub mod Bytes
 pub mod Clean
 pub mod Continues
-pub mod Errors
 pub mod Exceeding
 pub mod Flat
 pub mod Fronts

@@ -1,31 +1,11 @@
 -- Sections by their ids.
 use Rattle.std.proofs.Common.{◌≡◌, ℕ, ◌<◌, ◌≤◌, ◌⊎◌, inl, inr, List, [], ◌∷◌, ◌++◌, refl, sym, ap, ◌∙◌, subst, arith}
-use Rattle.std.specs.Prelude.{cond, nat_lt, max}
+use Rattle.std.specs.Prelude.{max}
 use Rattle.leb_binary.specs.Leb.{IsFront}
 use Rattle.leb_binary.specs.Reading.{IsByte}
 use Rattle.module_ast.specs.Grammar.{Kind, Content, Section, Module, IsContent, IsSized, IsSection, HasNext, AreOrdered, id_of, with_section, with_sections, module_of, empty_module, custom_section, type_section, import_section, function_section, table_section, memory_section, global_section, export_section, start_section, element_section, code_section, data_section}
+use Rattle.code_decode.proofs.Items.{same_kind}
 use Rattle.wasm_decode.specs.Files.{last_of}
-
-abbrev kind_at : ℕ → Kind
-kind_at b = cond (nat_lt b 1) custom_section (cond (nat_lt b 2) type_section (cond (nat_lt b 3) import_section (cond (nat_lt b 4) function_section (cond (nat_lt b 5) table_section (cond (nat_lt b 6) memory_section (cond (nat_lt b 7) global_section (cond (nat_lt b 8) export_section (cond (nat_lt b 9) start_section (cond (nat_lt b 10) element_section (cond (nat_lt b 11) code_section data_section))))))))))
-
-kind_back : (k : Kind) → kind_at (id_of k) ≡ k
-kind_back custom_section = refl
-kind_back type_section = refl
-kind_back import_section = refl
-kind_back function_section = refl
-kind_back table_section = refl
-kind_back memory_section = refl
-kind_back global_section = refl
-kind_back export_section = refl
-kind_back start_section = refl
-kind_back element_section = refl
-kind_back code_section = refl
-kind_back data_section = refl
-
--- an id has one kind
-pub same_kind : (k l : Kind) → id_of k ≡ id_of l → k ≡ l
-same_kind k l h = sym (kind_back k) ∙ ap kind_at h ∙ kind_back l
 
 -- where the content of one kind is none, so is that of any section of its id
 pub wrong_content : (k : Kind) (content : List ℕ) (id : ℕ) → ((x : Content k) → IsContent k content x → ⊥) → id ≡ id_of k → (s : Section) → id ≡ id_of s.0 → IsContent s.0 content s.1 → ⊥

@@ -1,7 +1,7 @@
 -- A draft without floating nodes is a module, but for code that is too deep.
-use Rattle.std.proofs.Common.{◌≡◌, ℕ, ◌+◌, ◌<◌, ◌≤◌, inl, inr, List, [], ◌∷◌, ◌++◌, refl, sym, ap, ◌∙◌, subst, append_assoc, arith}
+use Rattle.std.proofs.Common.{◌≡◌, ℕ, ◌+◌, inl, inr, List, [], ◌∷◌, ◌++◌, refl, sym, ap, ◌∙◌, subst, append_assoc, arith}
 use Rattle.std.specs.Prelude.{map, Bool, true, false, Option, Some, None, cond, nat_lt}
-use Rattle.std.proofs.lemmas.Bool.Decides.{nat_tests}
+use Rattle.std.proofs.lemmas.Bool.{ltb-true, ltb-false}
 use Rattle.module_ast.specs.declared.module.Module.{Module}
 use Rattle.module_ast.specs.declared.module.Body.{Body}
 use Rattle.module_ast.specs.declared.module.Group.{Group}
@@ -41,21 +41,15 @@ none_choice : (b : Bool) (n : ℕ) (r : Option ℕ) → cond b (Some n) r ≡ No
 none_choice true n r h = cc
 none_choice false n r h = (refl, h)
 
-lt_no : (a b : ℕ) → nat_lt a b ≡ false → b ≤ a
-lt_no a b h = grind (arith, nat_tests)
-
-lt_yes : (a b : ℕ) → nat_lt a b ≡ true → a < b
-lt_yes a b h = grind (arith, nat_tests)
-
 pub none_within : (bound : ℕ) (ns : List ℕ) → first_above bound ns ≡ None → AreWithin bound ns
 none_within bound [] h = tt
 none_within bound (n ∷ ns) h =
     let k = none_choice (nat_lt bound n) n (first_above bound ns) h in
-    (lt_no bound n k.0, none_within bound ns k.1)
+    (ltb-false bound n k.0, none_within bound ns k.1)
 
 some_choice : (bound n : ℕ) (ns : List ℕ) (v : ℕ) (b : Bool) → nat_lt bound n ≡ b → cond b (Some n) (first_above bound ns) ≡ Some v → (first_above bound ns ≡ Some v → IsFirstAbove bound ns v) → IsFirstAbove bound (n ∷ ns) v
-some_choice bound n ns v true e h f = let k : v ≡ n = cc in inl (lt_yes bound n e, k)
-some_choice bound n ns v false e h f = inr (lt_no bound n e, f h)
+some_choice bound n ns v true e h f = let k : v ≡ n = cc in inl (ltb-true bound n e, k)
+some_choice bound n ns v false e h f = inr (ltb-false bound n e, f h)
 
 pub some_above : (bound : ℕ) (ns : List ℕ) (v : ℕ) → first_above bound ns ≡ Some v → IsFirstAbove bound ns v
 some_above bound [] v h = cc

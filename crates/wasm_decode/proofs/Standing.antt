@@ -1,35 +1,10 @@
 -- One item more.
 use Rattle.std.proofs.Common.{◌≡◌, ℕ, ◌<◌, ◌≤◌, List, [], ◌∷◌, ◌++◌, refl, sym, ap, ◌∙◌, arith}
-use Rattle.std.specs.Prelude.{map, Bool, true, false, ◌||◌, Option, Some, None, cond, nat_lt}
-use Rattle.std.proofs.lemmas.Bool.Decides.{nat_tests}
-use Rattle.module_ast.specs.Profile.{some_in}
+use Rattle.std.specs.Prelude.{map, Bool, true, false, Option, Some, None, cond, nat_lt}
+use Rattle.std.proofs.lemmas.Bool.{le-ltb, lt-ltb}
+use Rattle.std.proofs.lemmas.List.{map-append}
+use Rattle.code_decode.proofs.Stand.{some_more, some_last}
 use Rattle.wasm_decode.specs.Forms.{Form, drafted, first_above, first_of, StandFor}
-
-pub lt_false : (n k : ℕ) → k ≤ n → nat_lt n k ≡ false
-lt_false n k h = grind (arith, nat_tests)
-
-pub lt_true : (n k : ℕ) → n < k → nat_lt n k ≡ true
-lt_true n k h = grind (arith, nat_tests)
-
-pub map_push : {A G : Type 0} (view : A → G) (xs : List A) (x : A) → map view (xs ++ x ∷ []) ≡ map view xs ++ view x ∷ []
-map_push view [] x = refl
-map_push view (y ∷ ys) x = ap (λ l. view y ∷ l) (map_push view ys x)
-
-or_true : (a : Bool) → (a || true) ≡ true
-or_true true = refl
-or_true false = refl
-
-either : (b x y : Bool) → (b || x) ≡ true → (x ≡ true → y ≡ true) → (b || y) ≡ true
-either true x y h f = refl
-either false x y h f = f h
-
-some_more : {G : Type 0} (p : G → Bool) (gs : List G) (g : G) → some_in p gs ≡ true → some_in p (gs ++ g ∷ []) ≡ true
-some_more p [] g h = cc
-some_more p (k ∷ ks) g h = either (p k) (some_in p ks) (some_in p (ks ++ g ∷ [])) h (some_more p ks g)
-
-some_last : {G : Type 0} (p : G → Bool) (gs : List G) (g : G) → p g ≡ true → some_in p (gs ++ g ∷ []) ≡ true
-some_last p [] g h = ap (λ b. b || false) h
-some_last p (k ∷ ks) g h = ap (λ b. p k || b) (some_last p ks g h) ∙ or_true (p k)
 
 -- ---- the first number above a bound, with one number more behind
 
@@ -41,7 +16,7 @@ choice_within true n r s h = refl
 choice_within false n r s h = h
 
 first_within : (bound : ℕ) (ns : List ℕ) (n : ℕ) → n ≤ bound → first_above bound (ns ++ n ∷ []) ≡ first_above bound ns
-first_within bound [] n h = ap (above_by n None) (lt_false bound n h)
+first_within bound [] n h = ap (above_by n None) (le-ltb bound n h)
 first_within bound (k ∷ ks) n h = choice_within (nat_lt bound k) k (first_above bound (ks ++ n ∷ [])) (first_above bound ks) (first_within bound ks n h)
 
 choice_above : (b : Bool) (n found : ℕ) (r s : Option ℕ) → r ≡ first_of s found → cond b (Some n) r ≡ first_of (cond b (Some n) s) found
@@ -49,7 +24,7 @@ choice_above true n found r s h = refl
 choice_above false n found r s h = h
 
 first_beyond : (bound : ℕ) (ns : List ℕ) (n : ℕ) → bound < n → first_above bound (ns ++ n ∷ []) ≡ first_of (first_above bound ns) n
-first_beyond bound [] n h = ap (above_by n None) (lt_true bound n h)
+first_beyond bound [] n h = ap (above_by n None) (lt-ltb bound n h)
 first_beyond bound (k ∷ ks) n h = choice_above (nat_lt bound k) k n (first_above bound (ks ++ n ∷ [])) (first_above bound ks) (first_beyond bound ks n h)
 
 -- ---- an item more
@@ -59,18 +34,18 @@ module _ {T G : Type 0} (f : Form T G) (bound : ℕ) where
   draft_by x b = cond b (f.blank x) x
 
   drafted_whole : (x : T) → f.nests x ≤ bound → drafted f bound x ≡ x
-  drafted_whole x h = ap (draft_by x) (lt_false bound (f.nests x) h)
+  drafted_whole x h = ap (draft_by x) (le-ltb bound (f.nests x) h)
 
   drafted_deep : (x : T) → bound < f.nests x → drafted f bound x ≡ f.blank x
-  drafted_deep x h = ap (draft_by x) (lt_true bound (f.nests x) h)
+  drafted_deep x h = ap (draft_by x) (lt-ltb bound (f.nests x) h)
 
   -- of what was read
   more : (xs : List T) (x y : T) (deep : Option ℕ) (gs : List G) (g : G) (deeper : Option ℕ) → StandFor f bound false xs deep gs → g ≡ f.view y → x ≡ drafted f bound y → ((ys : List T) → deep ≡ first_above bound (map f.nests ys) → deeper ≡ first_above bound (map f.nests ys ++ f.nests y ∷ [])) → StandFor f bound false (xs ++ x ∷ []) deeper (gs ++ g ∷ [])
   more xs x y deep gs g deeper (ys, e, d, a) h k j = (
     ys ++ y ∷ [],
-    ap (λ l. l ++ g ∷ []) e ∙ ap (λ v. map f.view ys ++ v ∷ []) h ∙ sym (map_push f.view ys y),
-    ap (λ l. l ++ x ∷ []) d ∙ ap (λ v. map (drafted f bound) ys ++ v ∷ []) k ∙ sym (map_push (drafted f bound) ys y),
-    j ys a ∙ ap (first_above bound) (sym (map_push f.nests ys y)),
+    ap (λ l. l ++ g ∷ []) e ∙ ap (λ v. map f.view ys ++ v ∷ []) h ∙ sym (map-append f.view ys (y ∷ [])),
+    ap (λ l. l ++ x ∷ []) d ∙ ap (λ v. map (drafted f bound) ys ++ v ∷ []) k ∙ sym (map-append (drafted f bound) ys (y ∷ [])),
+    j ys a ∙ ap (first_above bound) (sym (map-append f.nests ys (y ∷ []))),
   )
 
   pub stand_push : (floats : Bool) (xs : List T) (x : T) (deep : Option ℕ) (gs : List G) (g : G) → StandFor f bound floats xs deep gs → g ≡ f.view x → f.nests x ≤ bound → StandFor f bound floats (xs ++ x ∷ []) deep (gs ++ g ∷ [])

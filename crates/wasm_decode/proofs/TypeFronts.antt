@@ -1,27 +1,14 @@
 -- Types: what stands at the front of bytes.
-use Rattle.std.proofs.Common.{◌≡◌, ◌≢◌, ℕ, List, [], ◌∷◌, ◌++◌, refl, sym, ap, ◌∙◌, subst, arith}
+use Rattle.std.proofs.Common.{◌≡◌, ◌≢◌, ℕ, List, ◌∷◌, ◌++◌, refl, sym, ap, ◌∙◌, subst, arith}
 use Rattle.std.specs.Prelude.{Option, Some, None, true, false}
-use Rattle.wasm_num.specs.declared.ValType.TheVariants.{I32, I64}
 use Rattle.leb_binary.specs.Leb.{IsFront, HasNoFront}
 use Rattle.leb_binary.specs.Reading.{IsByte}
 use Rattle.leb_binary.proofs.Fronts.{one_unsigned, front_one}
 use Rattle.module_ast.specs.declared.module.Range.{Range}
-use Rattle.module_ast.specs.Grammar as grammar
-use Rattle.module_ast.specs.Grammar.{NumberType, IsU32, Both, IsOp, IsValType, AreLimits, IsMemoryType, IsTableType, IsMutability}
-use Rattle.module_ast.proofs.Compose.{both_some, both_parts}
-use Rattle.wasm_decode.proofs.Ops.{op_parts, op_end, byte_is}
-
-pub val_type_none : (bytes rest : List ℕ) (b : ℕ) → IsFront IsByte bytes rest b → b ≢ 0x7F → b ≢ 0x7E → b ≢ 0x7D → b ≢ 0x7C → HasNoFront IsValType bytes
-val_type_none bytes rest b f h1 h2 h3 h4 after (grammar.integer I32) (front, e, i) = h1 (byte_is bytes rest after b 0x7F front f e i)
-val_type_none bytes rest b f h1 h2 h3 h4 after (grammar.integer I64) (front, e, i) = h2 (byte_is bytes rest after b 0x7E front f e i)
-val_type_none bytes rest b f h1 h2 h3 h4 after grammar.f32 (front, e, i) = h3 (byte_is bytes rest after b 0x7D front f e i)
-val_type_none bytes rest b f h1 h2 h3 h4 after grammar.f64 (front, e, i) = h4 (byte_is bytes rest after b 0x7C front f e i)
-
-pub val_type_end : (bytes : List ℕ) → HasNoFront IsByte bytes → HasNoFront IsValType bytes
-val_type_end bytes h after (grammar.integer I32) (front, e, i) = op_end 0x7F bytes after front [] h (omega arith) e i
-val_type_end bytes h after (grammar.integer I64) (front, e, i) = op_end 0x7E bytes after front [] h (omega arith) e i
-val_type_end bytes h after grammar.f32 (front, e, i) = op_end 0x7D bytes after front [] h (omega arith) e i
-val_type_end bytes h after grammar.f64 (front, e, i) = op_end 0x7C bytes after front [] h (omega arith) e i
+use Rattle.module_ast.specs.Grammar.{IsU32, Both, AreLimits, IsMemoryType, IsMutability}
+use Rattle.module_ast.proofs.Compose.{both_some, both_parts, op_end}
+use Rattle.code_decode.proofs.TypeBytes.{one_byte, no_byte}
+use Rattle.wasm_decode.proofs.Ops.{op_parts}
 
 -- ---- limits: with no maximum, or with one
 
@@ -29,8 +16,8 @@ pub limits_end : (bytes : List ℕ) → HasNoFront IsByte bytes → HasNoFront I
 limits_end bytes h after r p = go r.min r.max p
   where
     go : (m : ℕ) (x : Option ℕ) → (front : List ℕ) × (bytes ≡ front ++ after) × AreLimits front m x → ⊥
-    go m None (front, e, (inner, k, i)) = op_end 0 bytes after front inner h (omega arith) e k
-    go m (Some n) (front, e, (inner, k, i)) = op_end 1 bytes after front inner h (omega arith) e k
+    go m None p = op_end IsU32 0 bytes (omega arith) h after m p
+    go m (Some n) p = op_end (λ l (q : ℕ × ℕ). Both IsU32 IsU32 l q.0 q.1) 1 bytes (omega arith) h after (m, n) p
 
 pub limits_other : (bytes mid : List ℕ) (b : ℕ) → IsFront IsByte bytes mid b → b ≢ 0 → b ≢ 1 → HasNoFront IsMemoryType bytes
 limits_other bytes mid b f h0 h1 after r p = go r.min r.max p
@@ -79,9 +66,9 @@ limits_with bytes mid more rest b m n (f, e, (p, q)) h g j =
 -- ---- mutability
 
 pub mutability_end : (bytes : List ℕ) → HasNoFront IsByte bytes → HasNoFront IsMutability bytes
-mutability_end bytes h after false (front, e, i) = op_end 0 bytes after front [] h (omega arith) e i
-mutability_end bytes h after true (front, e, i) = op_end 1 bytes after front [] h (omega arith) e i
+mutability_end bytes h after false (front, e, i) = no_byte bytes after 0 front h (omega arith) e i
+mutability_end bytes h after true (front, e, i) = no_byte bytes after 1 front h (omega arith) e i
 
 pub mutability_none : (bytes rest : List ℕ) (b : ℕ) → IsFront IsByte bytes rest b → b ≢ 0 → b ≢ 1 → HasNoFront IsMutability bytes
-mutability_none bytes rest b f h0 h1 after false (front, e, i) = h0 (byte_is bytes rest after b 0 front f e i)
-mutability_none bytes rest b f h0 h1 after true (front, e, i) = h1 (byte_is bytes rest after b 1 front f e i)
+mutability_none bytes rest b f h0 h1 after false (front, e, i) = h0 (one_byte bytes rest after b 0 front f e i)
+mutability_none bytes rest b f h0 h1 after true (front, e, i) = h1 (one_byte bytes rest after b 1 front f e i)

@@ -1,6 +1,5 @@
 -- The kinds of items that a module has.
 use Rattle.std.specs.Prelude.{ℕ, Bool, false, ◌||◌}
-use Rattle.wasm_num.specs.declared.ValType.{ValType}
 use Rattle.module_ast.specs.declared.module.Range.{Range}
 use Rattle.module_ast.specs.declared.module.FuncType.{FuncType}
 use Rattle.module_ast.specs.declared.module.Import.{Import}
@@ -8,29 +7,22 @@ use Rattle.module_ast.specs.declared.module.GlobalDef.{GlobalDef}
 use Rattle.module_ast.specs.declared.module.Export.{Export}
 use Rattle.module_ast.specs.declared.module.Element.{Element}
 use Rattle.module_ast.specs.declared.module.Segment.{Segment}
-use Rattle.module_ast.specs.declared.module.Group.{Group}
 use Rattle.module_ast.specs.declared.module.Body.{Body}
 use Rattle.module_ast.specs.Tree.{done}
 use Rattle.module_ast.specs.Grammar as grammar
 use Rattle.module_ast.specs.Positions.{code_nesting}
-use Rattle.module_ast.specs.Profile.{is_floating, some_in, item_floats, code_floats, func_type, import_of, global, export, element, segment, group, body}
+use Rattle.module_ast.specs.Profile.{is_floating, some_in, item_floats, code_floats, func_type, import_of, global, export, element, segment, body}
 use Rattle.wasm_decode.specs.Forms.{Form}
 
 -- items without code
 abbrev pub flat : {T G : Type 0} → (G → Bool) → (T → G) → Form T G
 flat floats view = record { floats = floats; view = view; nests = λ x. 0; blank = λ x. x }
 
-abbrev pub val_form : Form ValType grammar.NumberType
-val_form = flat is_floating grammar.integer
-
 abbrev pub index_form : Form ℕ ℕ
 index_form = flat (λ x. false) (λ x. x)
 
 abbrev pub range_form : Form Range Range
 range_form = flat (λ r. false) (λ r. r)
-
-abbrev pub group_form : Form Group grammar.Group
-group_form = flat (λ (g : grammar.Group). is_floating g.ty) group
 
 abbrev pub func_type_form : Form FuncType grammar.FuncType
 func_type_form = flat (λ (t : grammar.FuncType). some_in is_floating t.params || some_in is_floating t.results) func_type

@@ -1,55 +1,36 @@
 // Bodies of functions.
 
-ghost use Rattle.std.specs.Prelude.{◌≡◌, ◌≤◌, ◌<◌, ◌^◌, ℕ, List, true, map, length, MatchOption, IfOk, IsErrOf};
-ghost use Rattle.leb_binary.specs.Leb.{IsFront};
+ghost use Rattle.std.specs.Prelude.{◌≡◌, ◌≤◌, ℕ, List, true, map, length, MatchOption, IfOk, IsErrOf};
+ghost use Rattle.module_ast.specs.Decoding.{IsNoBody};
 ghost use Rattle.module_ast.specs.Grammar as grammar;
-ghost use Rattle.module_ast.specs.Grammar.{IsVec, IsGroup, IsBody, IsSized, local_count};
+ghost use Rattle.module_ast.specs.Grammar.{IsBody, IsSized};
 ghost use Rattle.module_ast.specs.Profile as profile;
-ghost use Rattle.module_ast.specs.Profile.{is_floating, some_in};
+ghost use Rattle.module_ast.specs.Profile.{some_in};
+ghost use Rattle.code_decode.specs.Locals.{group_floats};
 ghost use Rattle.wasm_decode.specs.Built.{IsBuilt};
-ghost use Rattle.wasm_decode.specs.Kinds.{group_form, body_form};
+ghost use Rattle.wasm_decode.specs.Kinds.{body_form};
 ghost use Rattle.wasm_decode.specs.Makes.{body_by};
-ghost use Rattle.wasm_decode.specs.Parts.{IsPart, IsPiece};
+ghost use Rattle.wasm_decode.specs.Parts.{IsPiece};
 ghost use Rattle.code_decode.proofs.Items.{one_sized_tree, whole_one, one_body};
 
-use crate::part::{Entry, Part, Piece, add};
-use crate::types::{Groups, group};
+use crate::part::{Entry, Piece};
 use code_decode::expr::{Expr, read_expr};
 use code_decode::fault::Fault;
+use code_decode::locals::read_locals;
 use leb_binary::Cursor;
 use module_ast::code::Code;
 use module_ast::module::{Body, Group};
 use module_ast::seq::Seq;
 use std::alloc::Global;
 
-// The groups of locals, fewer than 2 ^ 32 together.
-fn read_groups(alloc: Global, cursor: &mut Cursor) -> Result<Part<Group>, Fault>
-    ensures ok { IfOk result (λ p. (gs : List grammar.Group) × IsFront (IsVec IsGroup) cursor.old.left cursor.new.left gs × (local_count gs < 2 ^ 32) × IsPart group_form 0 p gs) }
-    ensures malformed { IsErrOf result Fault.Malformed → (rest : List ℕ) (gs : List grammar.Group) → IsFront (IsVec IsGroup) cursor.old.left rest gs → local_count gs < 2 ^ 32 → ⊥ }
-{
-    let count = cursor.read_u32()?;
-    let mut part = Part::new(alloc, count);
-    let mut total: u64 = 0;
-    for _i in 0..count {
-        let item = group(cursor)?;
-        let (locals, piece) = item;
-        add::<Groups>(&mut part, piece)?;
-        total += locals as u64;
-    }
-    if total > 0xFFFF_FFFF {
-        return Err(Fault::Malformed);
-    }
-    Ok(part)
-}
-
 // A body of its parts.
-fn make_body(alloc: Global, groups: Part<Group>, code: Expr) -> Piece<Body>
-    ensures { (bound : ℕ) (gs : List grammar.Group) (t : grammar.Tree) → IsPart group_form 0 groups gs → IsBuilt bound code t → IsPiece body_form bound result (body_by gs t) }
+fn make_body(alloc: Global, groups: Option<Vec<Group>>, code: Expr) -> Piece<Body>
+    ensures { (bound : ℕ) (gs : List grammar.Group) (t : grammar.Tree) → MatchOption groups (some_in group_floats gs ≡ true) (λ v. gs ≡ map profile.group v.items) → IsBuilt bound code t → IsPiece body_form bound result (body_by gs t) }
 {
-    if groups.floats {
+    let Some(groups) = groups else {
         return Piece::Floats;
-    }
-    let groups = Seq::from_vec(groups.items);
+    };
+    let groups = Seq::from_vec(groups);
     match code {
         Expr::Built(code) => Piece::Whole(Body { groups, code }),
         Expr::Floats => Piece::Floats,
@@ -65,10 +46,10 @@ pub fn read_body(alloc: Global, content: &[u8], nesting: u32) -> Result<Piece<Bo
     requires bytes { length content.now ≤ 268435456 }
     requires nesting { nesting ≤ 1002 }
     ensures ok { IfOk result (λ p. (b : grammar.Body) × IsBody content.now b × IsPiece body_form nesting p b) }
-    ensures malformed { IsErrOf result Fault.Malformed → (b : grammar.Body) → IsBody content.now b → ⊥ }
+    ensures malformed { IsErrOf result Fault.Malformed → IsNoBody content.now }
 {
     let mut cursor = Cursor::new(content);
-    let groups = read_groups(alloc, &mut cursor)?;
+    let groups = read_locals(alloc, &mut cursor)?;
     let code = read_expr(alloc, &mut cursor, nesting)?;
     if cursor.left() != 0 {
         return Err(Fault::Malformed);

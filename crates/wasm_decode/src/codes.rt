@@ -12,10 +12,11 @@ ghost use Rattle.wasm_decode.specs.Parts.{IsPiece};
 ghost use Rattle.wasm_decode.specs.Makes.{global_by, element_by, segment_by};
 ghost use Rattle.code_decode.proofs.Items.{one_global, one_element, one_segment};
 
-use crate::part::{Entry, Piece, read_vec};
-use crate::types::{Indices, global_type};
+use crate::part::{Entry, Piece};
+use crate::types::global_type;
 use code_decode::expr::{Expr, read_expr};
 use code_decode::fault::Fault;
+use code_decode::token::read_indices;
 use leb_binary::Cursor;
 use module_ast::code::Code;
 use module_ast::module::{Element, GlobalDef, GlobalType, Segment};
@@ -100,8 +101,8 @@ impl Entry for Elements {
     fn read(alloc: Global, cursor: &mut Cursor, nesting: u32) -> Result<Piece<Element>, Fault> {
         let table = cursor.read_u32()?;
         let offset = read_expr(alloc, cursor, nesting)?;
-        let funcs = read_vec::<Indices>(alloc, cursor, nesting)?;
-        let funcs = Seq::from_vec(funcs.items);
+        let funcs = read_indices(alloc, cursor)?;
+        let funcs = Seq::from_vec(funcs);
         Ok(element(alloc, table, offset, funcs))
     }
 

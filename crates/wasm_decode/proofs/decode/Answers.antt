@@ -1,7 +1,7 @@
 use Rattle.std.proofs.Common.{◌≡◌, inl, inr, length, refl, ap, subst, arith, rules}
 use Rattle.module_ast.specs.Grammar.{AreItems, IsSection, module_of, function_section, code_section}
 use Rattle.module_ast.specs.Profile.{tree_of}
-use Rattle.wasm_decode.proofs.Errors.{if_ok}
+use Rattle.std.proofs.lemmas.Result.{IfOk-weaker}
 use Rattle.wasm_decode.proofs.Headers.{fails_in_section, has_sections, is_module}
 use Rattle.wasm_decode.proofs.decode.Goals as goal
 
@@ -38,7 +38,7 @@ settle-requires c = let r = c.in_ok-draft.ensures.ok in record { drafted = (modu
 pub returns-clause-ok : goal.returns-clause-ok
 returns-clause-ok c =
     let r = c.in_ok-draft.ensures.ok in
-    if_ok c.settle.result (λ m h.
+    IfOk-weaker c.settle.result _ _ (λ m h.
     let t = h (module_of r.0) r.3 in
     (is_module _ r.0 (tree_of m) (has_sections _ _ r.0 c.in-Some.ensures.is (subst (λ l. AreItems IsSection l r.0) c.new-cursor.ensures.left r.1) r.2) t.0 (omega (arith, (r.3 function_section).1, (r.3 code_section).0.1)), t.1)) c.settle.ensures.ok
 

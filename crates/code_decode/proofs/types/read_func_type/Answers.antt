@@ -4,7 +4,7 @@ use Rattle.std.specs.Prelude.{map}
 use Rattle.module_ast.specs.Profile.{is_floating, some_in}
 use Rattle.module_ast.proofs.Compose.{both_none_first, both_none_second, both_some, one_vec, op_some, op_none, op_end}
 use Rattle.module_ast.proofs.Tokens.{one_val_type}
-use Rattle.code_decode.proofs.Bodies.{either_first, either_second}
+use Rattle.std.proofs.lemmas.Bool.{or_left, or_right}
 use Rattle.code_decode.proofs.Faults.{passed_on}
 use Rattle.code_decode.proofs.types.read_func_type.Goals as goal
 
@@ -41,14 +41,14 @@ returns-in_default-clause-ok c =
     let f = rw c.if-form-ne96.false at c.in_ok-form.ensures.ok in
     let p = rw c.in_default.is at c.in_ok-params.ensures.ok in
     let r = c.in_ok-results.ensures.ok in
-    (type_by p.0 r.0, op_some AreBoth 0x60 _ _ _ (type_by p.0 r.0) f.1 (both_some (IsVec IsValType) (IsVec IsValType) _ _ _ p.0 r.0 p.1 r.1), either_first (some_in is_floating p.0) (some_in is_floating r.0) p.2)
+    (type_by p.0 r.0, op_some AreBoth 0x60 _ _ _ (type_by p.0 r.0) f.1 (both_some (IsVec IsValType) (IsVec IsValType) _ _ _ p.0 r.0 p.1 r.1), or_left (some_in is_floating p.0) (some_in is_floating r.0) p.2)
 
 pub returns-in_default-results-clause-ok : goal.returns-in_default-results-clause-ok
 returns-in_default-results-clause-ok c =
     let f = rw c.if-form-ne96.false at c.in_ok-form.ensures.ok in
     let p = c.in_ok-params.ensures.ok in
     let r = rw c.in_default-results.is at c.in_ok-results.ensures.ok in
-    (type_by p.0 r.0, op_some AreBoth 0x60 _ _ _ (type_by p.0 r.0) f.1 (both_some (IsVec IsValType) (IsVec IsValType) _ _ _ p.0 r.0 p.1 r.1), either_second (some_in is_floating p.0) (some_in is_floating r.0) r.2)
+    (type_by p.0 r.0, op_some AreBoth 0x60 _ _ _ (type_by p.0 r.0) f.1 (both_some (IsVec IsValType) (IsVec IsValType) _ _ _ p.0 r.0 p.1 r.1), or_right (some_in is_floating p.0) (some_in is_floating r.0) r.2)
 
 pub returns-clause-ok : goal.returns-clause-ok
 returns-clause-ok c =

@@ -1,4 +1,4 @@
-use Rattle.wasm_decode.proofs.Errors.{on_err}
+use Rattle.code_decode.proofs.Faults.{on_err}
 use Rattle.wasm_decode.proofs.ItemFronts.{kind_end}
 use Rattle.wasm_decode.proofs.names.export_kind.Goals as goal
 

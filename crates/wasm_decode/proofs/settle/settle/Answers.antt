@@ -1,6 +1,6 @@
 use Rattle.std.proofs.Common.{◌≡◌, ap, sym, subst, ◌∙◌}
 use Rattle.module_ast.specs.Profile.{tree_of, IsWithin}
-use Rattle.wasm_decode.proofs.Errors.{if_ok}
+use Rattle.std.proofs.lemmas.Result.{IfOk-weaker}
 use Rattle.wasm_decode.proofs.Settling.{few_in, settled}
 use Rattle.wasm_decode.proofs.settle.settle.Goals as goal
 
@@ -16,7 +16,7 @@ within-requires c =
     record { few = rw c.into_module-kept.ensures (few_in c.args.limits.now.nesting c.args.draft r.0 r.1 (c.in_default.ensures c.args.limits.now.nesting r.0 r.1).bodies) }
 
 pub returns-clause-ok : goal.returns-clause-ok
-returns-clause-ok c = if_ok c.within.result (λ m h g d.
+returns-clause-ok c = IfOk-weaker c.within.result _ _ (λ m h g d.
     let s = settled c.args.limits.now.nesting c.args.draft g d (c.in_default.ensures c.args.limits.now.nesting g d) in
     let t = h s.module_of (c.into_module-kept.ensures ∙ s.draft) (c.deep-deep.ensures ∙ s.deep) in
     (ap tree_of t.0 ∙ s.tree, subst (λ x. IsWithin c.args.limits.now x) (sym t.0) t.1)) c.within.ensures.ok

@@ -3,7 +3,7 @@ use Rattle.std.specs.Prelude.{Bool}
 use Rattle.module_ast.specs.Grammar.{GlobalType, NumberType, IsValType, IsMutability}
 use Rattle.module_ast.proofs.Compose.{both_none_first, both_none_second, both_some}
 use Rattle.module_ast.proofs.Tokens.{one_val_type}
-use Rattle.wasm_decode.proofs.Errors.{on_err}
+use Rattle.code_decode.proofs.Faults.{on_err}
 use Rattle.wasm_decode.proofs.types.global_type.Goals as goal
 
 abbrev global_type_by : NumberType → Bool → GlobalType

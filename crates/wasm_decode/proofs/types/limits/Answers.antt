@@ -1,4 +1,4 @@
-use Rattle.wasm_decode.proofs.Errors.{on_err}
+use Rattle.code_decode.proofs.Faults.{on_err}
 use Rattle.wasm_decode.proofs.TypeFronts.{limits_end, limits_no_min, limits_no_max, limits_without, limits_with}
 use Rattle.wasm_decode.proofs.types.limits.Goals as goal
 

@@ -1,4 +1,4 @@
-use Rattle.std.proofs.Common.{arith, ◌≡◌, ℕ, List, sym, subst, ◌∙◌, rules}
+use Rattle.std.proofs.Common.{arith, ℕ, List, subst, rules}
 use Rattle.leb_binary.proofs.Fronts.{one_unsigned}
 use Rattle.module_ast.specs.Grammar.{Both, Element, Tree, IsU32, IsVec, IsExpr}
 use Rattle.module_ast.proofs.Compose.{both_none_first, both_none_second, both_some}
@@ -6,7 +6,6 @@ use Rattle.code_decode.proofs.Unique.{one_expr}
 use Rattle.wasm_decode.specs.Makes.{element_by}
 use Rattle.wasm_decode.specs.Kinds.{element_form}
 use Rattle.wasm_decode.specs.Parts.{IsPiece}
-use Rattle.wasm_decode.proofs.Flat.{plain_items, map_same}
 use Rattle.wasm_decode.proofs.Fronts.{expr_front, front_shorter}
 use Rattle.wasm_decode.proofs.codes.ElementsEntry.read.Goals as goal
 
@@ -41,13 +40,8 @@ pub returns-clause-ok : goal.returns-clause-ok
 returns-clause-ok c =
     let n = c.in_ok-table.table in
     let t = expr_front c.args.nesting _ _ _ c.in_ok-offset.ensures.ok in
-    let fs = c.in_ok-funcs.ensures.ok in
-    let e : c.from_vec-funcs.result ≡ fs.0 = c.from_vec-funcs.ensures ∙ sym (plain_items (λ (x : ℕ). x) c.args.nesting _ _ _ fs.0 fs.2 ∙ map_same c.in_ok-funcs.funcs.items.items) in
-    (element_by n t.0 fs.0, both_some IsU32 Behind _ _ _ n (t.0, fs.0) c.in_ok-table.ensures.ok.1 (both_some IsExpr (IsVec IsU32) _ _ _ t.0 fs.0 t.1 fs.1), subst (λ l. IsPiece element_form c.args.nesting c.element.result (element_by n t.0 l)) e (c.element.ensures c.args.nesting t.0 t.2))
+    let fs = c.in_ok-funcs.funcs.items in
+    (element_by n t.0 fs, both_some IsU32 Behind _ _ _ n (t.0, fs) c.in_ok-table.ensures.ok.1 (both_some IsExpr (IsVec IsU32) _ _ _ t.0 fs t.1 c.in_ok-funcs.ensures.ok), subst (λ l. IsPiece element_form c.args.nesting c.element.result (element_by n t.0 l)) c.from_vec-funcs.ensures (c.element.ensures c.args.nesting t.0 t.2))
 
 pub read_expr-requires-clause-bytes : goal.read_expr-requires-clause-bytes
 read_expr-requires-clause-bytes c = omega (arith, front_shorter IsU32 _ _ _ c.in_ok-table.ensures.ok.1)
-
-pub read_vec-requires-clause-bytes : goal.read_vec-requires-clause-bytes
-read_vec-requires-clause-bytes c =
-    omega (arith, front_shorter IsU32 _ _ _ c.in_ok-table.ensures.ok.1, front_shorter IsExpr _ _ _ (expr_front c.args.nesting _ _ _ c.in_ok-offset.ensures.ok).1)
