@@ -1,4 +1,4 @@
--- The bytes of the module of nops with hooks, section by section.
+-- The module of nops with hooks, part by part, and its bytes, section by section.
 use Rattle.std.proofs.Common.{◌≡◌, ℕ, zero, suc, ◌+◌, ◌*◌, ◌^◌, ◌<◌, ◌≤◌, inl, inr, List, [], ◌∷◌, ◌++◌, Bool, true, false, refl, sym, ap, ◌∙◌, length, arith, length-append, append-nil}
 use Rattle.std.specs.Prelude.{IsTrue, ◌↔◌, None}
 use Rattle.module_ast.specs.declared.module.ExportKind.TheVariants.{Func}
@@ -75,12 +75,30 @@ parts_are : (told : Bool) (name : List ℕ) (count : ℕ) (b : Body) → parts_m
 parts_are true name count b = refl
 parts_are false name count b = refl
 
+-- the module, part by part
+abbrev whole : Module → Module
+whole m = record {
+  types = m.types;
+  imports = m.imports;
+  funcs = m.funcs;
+  tables = m.tables;
+  memories = m.memories;
+  globals = m.globals;
+  exports = m.exports;
+  start = m.start;
+  elements = m.elements;
+  bodies = m.bodies;
+  segments = m.segments;
+  customs = m.customs;
+}
+
 -- A module of these parts, and of nothing else, is the one that is written.
 pub output_from : (told : Bool) (name : List ℕ) (count : ℕ) (m : Module) → m.types ≡ nop_types told → m.imports ≡ nop_imports told → m.funcs ≡ 0 ∷ [] → m.exports ≡ nop_export name (length (nop_keys told)) ∷ []
     → m.bodies ≡ nop_body told (nop_site name count) count ∷ [] → IsBare m → m ≡ nops_output told name count
 output_from told name count m types imports funcs exports bodies bare =
-    let parts : record { types = m.types; imports = m.imports; funcs = m.funcs; tables = m.tables; memories = m.memories; globals = m.globals; exports = m.exports; start = m.start; elements = m.elements; bodies = m.bodies; segments = m.segments; customs = m.customs } ≡ parts_module told (nop_export name (length (nop_keys told))) (nop_body told (nop_site name count) count) = cc (types, imports, funcs, exports, bodies, bare.tables, bare.memories, bare.globals, bare.start, bare.elements, bare.segments, bare.customs) in
-    parts ∙ parts_are told name count (nop_body told (nop_site name count) count) ∙ ap (λ b. record (nops_output told name count) { bodies = b ∷ [] }) (sym (body_is told name count))
+    let body = nop_body told (nop_site name count) count in
+    let parts : whole m ≡ parts_module told (nop_export name (length (nop_keys told))) body = cc (types, imports, funcs, exports, bodies, bare.tables, bare.memories, bare.globals, bare.start, bare.elements, bare.segments, bare.customs) in
+    parts ∙ parts_are told name count body ∙ ap (λ b. record (nops_output told name count) { bodies = b ∷ [] }) (sym (body_is told name count))
 
 -- its sections, for these types, imports, export and body
 abbrev sections_bytes : (told : Bool) → Export → Body → List ℕ

@@ -1,4 +1,4 @@
--- The modules of nops, part by part.
+-- In a short module the code of each body is short.
 use Rattle.std.proofs.Common.{ℕ, suc, ◌^◌, ◌<◌, ◌≤◌, List, [], ◌∷◌, ◌++◌, arith, length, length-append}
 use Rattle.std.proofs.lemmas.List.Elements.{All-nil, All-cons}
 use Rattle.leb_binary.specs.Shortest.{unsigned_bytes}
