@@ -23,7 +23,7 @@ use Rattle.code_decode.specs.declared.class.Opening.TheVariants as openings
 use Rattle.code_decode.specs.declared.class.Class.{Class}
 use Rattle.code_decode.specs.declared.class.Class.TheVariants as classes
 
--- an opcode of a load, of a store, of a test or comparison, of arithmetic
+-- an opcode of a load, of a store, of a test or comparison, of arithmetic of 32 bits, of arithmetic of 64 bits
 abbrev pub IsLoad : ℕ → Type 0
 IsLoad opcode = (op : LoadOp) × (load_opcode op ≡ opcode)
 
@@ -33,8 +33,11 @@ IsStore opcode = (op : StoreOp) × (store_opcode op ≡ opcode)
 abbrev pub IsTest : ℕ → Type 0
 IsTest opcode = (op : NumOp) × (num_opcode op ≡ opcode) × (opcode ≤ 0x5A)
 
-abbrev pub IsArith : ℕ → Type 0
-IsArith opcode = (op : NumOp) × (num_opcode op ≡ opcode) × (0x67 ≤ opcode) × (opcode ≤ 0x8A)
+abbrev pub IsSmallOp : ℕ → Type 0
+IsSmallOp opcode = (op : NumOp) × (num_opcode op ≡ opcode) × (0x67 ≤ opcode) × (opcode ≤ 0x78)
+
+abbrev pub IsWideOp : ℕ → Type 0
+IsWideOp opcode = (op : NumOp) × (num_opcode op ≡ opcode) × (0x79 ≤ opcode) × (opcode ≤ 0x8A)
 
 -- the instruction
 abbrev pub bare_plain : Bare → Plain

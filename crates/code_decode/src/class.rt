@@ -4,7 +4,7 @@ ghost use Rattle.std.specs.Prelude.{◌≡◌, ◌<◌, ◌≤◌};
 ghost use Rattle.module_ast.specs.Opcodes.{num_opcode, load_opcode, store_opcode};
 ghost use Rattle.module_ast.specs.Tokens.{shape_at};
 ghost use Rattle.module_ast.specs.Plains.{instr_of};
-ghost use Rattle.code_decode.specs.Classes.{IsLoad, IsStore, IsTest, IsArith, bare_plain, index_plain, access_plain, shape_of};
+ghost use Rattle.code_decode.specs.Classes.{IsLoad, IsStore, IsTest, IsSmallOp, IsWideOp, bare_plain, index_plain, access_plain, shape_of};
 
 use module_ast::code::Instr;
 use module_ast::ops::{LoadOp, MemArg, StoreOp};
@@ -154,7 +154,8 @@ pub fn class_of(opcode: u8) -> Class
         0x44 => Class::Float(FloatOperands::EightBytes),
         0x45..=0x5A => Class::Plain(Operands::Bare(Bare::Num(test_op(opcode)))),
         0x5B..=0x66 => Class::Float(FloatOperands::Nothing),
-        0x67..=0x8A => Class::Plain(Operands::Bare(Bare::Num(arith_op(opcode)))),
+        0x67..=0x78 => Class::Plain(Operands::Bare(Bare::Num(small_op(opcode)))),
+        0x79..=0x8A => Class::Plain(Operands::Bare(Bare::Num(wide_op(opcode)))),
         0x8B..=0xA6 => Class::Float(FloatOperands::Nothing),
         0xA7 => Class::Plain(Operands::Bare(Bare::Num(NumOp::I32WrapI64))),
         0xA8..=0xAB => Class::Float(FloatOperands::Nothing),
@@ -258,9 +259,9 @@ fn test_op(opcode: u8) -> NumOp
     }
 }
 
-// The arithmetic of integers. (Standard, 5.4.5)
-fn arith_op(opcode: u8) -> NumOp
-    requires { IsArith opcode }
+// The arithmetic of 32 bits. (Standard, 5.4.5)
+fn small_op(opcode: u8) -> NumOp
+    requires { IsSmallOp opcode }
     ensures { num_opcode result ≡ opcode }
 {
     match opcode {
@@ -281,7 +282,16 @@ fn arith_op(opcode: u8) -> NumOp
         0x75 => NumOp::I32ShrS,
         0x76 => NumOp::I32ShrU,
         0x77 => NumOp::I32Rotl,
-        0x78 => NumOp::I32Rotr,
+        _ => NumOp::I32Rotr,
+    }
+}
+
+// The arithmetic of 64 bits. (Standard, 5.4.5)
+fn wide_op(opcode: u8) -> NumOp
+    requires { IsWideOp opcode }
+    ensures { num_opcode result ≡ opcode }
+{
+    match opcode {
         0x79 => NumOp::I64Clz,
         0x7A => NumOp::I64Ctz,
         0x7B => NumOp::I64Popcnt,

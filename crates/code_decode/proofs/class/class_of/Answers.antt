@@ -1,7 +1,7 @@
 use Rattle.std.proofs.Common.{arith, ap, inl, inr, ◌∙◌, sym}
 use Rattle.module_ast.specs.Tokens.{shape_at}
 use Rattle.module_ast.proofs.Tokens.{float_op, float_access, load_told, store_told, num_told, large}
-use Rattle.code_decode.proofs.Classes.{nothing_37, load_40, load_44, store_54, store_58, test_69, arith_103}
+use Rattle.code_decode.proofs.Classes.{nothing_37, load_40, load_44, store_54, store_58, test_69, small_103, wide_121}
 use Rattle.code_decode.proofs.class.class_of.Goals as goal
 
 pub returns-in-32 : goal.returns-in-32
@@ -75,8 +75,11 @@ store_op-requires-in-58-to-62 c = store_58 _ (omega arith) (omega arith)
 pub test_op-requires : goal.test_op-requires
 test_op-requires c = test_69 _ (omega arith) (omega arith)
 
-pub arith_op-requires : goal.arith_op-requires
-arith_op-requires c = arith_103 _ (omega arith) (omega arith)
+pub small_op-requires : goal.small_op-requires
+small_op-requires c = small_103 _ (omega arith) (omega arith)
+
+pub wide_op-requires : goal.wide_op-requires
+wide_op-requires c = wide_121 _ (omega arith) (omega arith)
 
 pub returns-in-40-to-41 : goal.returns-in-40-to-41
 returns-in-40-to-41 c = ap shape_at (sym c.load_op.ensures) ∙ load_told c.load_op.result
@@ -102,8 +105,11 @@ returns-in-69-to-90 c = ap shape_at (sym c.test_op.ensures) ∙ num_told c.test_
 pub returns-in-91-to-102 : goal.returns-in-91-to-102
 returns-in-91-to-102 c = float_op _ (inl (omega arith, omega arith))
 
-pub returns-in-103-to-138 : goal.returns-in-103-to-138
-returns-in-103-to-138 c = ap shape_at (sym c.arith_op.ensures) ∙ num_told c.arith_op.result
+pub returns-in-103-to-120 : goal.returns-in-103-to-120
+returns-in-103-to-120 c = ap shape_at (sym c.small_op.ensures) ∙ num_told c.small_op.result
+
+pub returns-in-121-to-138 : goal.returns-in-121-to-138
+returns-in-121-to-138 c = ap shape_at (sym c.wide_op.ensures) ∙ num_told c.wide_op.result
 
 pub returns-in-139-to-166 : goal.returns-in-139-to-166
 returns-in-139-to-166 c = float_op _ (inr (inl (omega arith, omega arith)))
