@@ -167,8 +167,8 @@ impl CtrlStack {
         let innermost = self.frames.len() - 1;
         let frame = &mut self.frames[innermost];
         frame.dead = true;
-        let base = frame.base;
-        self.operands.truncate(base);
+        let kept = frame.base;
+        self.operands.truncate(kept);
     }
 
     // What `pop` finds above so many operands, and how many it leaves.
@@ -219,8 +219,8 @@ fn meet(found: Option<ValType>, expected: Option<ValType>) -> Option<Option<ValT
 {
     match (found, expected) {
         (None, ty) => Some(ty),
-        (ty, None) => Some(ty),
-        (Some(ty), Some(other)) => { if ty == other { Some(found) } else { None } }
+        (Some(ty), Some(other)) if ty != other => None,
+        _ => Some(found),
     }
 }
 
