@@ -1,0 +1,6 @@
+// Valid modules: the rules on what stands outside bodies, in their order, and the bodies.
+#![tactic(auto)]
+
+pub mod counts;
+pub mod limits;
+pub mod rules;
