@@ -1,0 +1,22 @@
+// The rule on names of exports.
+
+ghost use Rattle.std.specs.Prelude.{◌↔◌, IsTrue, IfOk};
+ghost use Rattle.module_ast.specs.Validity.{Keeps, export_names};
+
+use module_ast::module::Module;
+use std::alloc::{AllocError, Global};
+use std::collections::BTreeSet;
+
+/// No two exports have the same name. It keeps the names that it has met in order. (Standard, 3.4.10)
+pub fn keeps_export_names(alloc: Global, m: &Module) -> Result<bool, AllocError>
+    ensures { IfOk result (λ b. IsTrue b ↔ Keeps m.now export_names) }
+{
+    let mut seen = BTreeSet::new(alloc);
+    let exports = m.exports.as_slice();
+    for export in exports {
+        if !seen.insert(export.name.as_str())? {
+            return Ok(false);
+        }
+    }
+    Ok(true)
+}

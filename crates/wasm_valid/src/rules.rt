@@ -1,0 +1,123 @@
+// The rules on types, indices and the start function. Each function decides one rule exactly.
+
+ghost use Rattle.std.specs.Prelude.{◌≡◌, ◌↔◌, ◌<◌, [], IsTrue, All};
+ghost use Rattle.module_ast.specs.Validity.{Keeps, one_result, import_types, function_types, export_indices, start_index, start_type, element_tables, element_funcs, segment_memories};
+ghost use Rattle.wasm_valid.specs.Counts.{AreCounts};
+ghost use Rattle.wasm_valid.specs.Imported.{IfFunc};
+
+use crate::counts::{Counts, count_in};
+use module_ast::module::{Element, FuncType, Import, Item, Module};
+
+/// Each function type has at most one result. (Standard, 3.2.3)
+pub fn keeps_one_result(m: &Module) -> bool
+    ensures { IsTrue result ↔ Keeps m.now one_result }
+{
+    let types = m.types.as_slice();
+    types.iter().all(|t| t.results.as_slice().len() <= 1)
+}
+
+// Where it is a function, its type is one of so many.
+fn names_type(import: &Import, types: usize) -> bool
+    ensures { IsTrue result ↔ IfFunc import.now.item (λ ty. ty < types) }
+{
+    match import.item {
+        Item::Func(ty) => (ty as usize) < types,
+        _ => true,
+    }
+}
+
+// Each of these does.
+fn name_types(imports: &[Import], types: usize) -> bool
+    ensures { IsTrue result ↔ All (λ i. IfFunc i.item (λ ty. ty < types)) imports.now }
+{
+    imports.iter().all(|i| names_type(i, types))
+}
+
+/// Each imported function names a type. (Standard, 3.4.7)
+pub fn keeps_import_types(m: &Module) -> bool
+    ensures { IsTrue result ↔ Keeps m.now import_types }
+{
+    name_types(m.imports.as_slice(), m.types.as_slice().len())
+}
+
+/// Each defined function names a type. (Standard, 3.4.1)
+pub fn keeps_function_types(m: &Module) -> bool
+    ensures { IsTrue result ↔ Keeps m.now function_types }
+{
+    let types = m.types.as_slice().len();
+    m.funcs.as_slice().iter().all(|ty| (*ty as usize) < types)
+}
+
+/// Each export names an entry of its index space. (Standard, 3.4.6)
+pub fn keeps_export_indices(m: &Module, counts: &Counts) -> bool
+    requires { AreCounts m.now counts.now }
+    ensures { IsTrue result ↔ Keeps m.now export_indices }
+{
+    let exports = m.exports.as_slice();
+    exports.iter().all(|e| e.index < count_in(counts, e.kind))
+}
+
+/// The start function, where there is one, exists. (Standard, 3.4.5)
+pub fn keeps_start_index(m: &Module, counts: &Counts) -> bool
+    requires { AreCounts m.now counts.now }
+    ensures { IsTrue result ↔ Keeps m.now start_index }
+{
+    match m.start {
+        Some(func) => func < counts.funcs,
+        None => true,
+    }
+}
+
+// It takes no parameters and gives no results.
+fn is_bare(ty: &FuncType) -> bool
+    ensures { IsTrue result ↔ (ty.now ≡ record { params = []; results = [] }) }
+{
+    ty.params.as_slice().is_empty() && ty.results.as_slice().is_empty()
+}
+
+/// The start function, where there is one, has neither parameters nor results. (Standard, 3.4.5)
+pub fn keeps_start_type(m: &Module) -> bool
+    ensures { IsTrue result ↔ Keeps m.now start_type }
+{
+    let Some(func) = m.start else {
+        return true;
+    };
+    match m.func_type(func) {
+        Some(ty) => is_bare(ty),
+        None => false,
+    }
+}
+
+/// The table of each element segment exists. (Standard, 3.4.3)
+pub fn keeps_element_tables(m: &Module, counts: &Counts) -> bool
+    requires { AreCounts m.now counts.now }
+    ensures { IsTrue result ↔ Keeps m.now element_tables }
+{
+    let elements = m.elements.as_slice();
+    elements.iter().all(|e| e.table < counts.tables)
+}
+
+// Each function of the segment is one of so many.
+fn name_funcs(element: &Element, funcs: u32) -> bool
+    ensures { IsTrue result ↔ All (λ f. f < funcs) element.now.funcs }
+{
+    element.funcs.as_slice().iter().all(|f| *f < funcs)
+}
+
+/// Each function of each element segment exists. (Standard, 3.4.3)
+pub fn keeps_element_funcs(m: &Module, counts: &Counts) -> bool
+    requires { AreCounts m.now counts.now }
+    ensures { IsTrue result ↔ Keeps m.now element_funcs }
+{
+    let elements = m.elements.as_slice();
+    elements.iter().all(|e| name_funcs(e, counts.funcs))
+}
+
+/// The memory of each data segment exists. (Standard, 3.4.4)
+pub fn keeps_segment_memories(m: &Module, counts: &Counts) -> bool
+    requires { AreCounts m.now counts.now }
+    ensures { IsTrue result ↔ Keeps m.now segment_memories }
+{
+    let segments = m.segments.as_slice();
+    segments.iter().all(|d| d.memory < counts.memories)
+}
