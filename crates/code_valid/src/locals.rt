@@ -67,3 +67,46 @@ impl Locals {
         runs.get(before).map(|run| run.ty)
     }
 }
+
+#[cfg(test)]
+mod tests {
+    use super::Locals;
+    use module_ast::module::Group;
+    use std::test::Fail;
+    use wasm_num::ValType;
+
+    // Two parameters, two locals of one type, none, and as many of another as there may be.
+    #[test]
+    fn types_of_locals(rt: HostRuntime) -> Result<(), Fail> {
+        let groups = [
+            Group {
+                count: 2,
+                ty: ValType::I64,
+            },
+            Group {
+                count: 0,
+                ty: ValType::I64,
+            },
+            Group {
+                count: 4_294_967_293,
+                ty: ValType::I32,
+            },
+        ];
+        let locals = Locals::new(rt.alloc(), &[ValType::I64, ValType::I32], &groups)?;
+        let cases = [
+            (0, ValType::I64),
+            (1, ValType::I32),
+            (2, ValType::I64),
+            (3, ValType::I64),
+            (4, ValType::I32),
+            (4_294_967_295, ValType::I32),
+        ];
+        for (index, ty) in cases {
+            assert_eq!(rt; locals.get(index), Some(ty), "{index}");
+        }
+        let few = Locals::new(rt.alloc(), &[ValType::I64], &[])?;
+        assert_eq!(rt; few.get(0), Some(ValType::I64));
+        assert_eq!(rt; few.get(1), None);
+        Ok(())
+    }
+}

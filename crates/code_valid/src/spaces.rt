@@ -129,3 +129,77 @@ pub fn spaces_cross_threads(spaces: &Spaces) {
 }
 
 fn is_send_and_sync<T: Send + Sync>(_value: &T) {}
+
+#[cfg(test)]
+mod tests {
+    use super::Spaces;
+    use module_ast::code::Code;
+    use module_ast::module::{GlobalDef, GlobalType, Import, Item, Module, Range};
+    use module_ast::name::Name;
+    use module_ast::seq::Seq;
+    use std::alloc::{AllocError, Global};
+    use std::test::Fail;
+    use wasm_num::ValType;
+
+    const COUNTER: GlobalType = GlobalType {
+        ty: ValType::I64,
+        mutable: true,
+    };
+
+    const LIMIT: GlobalType = GlobalType {
+        ty: ValType::I32,
+        mutable: false,
+    };
+
+    fn import(alloc: Global, item: Item) -> Result<Import, AllocError> {
+        Ok(Import {
+            module: Name::from_string(String::from_str(alloc, "host")?),
+            name: Name::from_string(String::from_str(alloc, "item")?),
+            item,
+        })
+    }
+
+    // Imports of a memory, a function, a global and a function, and one function and one global.
+    fn example(alloc: Global) -> Result<Module, AllocError> {
+        let pages = Range { min: 1, max: None };
+        Ok(Module {
+            types: Seq::from_vec(Vec::new(alloc)),
+            imports: Seq::from_vec(vec![in alloc;
+                import(alloc, Item::Memory(pages))?,
+                import(alloc, Item::Func(7))?,
+                import(alloc, Item::Global(COUNTER))?,
+                import(alloc, Item::Func(5))?,
+            ]?),
+            funcs: Seq::from_vec(vec![in alloc; 9]?),
+            tables: Seq::from_vec(Vec::new(alloc)),
+            memories: Seq::from_vec(Vec::new(alloc)),
+            globals: Seq::from_vec(vec![in alloc;
+                GlobalDef {
+                    ty: LIMIT,
+                    init: Code::new(alloc),
+                },
+            ]?),
+            exports: Seq::from_vec(Vec::new(alloc)),
+            start: None,
+            elements: Seq::from_vec(Vec::new(alloc)),
+            bodies: Seq::from_vec(Vec::new(alloc)),
+            segments: Seq::from_vec(Vec::new(alloc)),
+            customs: Seq::from_vec(Vec::new(alloc)),
+        })
+    }
+
+    #[test]
+    fn imports_first(rt: HostRuntime) -> Result<(), Fail> {
+        let module = example(rt.alloc())?;
+        let spaces = Spaces::new(rt.alloc(), &module)?;
+        for (index, func) in [(0, Some(7)), (1, Some(5)), (2, Some(9)), (3, None)] {
+            assert_eq!(rt; spaces.func(index), func);
+        }
+        assert_eq!(rt; spaces.global(0), Some(COUNTER));
+        assert_eq!(rt; spaces.global(1), Some(LIMIT));
+        assert_eq!(rt; spaces.global(2), None);
+        assert!(rt; !spaces.has_table());
+        assert!(rt; spaces.has_memory());
+        Ok(())
+    }
+}
