@@ -40,8 +40,8 @@ some_byte (i32_const z) = omega arith
 some_byte (i64_const z) = omega arith
 some_byte (num op) = omega arith
 
--- Each opcode is a byte at least. Of a block they are its own, those of its code, and the `end`; b, n are a part's length
--- and size, k, r those of what follows, and h is the length of the block's type.
+-- A block has its own two opcodes, an `if` with an else part three, beside those of its parts and of what follows: n, e and
+-- r of them, each with at least as many bytes.
 one_part : (type body rest : List ℕ) (n r : ℕ) → n ≤ length body → r ≤ length rest → n + 2 + r ≤ suc (length (type ++ body ++ 0x0B ∷ rest))
 one_part type body rest n r inside behind = omega (arith, length-append (type ++ body) (0x0B ∷ rest), length-append type body)
 
