@@ -1,0 +1,5 @@
+// The check of bodies.
+#![tactic(auto)]
+
+pub mod locals;
+pub mod spaces;
