@@ -1,0 +1,4 @@
+pub mod Checking
+pub mod Instance
+pub mod Laws
+pub mod Survey

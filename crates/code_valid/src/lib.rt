@@ -1,0 +1,4 @@
+// The check of bodies: an abstract stack of known and unknown types, exact for the rules of typing.
+#![tactic(auto)]
+
+pub mod laws;
