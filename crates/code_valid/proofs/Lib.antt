@@ -1,3 +1,4 @@
+pub mod Computed
 pub mod Exact
 pub mod Live
 pub mod Surveyed

@@ -182,7 +182,7 @@ stopped_height c below i k s h =
 -- ---- what a typed sequence has
 
 -- what an instruction and what follows it have, by whether it goes on
-abbrev PlainHas : Context → (below p : ℕ) → Plain → Tree → List ValType → List Mark → (height : ℕ) → Bool → Type 0
+abbrev pub PlainHas : Context → (below p : ℕ) → Plain → Tree → List ValType → List Mark → (height : ℕ) → Bool → Type 0
 PlainHas c below p i k s marks height true =
     (between : List ValType) × (more : List Mark) × (most : ℕ)
     × TypesPlain c i s between × HasMarks c below (p + 1) k between more most

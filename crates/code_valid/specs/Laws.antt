@@ -4,7 +4,7 @@ use Rattle.module_ast.specs.Positions.{ends_live}
 use Rattle.wasm_num.specs.declared.ValType.{ValType}
 use Rattle.module_ast.specs.Tree.{Tree}
 use Rattle.module_ast.specs.Typing.{Context, push, TypesCode}
-use Rattle.module_ast.specs.Marks.{Mark}
+use Rattle.module_ast.specs.Marks.{Mark, code_marks, code_height}
 use Rattle.module_ast.specs.LiveMarks.{HasMarks}
 use Rattle.code_valid.specs.Checking.{Stack, check, accepts, marks_of, height_of}
 use Rattle.code_valid.specs.Instance.{Instance, Gives, known}
@@ -33,3 +33,15 @@ abbrev pub LiveTypesAreKnown : Type 0
 LiveTypesAreKnown =
     (c : Context) (k : Tree) (before after : List ValType) → TypesCode c k before after → ends_live true k ≡ true
     → check c k (known before) ≡ Some (known after)
+
+-- typed code has the marks and the height that `Marks` computes, and no others
+abbrev pub MarksAreComputed : Type 0
+MarksAreComputed =
+    (c : Context) (below p : ℕ) (k : Tree) (before after : List ValType) → TypesCode c k before after
+    → HasMarks c below p k before (code_marks c p k before) (code_height c below k before)
+
+abbrev pub OnlyComputed : Type 0
+OnlyComputed =
+    (c : Context) (below p : ℕ) (k : Tree) (before after : List ValType) (marks : List Mark) (height : ℕ)
+    → TypesCode c k before after → HasMarks c below p k before marks height
+    → (marks ≡ code_marks c p k before) × (height ≡ code_height c below k before)

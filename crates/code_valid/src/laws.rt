@@ -1,7 +1,7 @@
 // The check answers exactly what the rules of typing reach, and what it notes is what a typed body has.
 
 ghost use Rattle.code_valid.specs.Survey.{SurveyNotes};
-ghost use Rattle.code_valid.specs.Laws.{CheckIsExact, AcceptsWhatIsTyped, TypedHasMarks, MarksAreUnique, LiveTypesAreKnown};
+ghost use Rattle.code_valid.specs.Laws.{CheckIsExact, AcceptsWhatIsTyped, TypedHasMarks, MarksAreUnique, LiveTypesAreKnown, MarksAreComputed, OnlyComputed};
 
 /// The check answers exactly what the rules of typing reach. (Standard, 3.3)
 pub fn check_is_exact()
@@ -31,4 +31,10 @@ pub fn live_types_are_known()
 /// The check in one pass notes the marks and the height.
 pub fn survey_notes()
     ensures { SurveyNotes }
+{}
+
+/// Typed code has the marks and the height that the pass forward over live code computes, and no others.
+pub fn marks_are_computed()
+    ensures has { MarksAreComputed }
+    ensures only { OnlyComputed }
 {}
