@@ -1,4 +1,5 @@
 pub mod Computed
 pub mod Exact
 pub mod Live
+pub mod Parted
 pub mod Surveyed

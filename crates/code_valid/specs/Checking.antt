@@ -1,5 +1,5 @@
 -- The check of a body in one pass: operands of known or unknown type, and a flag behind what does not go on.
-use Rattle.std.specs.Prelude.{ℕ, ◌+◌, ◌^◌, List, [], ◌∷◌, ◌++◌, length, max, Option, Some, None, Bool, true, false, cond, ◌&&◌, nat_le, slice_get, option_map, option_and_then}
+use Rattle.std.specs.Prelude.{ℕ, ◌+◌, ◌^◌, List, [], ◌∷◌, ◌++◌, length, max, Option, Some, None, Bool, true, false, ◌&&◌, nat_le, slice_get, option_map, option_and_then}
 use Rattle.wasm_num.specs.declared.ValType.{ValType}
 use Rattle.wasm_num.specs.declared.ValType.TheVariants.{I32, I64}
 use Rattle.module_ast.specs.declared.code.BlockType.{BlockType}
@@ -13,6 +13,7 @@ use Rattle.module_ast.specs.Shapes.{load_type, load_width, store_type, store_wid
 use Rattle.module_ast.specs.Positions.{goes_on, code_size}
 use Rattle.module_ast.specs.Typing.{Context, inside, block_results}
 use Rattle.module_ast.specs.Marks.{Mark}
+use Rattle.ctrl_stack.specs.Stack.{is_same_type, meet}
 
 -- what the sequence has above its base, topmost first, each known or not; at the base of a dead one any operand is found
 pub record Stack : Type 0 where
@@ -24,18 +25,6 @@ fresh = record { ops = []; dead = false }
 
 abbrev pub dead_stack : Stack
 dead_stack = record { ops = []; dead = true }
-
-abbrev pub same_type : ValType → ValType → Bool
-same_type I32 I32 = true
-same_type I32 I64 = false
-same_type I64 I32 = false
-same_type I64 I64 = true
-
--- an operand that is found where one is expected: what is known of it now
-abbrev pub meet : (found expected : Option ValType) → Option (Option ValType)
-meet None e = Some e
-meet (Some t) None = Some (Some t)
-meet (Some t) (Some u) = cond (same_type t u) (Some (Some t)) None
 
 abbrev pub pop_ops : (expected : Option ValType) → List (Option ValType) → Bool → Option (Option ValType × Stack)
 pop_ops e [] true = Some (e, dead_stack)
@@ -84,7 +73,7 @@ abbrev pub same_types : List ValType → List ValType → Bool
 same_types [] [] = true
 same_types [] (u ∷ us) = false
 same_types (t ∷ ts) [] = false
-same_types (t ∷ ts) (u ∷ us) = same_type t u && same_types ts us
+same_types (t ∷ ts) (u ∷ us) = is_same_type t u && same_types ts us
 
 abbrev pub takes_these : List ValType → Option (List ValType) → Bool
 takes_these ts None = false

@@ -1,4 +1,6 @@
+pub mod Answers
 pub mod Checking
+pub mod Control
 pub mod Instance
 pub mod Laws
 pub mod Survey
