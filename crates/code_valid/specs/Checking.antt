@@ -177,11 +177,15 @@ mark_of true p (Some t) = record { place = p; ty = t } ∷ []
 mark_of true p None = []
 mark_of false p x = []
 
--- the mark of an instruction at p, from the operands that it finds and those behind it
+-- what a `drop` drops, or a `select` leaves, from the operands that it finds and those behind it
+abbrev pub marked : Plain → (found behind : List (Option ValType)) → Option ValType
+marked drop_ found behind = top_of found
+marked select found behind = top_of behind
+marked _ found behind = None
+
+-- the mark of an instruction at p
 abbrev pub noted : Bool → (p : ℕ) → Plain → (found behind : List (Option ValType)) → List Mark
-noted live p drop_ found behind = mark_of live p (top_of found)
-noted live p select found behind = mark_of live p (top_of behind)
-noted live p _ found behind = []
+noted live p i found behind = mark_of live p (marked i found behind)
 
 abbrev pub or_else : {A B : Type 0} → B → (A → B) → Option A → B
 or_else d f None = d

@@ -1,3 +1,4 @@
+pub mod Acting
 pub mod Answers
 pub mod Checking
 pub mod Control

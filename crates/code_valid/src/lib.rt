@@ -3,3 +3,6 @@
 
 pub mod invalid;
 pub mod laws;
+pub mod marks;
+mod shapes;
+mod walk;
