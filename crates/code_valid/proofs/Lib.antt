@@ -2,4 +2,5 @@ pub mod Computed
 pub mod Exact
 pub mod Live
 pub mod Parted
+pub mod Spaced
 pub mod Surveyed

@@ -4,4 +4,5 @@ pub mod Checking
 pub mod Control
 pub mod Instance
 pub mod Laws
+pub mod Spaces
 pub mod Survey

@@ -1,8 +1,11 @@
 // The check of bodies: an abstract stack of known and unknown types, exact for the rules of typing.
 #![tactic(auto)]
 
+mod env;
 pub mod invalid;
 pub mod laws;
+pub mod locals;
 pub mod marks;
 mod shapes;
+pub mod spaces;
 mod walk;
