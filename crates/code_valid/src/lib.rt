@@ -1,11 +1,13 @@
 // The check of bodies: an abstract stack of known and unknown types, exact for the rules of typing.
 #![tactic(auto)]
 
+mod blocks;
 mod env;
 pub mod invalid;
 pub mod laws;
 pub mod locals;
 pub mod marks;
+mod plain;
 mod shapes;
 pub mod spaces;
 mod walk;

@@ -1,6 +1,6 @@
 // The types of number instructions, loads and stores. (Standard, 3.3.1, 3.3.4)
 
-ghost use Rattle.std.specs.Prelude.{◌≡◌, [], ◌∷◌, cond};
+ghost use Rattle.std.specs.Prelude.{◌≡◌, ◌<◌, [], ◌∷◌, cond};
 ghost use Rattle.wasm_num.specs.Shapes.{num_operands, num_result};
 ghost use Rattle.module_ast.specs.Shapes.{load_type, load_width, store_type, store_width};
 
@@ -46,6 +46,7 @@ pub(crate) fn num_leaves(op: NumOp) -> ValType
 pub(crate) fn load_shape(op: LoadOp) -> (ValType, u32)
     ensures ty { result.0 ≡ load_type op }
     ensures width { result.1 ≡ load_width op }
+    ensures narrow { result.1 < 16 }
 {
     match op {
         LoadOp::I32Load => (ValType::I32, 4),
@@ -62,6 +63,7 @@ pub(crate) fn load_shape(op: LoadOp) -> (ValType, u32)
 pub(crate) fn store_shape(op: StoreOp) -> (ValType, u32)
     ensures ty { result.0 ≡ store_type op }
     ensures width { result.1 ≡ store_width op }
+    ensures narrow { result.1 < 16 }
 {
     match op {
         StoreOp::I32Store => (ValType::I32, 4),
