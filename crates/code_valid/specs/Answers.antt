@@ -11,7 +11,7 @@ use Rattle.code_valid.specs.declared.invalid.BodyInvalid.{BodyInvalid}
 use Rattle.code_valid.specs.declared.invalid.BodyInvalid.TheVariants.{Invalid, NoMemory}
 use Rattle.code_valid.specs.Checking.{Stack, pop, ends_with}
 use Rattle.code_valid.specs.Control.{Control, here, with_here}
-use Rattle.code_valid.specs.Survey.{Notes, survey, out_of}
+use Rattle.code_valid.specs.Survey.{Notes, survey, out_of, out_to}
 
 -- an invalid body says P; want of memory may come at any time
 abbrev pub OnRefusal : BodyInvalid → Type 0 → Type 0
@@ -54,7 +54,8 @@ Steps (Ok x) c f old new w v =
     (b : Stack) × (new ≡ with_here b old) × ((t : Tree) → survey c old.innermost.base (f t) (here old) w ≡ survey c old.innermost.base t b v)
 Steps (Err e) c f old new w v = OnRefusal e ((t : Tree) → survey c old.innermost.base (f t) (here old) w ≡ None)
 
--- a whole block, from the answer for its body
-abbrev pub Passes : {A : Type 0} → Result A BodyInvalid → List ValType → Option (Stack × Notes) → (old new : Control) → Notes → Type 0
-Passes (Ok x) results o old new w = (b : Stack) × (o ≡ Some (b, w)) × (ends_with results (Some b) ≡ true) × (new ≡ old)
-Passes (Err e) results o old new w = OnRefusal e ((f : Notes → Option (Stack × Notes)) → out_of results f o ≡ None)
+-- a whole block, from the answer for its body; behind it code is as live as before
+abbrev pub Passes : {A : Type 0} → Result A BodyInvalid → List ValType → Option (Stack × Notes) → (old new : Control) → (before after : Notes) → Type 0
+Passes (Ok x) results o old new w v =
+    (b : Stack) × (m : Notes) × (o ≡ Some (b, m)) × (ends_with results (Some b) ≡ true) × (new ≡ old) × (v ≡ out_to w.live m)
+Passes (Err e) results o old new w v = OnRefusal e ((f : Notes → Option (Stack × Notes)) → out_of results f o ≡ None)
