@@ -1,0 +1,4 @@
+pub mod Lists
+pub mod Pops
+pub mod Frames
+pub mod Answered
