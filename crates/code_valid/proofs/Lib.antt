@@ -4,5 +4,6 @@ pub mod Exact
 pub mod Live
 pub mod Moves
 pub mod Parted
+pub mod Sequences
 pub mod Spaced
 pub mod Surveyed

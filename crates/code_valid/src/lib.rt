@@ -2,6 +2,7 @@
 #![tactic(auto)]
 
 mod blocks;
+mod body;
 mod env;
 pub mod invalid;
 pub mod laws;

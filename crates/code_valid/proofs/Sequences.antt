@@ -1,5 +1,5 @@
 -- How the instructions of a sequence join.
-use Rattle.std.proofs.Common.{◌≡◌, ℕ, ◌+◌, ◌<◌, List, length, drop, get_or, Option, Some, None, Bool, refl, sym, ap, ◌∙◌, subst, arith}
+use Rattle.std.proofs.Common.{◌≡◌, ℕ, ◌+◌, ◌<◌, List, length, drop, get_or, Option, Some, None, Bool, true, refl, sym, ap, ◌∙◌, subst, arith}
 use Rattle.std.proofs.lemmas.List.{at_drop_more}
 use Rattle.wasm_num.specs.declared.ValType.{ValType}
 use Rattle.module_ast.specs.declared.code.Instr.{Instr}
@@ -7,9 +7,9 @@ use Rattle.module_ast.specs.declared.code.Instr.TheVariants.{Block, Loop, If, Un
 use Rattle.module_ast.specs.Tree as tree
 use Rattle.module_ast.specs.Tree.{Tree, done, plain, Plain, weight}
 use Rattle.module_ast.specs.Seen.{before, code_of}
-use Rattle.module_ast.specs.Positions.{code_size}
+use Rattle.module_ast.specs.Positions.{code_size, goes_on}
 use Rattle.module_ast.specs.Typing.{Context}
-use Rattle.code_valid.specs.Checking.{Stack, apply, effect, when}
+use Rattle.code_valid.specs.Checking.{Stack, apply, effect, with_some, marked, or_else}
 use Rattle.code_valid.specs.Control.{Control, here, with_here, height_here, context_in}
 use Rattle.code_valid.specs.Survey.{Notes, see, note, on_one, survey}
 use Rattle.code_valid.specs.Acting.{plain_of, IsPlain, effect_of, marked_by, goes_on_by, pass}
@@ -74,11 +74,27 @@ module _ (c : Context) (below : ℕ) (i : Instr) (h : IsPlain i) (a : Stack) (w 
   plain_surveyed n x b v m e q r =
       let (p, o, f) = by_plain i h in
       ap (λ z. survey c below z a w) (f t)
-      ∙ ap (on_one (λ (b : Stack). survey c below t b (note p a b (see (below + length a.ops) w)))) (sym (ap (λ z. apply (effect_by z) a) o) ∙ e)
-      ∙ ap (survey c below t b) (sym (r ∙ ap₃' x n ∙ same_note p o b))
-    where
-      effect_by : Option Plain → _
-      effect_by = ?
+      ∙ ap (on_one (λ (b : Stack). survey c below t b (note p a b (see (below + length a.ops) w)))) (ap (λ z. apply (with_some (effect c) z) a) (sym o) ∙ e)
+      ∙ ap (survey c below t b)
+      (sym (r
+      ∙ ap (λ z. pass z (goes_on_by i) (see n w)) (q ∙ ap (or_else None (λ p. marked p a.ops b.ops)) o)
+      ∙ ap (λ z. pass (marked p a.ops b.ops) z (see n w)) (ap (or_else true goes_on) o)
+      ∙ ap (λ z. pass (marked p a.ops b.ops) (goes_on p) (see z w)) m))
 
   pub plain_refused : apply (effect_of c i) a ≡ None → survey c below (before i t) a w ≡ None
-  plain_refused e = ?
+  plain_refused e =
+      let (p, o, f) = by_plain i h in
+      ap (λ z. survey c below z a w) (f t)
+      ∙ ap (on_one (λ (b : Stack). survey c below t b (note p a b (see (below + length a.ops) w)))) (ap (λ z. apply (with_some (effect c) z) a) (sym o) ∙ e)
+
+-- ---- a sequence
+
+module _ (d : Context) (init cur new : Control) (w v : Notes) (rest now : Tree) (f : Tree → Tree) (b : Stack)
+    (same : cur ≡ with_here (here cur) init) (moved : new ≡ with_here b cur)
+    (step : (t : Tree) → survey (context_in d cur) cur.innermost.base (f t) (here cur) w ≡ survey (context_in d cur) cur.innermost.base t b v)
+    (next : now ≡ f rest) where
+  pub more_surveyed : (o : Option (Stack × Notes)) → survey (context_in d init) init.innermost.base now (here cur) w ≡ o → survey (context_in d init) init.innermost.base rest (here new) v ≡ o
+  more_surveyed o so_far =
+      ap (λ z. survey (context_in d init) init.innermost.base rest (here z) v) moved
+      ∙ sym (subst (λ (z : Control). survey (context_in d z) z.innermost.base (f rest) (here cur) w ≡ survey (context_in d z) z.innermost.base rest b v) same (step rest))
+      ∙ ap (λ z. survey (context_in d init) init.innermost.base z (here cur) w) (sym next) ∙ so_far
