@@ -4,6 +4,8 @@ pub mod Exact
 pub mod Live
 pub mod Moves
 pub mod Parted
+pub mod Runs
 pub mod Sequences
+pub mod Sizes
 pub mod Spaced
 pub mod Surveyed

@@ -4,5 +4,6 @@ pub mod Checking
 pub mod Control
 pub mod Instance
 pub mod Laws
+pub mod Locals
 pub mod Spaces
 pub mod Survey

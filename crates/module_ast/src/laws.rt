@@ -8,6 +8,8 @@ ghost use Rattle.module_ast.specs.Fits.{Fits};
 ghost use Rattle.module_ast.specs.Shortest.{CanonicalBytesAreShortest};
 ghost use Rattle.module_ast.specs.Laws.{ModulesAreUnique, ModulesHaveNoFloat, TreesWithoutFloatAreModules};
 
+use crate::module::{Body, Module};
+
 /// The canonical bytes of a module are in the grammar, and are that module without its custom sections.
 pub fn canonical_bytes_are_spelled()
     ensures { (m : Module) → Fits m → IsModule (module_bytes m) (tree_of (without_customs m)) }
@@ -24,3 +26,11 @@ pub fn modules_are_trees()
     ensures whole { ModulesHaveNoFloat }
     ensures all { TreesWithoutFloatAreModules }
 {}
+
+/// A module and a body may go to other threads, and several may read one at once.
+pub fn modules_cross_threads(module: &Module, body: &Body) {
+    is_send_and_sync(module);
+    is_send_and_sync(body);
+}
+
+fn is_send_and_sync<T: Send + Sync>(_value: &T) {}
