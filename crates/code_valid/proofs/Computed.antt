@@ -134,20 +134,20 @@ plain_computed : (c : Context) (below p : ℕ) (i : Plain) (k : Tree) (s u : Lis
     → HasMarks c below (p + 1) k u (code_marks c (p + 1) k u) (code_height c below k u)
     → (b : Bool) → goes_on i ≡ b → PlainHas c below p i k s (code_marks c p (plain i k) s) (code_height c below (plain i k) s) b
 plain_computed c below p i k s u t h true e = (
-      u,
-      code_marks c (p + 1) k u,
-      code_height c below k u,
-      t,
-      h,
-      ap (λ z. plain_marks p i s ++ when z (code_marks c (p + 1) k (operands_behind c i s))) e
-          ∙ ap₂ (λ x y. x ++ code_marks c (p + 1) k y) (same_marks c p i s u t) (behind_typed c i s u e t),
-      ap (λ z. max (below + length s) (cond z (code_height c below k (operands_behind c i s)) 0)) e
-          ∙ ap (λ y. max (below + length s) (code_height c below k y)) (behind_typed c i s u e t),
-    )
+  u,
+  code_marks c (p + 1) k u,
+  code_height c below k u,
+  t,
+  h,
+  ap (λ z. plain_marks p i s ++ when z (code_marks c (p + 1) k (operands_behind c i s))) e
+      ∙ ap₂ (λ x y. x ++ code_marks c (p + 1) k y) (same_marks c p i s u t) (behind_typed c i s u e t),
+  ap (λ z. max (below + length s) (cond z (code_height c below k (operands_behind c i s)) 0)) e
+      ∙ ap (λ y. max (below + length s) (code_height c below k y)) (behind_typed c i s u e t),
+)
 plain_computed c below p i k s u t h false e = (
-      ap (λ z. plain_marks p i s ++ when z (code_marks c (p + 1) k (operands_behind c i s))) e ∙ ap (λ z. z ++ []) (no_marks p i s e),
-      ap (λ z. max (below + length s) (cond z (code_height c below k (operands_behind c i s)) 0)) e ∙ alone (below + length s),
-    )
+  ap (λ z. plain_marks p i s ++ when z (code_marks c (p + 1) k (operands_behind c i s))) e ∙ ap (λ z. z ++ []) (no_marks p i s e),
+  ap (λ z. max (below + length s) (cond z (code_height c below k (operands_behind c i s)) 0)) e ∙ alone (below + length s),
+)
 
 pub has_computed : (c : Context) (below p : ℕ) (k : Tree) (s u : List ValType) → TypesCode c k s u → HasMarks c below p k s (code_marks c p k s) (code_height c below k s)
 has_computed c below p done s u t = (refl, refl)

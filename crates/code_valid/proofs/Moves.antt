@@ -125,11 +125,11 @@ pub selected : (s0 s1 s2 s3 s4 : Control) (b1 b2 b3 : Stack) (first second : Opt
     → s4 ≡ with_here (push_one second (here s3)) s3
     → (b : Stack) × (apply selects (here s0) ≡ Some b) × (s4 ≡ with_here b s0)
 selected s0 s1 s2 s3 s4 b1 b2 b3 first second h1 q1 h2 q2 h3 q3 q4 = (
-      push_one second b3,
-      ap (option_and_then select_on) h1
-          ∙ ap (λ z. select_on (here z)) (sym q1)
-          ∙ ap (option_and_then select_second) h2
-          ∙ ap (λ z. option_map (λ (q : Option ValType × Stack). push_one q.0 q.1) (pop first (here z))) (sym q2)
-          ∙ ap (option_map (λ (q : Option ValType × Stack). push_one q.0 q.1)) h3,
-      q4 ∙ ap (λ z. with_here (push_one second (here z)) z) q3 ∙ ap (with_here (push_one second b3)) q2 ∙ ap (with_here (push_one second b3)) q1,
-    )
+  push_one second b3,
+  ap (option_and_then select_on) h1
+      ∙ ap (λ z. select_on (here z)) (sym q1)
+      ∙ ap (option_and_then select_second) h2
+      ∙ ap (λ z. option_map (λ (q : Option ValType × Stack). push_one q.0 q.1) (pop first (here z))) (sym q2)
+      ∙ ap (option_map (λ (q : Option ValType × Stack). push_one q.0 q.1)) h3,
+  q4 ∙ ap (λ z. with_here (push_one second (here z)) z) q3 ∙ ap (with_here (push_one second b3)) q2 ∙ ap (with_here (push_one second b3)) q1,
+)

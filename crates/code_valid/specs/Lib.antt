@@ -1,5 +1,6 @@
 pub mod Acting
 pub mod Answers
+pub mod Bodies
 pub mod Checking
 pub mod Control
 pub mod Instance

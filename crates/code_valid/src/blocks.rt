@@ -68,7 +68,12 @@ impl Blocks {
     }
 
     /// Opens a block that takes nothing.
-    pub fn push_block(&mut self, alloc: Global, kind: BlockKind, results: Types) -> Result<(), BodyInvalid>
+    pub fn push_block(
+        &mut self,
+        alloc: Global,
+        kind: BlockKind,
+        results: Types,
+    ) -> Result<(), BodyInvalid>
         ensures opened { OnlyMemory result (self.new ≡ within kind results self.old) }
         ensures same { parted (joined self.old) ≡ self.old }
     {

@@ -1,171 +1,90 @@
-// The check of a body in one pass, with what it notes.
+// The check of a body.
 
-ghost use Rattle.std.specs.Prelude.{◌≡◌, ◌+◌, ◌<◌, ◌^◌, [], IfOk};
-ghost use Rattle.module_ast.specs.Tree.{done};
-ghost use Rattle.module_ast.specs.Seen.{before};
+ghost use Rattle.std.specs.Prelude.{◌≡◌, ◌<◌, ◌^◌, length, IfOk, IsErrOf};
+ghost use Rattle.module_ast.specs.Limits.{IsWhole};
 ghost use Rattle.module_ast.specs.Positions.{code_size};
-ghost use Rattle.module_ast.specs.Typing.{block_results, inside};
-ghost use Rattle.module_ast.specs.declared.code.Instr.TheVariants.{If};
-ghost use Rattle.ctrl_stack.specs.Stack.{types_by};
-ghost use Rattle.code_valid.specs.Checking.{fresh, push_all};
-ghost use Rattle.code_valid.specs.Control.{here, with_here, height_here, context_in};
-ghost use Rattle.code_valid.specs.Survey.{survey};
-ghost use Rattle.code_valid.specs.Acting.{IsPlain};
-ghost use Rattle.code_valid.specs.Answers.{OnlyMemory, Surveyed, Steps, Passes};
+ghost use Rattle.module_ast.specs.Validity.{KeepsRules, TypesBody, HasBodyMarks};
+ghost use Rattle.code_valid.specs.Bodies.{TypesIn, HasMarksIn};
+ghost use Rattle.code_valid.specs.Spaces.{IsSpaces};
+ghost use Rattle.code_valid.specs.declared.invalid.BodyInvalid.{BodyInvalid};
 
 use crate::blocks::Blocks;
 use crate::env::Env;
 use crate::invalid::BodyInvalid;
-use crate::plain::{act, goes_on};
+use crate::locals::Locals;
+use crate::marks::Marks;
+use crate::spaces::Spaces;
+use crate::surveying::survey_code;
 use crate::walk::Walk;
 use ctrl_stack::frame::Types;
-use module_ast::code::{BlockType, Code, Instr};
-use std::alloc::Global;
-use wasm_num::BlockKind;
+use module_ast::code::Code;
+use module_ast::module::Module;
+use module_ast::seq::Seq;
+use std::alloc::{AllocError, Global};
+use wasm_num::ValType;
 
-/// Checks a sequence from the operands of the innermost block, and notes what its live places have.
-#[cycle(surveying)]
-pub(crate) fn survey_code(
+/// Checks the body of a defined function by the rules of typing, and answers its marks and its height. `Invalid` says that
+/// the rules do not type it. It takes time linear in the module's imports, functions and globals and in the body; for many
+/// bodies see `check_body_in`. (Standard, 3.4.1)
+pub fn check_body(alloc: Global, m: &Module, defined: u32) -> Result<Marks, BodyInvalid>
+    requires body { defined < length m.now.bodies }
+    requires func { defined < length m.now.funcs }
+    requires whole { IsWhole m.now }
+    requires rules { KeepsRules m.now }
+    ensures typed { IfOk result (λ _. TypesBody m.now defined) }
+    ensures marks { IfOk result (λ found. HasBodyMarks m.now defined found.types found.height) }
+    ensures invalid { IsErrOf result BodyInvalid.Invalid → ¬ TypesBody m.now defined }
+{
+    let spaces = Spaces::new(alloc, m)?;
+    check_body_in(alloc, m, &spaces, defined)
+}
+
+/// Checks the body of a defined function as `check_body` does, over the index spaces of its module, so that these are made
+/// once for all bodies. It takes time in proportion to the body, and to its locals' groups. (Standard, 3.4.1)
+pub fn check_body_in(
     alloc: Global,
-    env: &Env,
-    code: &Code,
-    blocks: &mut Blocks,
-    walk: &mut Walk,
-) -> Result<(), BodyInvalid>
-    requires { walk.old.position + code_size code.now < 2 ^ 32 }
-    ensures surveyed { Surveyed result (survey (context_in env.now blocks.old) blocks.old.innermost.base code.now (here blocks.old) walk.old) blocks.old blocks.new walk.new }
-    ensures position { IfOk result (λ _. walk.new.position ≡ walk.old.position + code_size code.now) }
+    m: &Module,
+    spaces: &Spaces,
+    defined: u32,
+) -> Result<Marks, BodyInvalid>
+    requires body { defined < length m.now.bodies }
+    requires func { defined < length m.now.funcs }
+    requires whole { IsWhole m.now }
+    requires rules { KeepsRules m.now }
+    requires spaces { IsSpaces m.now spaces.now }
+    ensures typed { IfOk result (λ _. TypesBody m.now defined) }
+    ensures marks { IfOk result (λ found. HasBodyMarks m.now defined found.types found.height) }
+    ensures invalid { IsErrOf result BodyInvalid.Invalid → ¬ TypesBody m.now defined }
 {
-    for instr in code.as_slice() {
-        survey_instr(alloc, env, instr, blocks, walk)?;
-    }
-    walk.see(blocks.height());
-    Ok(())
+    let index = m.funcs.as_slice()[defined as usize];
+    let ty = &m.types.as_slice()[index as usize];
+    let body = &m.bodies.as_slice()[defined as usize];
+    let locals = Locals::new(alloc, ty.params.as_slice(), body.groups.as_slice())?;
+    let env = Env::new(m, spaces, locals, ty.results.as_slice());
+    survey_body(alloc, &env, &body.code)
 }
 
-// A block from its opening to its end, its opcode left out.
-#[cycle(surveying)]
-fn survey_part(
-    alloc: Global,
-    env: &Env,
-    kind: BlockKind,
-    ty: BlockType,
-    body: &Code,
-    blocks: &mut Blocks,
-    walk: &mut Walk,
-) -> Result<(), BodyInvalid>
-    requires { walk.old.position + code_size body.now + 1 < 2 ^ 32 }
-    ensures passes { Passes result (block_results ty) (survey (inside (context_in env.now blocks.old) (types_by kind [] (block_results ty))) (height_here blocks.old) body.now fresh walk.old) blocks.old blocks.new walk.old walk.new }
-    ensures position { IfOk result (λ _. walk.new.position ≡ walk.old.position + code_size body.now + 1) }
+// Checks a body by what it can name.
+fn survey_body(alloc: Global, env: &Env, code: &Code) -> Result<Marks, BodyInvalid>
+    requires { code_size code.now < 2 ^ 32 }
+    ensures typed { IfOk result (λ _. TypesIn env.now code.now) }
+    ensures marks { IfOk result (HasMarksIn env.now code.now) }
+    ensures invalid { IsErrOf result BodyInvalid.Invalid → ¬ TypesIn env.now code.now }
 {
-    let live = walk.is_live();
-    let results = results_of(alloc, ty)?;
-    blocks.push_block(alloc, kind, results)?;
-    survey_code(alloc, env, body, blocks, walk)?;
-    blocks.pop_block()?;
-    walk.out_to(live);
-    Ok(())
+    let results = copied(alloc, env.results())?;
+    let mut blocks = Blocks::new(alloc, results)?;
+    let mut walk = Walk::new(alloc);
+    survey_code(alloc, env, code, &mut blocks, &mut walk)?;
+    blocks.end()?;
+    let (marks, height) = walk.finish();
+    Ok(Marks {
+        types: Seq::from_vec(marks),
+        height,
+    })
 }
 
-#[cycle(surveying)]
-fn survey_if(
-    alloc: Global,
-    env: &Env,
-    ty: BlockType,
-    body: &Code,
-    other: &Option<Code>,
-    blocks: &mut Blocks,
-    walk: &mut Walk,
-) -> Result<(), BodyInvalid>
-    requires { walk.old.position + code_size (before (If ty body.now other.now) done) < 2 ^ 32 }
-    ensures steps { Steps result (context_in env.now blocks.old) (before (If ty body.now other.now)) blocks.old blocks.new walk.old walk.new }
-    ensures position { IfOk result (λ _. walk.new.position ≡ walk.old.position + code_size (before (If ty body.now other.now) done)) }
+fn copied(alloc: Global, types: &[ValType]) -> Result<Types, AllocError>
+    ensures { IfOk result (λ copy. copy ≡ types.now) }
 {
-    match (ty, other) {
-        (BlockType::Value(_), None) => Err(BodyInvalid::Invalid),
-        (BlockType::Empty, None) => {
-            walk.see(blocks.height());
-            walk.over();
-            blocks.pop_i32()?;
-            survey_part(alloc, env, BlockKind::If, BlockType::Empty, body, blocks, walk)
-        }
-        (_, Some(other)) => {
-            walk.see(blocks.height());
-            walk.over();
-            blocks.pop_i32()?;
-            survey_part(alloc, env, BlockKind::If, ty, body, blocks, walk)?;
-            survey_part(alloc, env, BlockKind::Else, ty, other, blocks, walk)?;
-            push_results(ty, blocks)
-        }
-    }
-}
-
-#[cycle(surveying)]
-fn survey_instr(
-    alloc: Global,
-    env: &Env,
-    instr: &Instr,
-    blocks: &mut Blocks,
-    walk: &mut Walk,
-) -> Result<(), BodyInvalid>
-    requires { walk.old.position + code_size (before instr.now done) < 2 ^ 32 }
-    ensures steps { Steps result (context_in env.now blocks.old) (before instr.now) blocks.old blocks.new walk.old walk.new }
-    ensures position { IfOk result (λ _. walk.new.position ≡ walk.old.position + code_size (before instr.now done)) }
-{
-    match instr {
-        Instr::Block(ty, body) => {
-            walk.over();
-            survey_part(alloc, env, BlockKind::Block, *ty, body, blocks, walk)?;
-            push_results(*ty, blocks)
-        }
-        Instr::Loop(ty, body) => {
-            walk.over();
-            survey_part(alloc, env, BlockKind::Loop, *ty, body, blocks, walk)?;
-            push_results(*ty, blocks)
-        }
-        Instr::If(ty, body, other) => survey_if(alloc, env, *ty, body, other, blocks, walk),
-        _ => survey_plain(alloc, env, instr, blocks, walk),
-    }
-}
-
-// An instruction with no sequence in it.
-fn survey_plain(
-    alloc: Global,
-    env: &Env,
-    instr: &Instr,
-    blocks: &mut Blocks,
-    walk: &mut Walk,
-) -> Result<(), BodyInvalid>
-    requires plain { IsPlain instr.now }
-    requires room { walk.old.position + code_size (before instr.now done) < 2 ^ 32 }
-    ensures steps { Steps result (context_in env.now blocks.old) (before instr.now) blocks.old blocks.new walk.old walk.new }
-    ensures position { IfOk result (λ _. walk.new.position ≡ walk.old.position + code_size (before instr.now done)) }
-{
-    walk.see(blocks.height());
-    let ty = act(alloc, env, instr, blocks)?;
-    walk.pass(ty, goes_on(instr))?;
-    Ok(())
-}
-
-// The results of a block of this type.
-fn results_of(alloc: Global, ty: BlockType) -> Result<Types, BodyInvalid>
-    ensures { OnlyMemory result (IfOk result (λ types. types ≡ block_results ty)) }
-{
-    let mut types = Vec::new(alloc);
-    match ty {
-        BlockType::Empty => Ok(Types::from_vec(types)),
-        BlockType::Value(ty) => {
-            types.push(ty)?;
-            Ok(Types::from_vec(types))
-        }
-    }
-}
-
-fn push_results(ty: BlockType, blocks: &mut Blocks) -> Result<(), BodyInvalid>
-    ensures { OnlyMemory result (blocks.new ≡ with_here (push_all (block_results ty) (here blocks.old)) blocks.old) }
-{
-    match ty {
-        BlockType::Empty => Ok(()),
-        BlockType::Value(ty) => blocks.push_all(&[ty]),
-    }
+    Ok(Types::from_vec(types.to_vec(alloc)?))
 }

@@ -28,31 +28,24 @@ impl<'m> Model for Env<'m> {
 
     ghost Value = { Context };
 
-    ghost view = {
-        λ a.
-            record {
-                types = a.m.now.types;
-                funcs = funcs_of a.m.now;
-                tables = tables_of a.m.now;
-                memories = memories_of a.m.now;
-                globals = globals_of a.m.now;
-                locals = a.locals;
-                labels = [];
-                results = a.results.now;
-            }
-    };
+    ghost view = { λ a.
+        record {
+          types = a.m.now.types;
+          funcs = funcs_of a.m.now;
+          tables = tables_of a.m.now;
+          memories = memories_of a.m.now;
+          globals = globals_of a.m.now;
+          locals = a.locals;
+          labels = [];
+          results = a.results.now;
+        } };
 
     ghost invariant = { λ a. IsSpaces a.m.now a.spaces.now };
 }
 
 impl<'m> Env<'m> {
     /// Of a body of this module, whose spaces these are, with these locals and results.
-    pub fn new(
-        m: &'m Module,
-        spaces: &'m Spaces,
-        locals: Locals,
-        results: &'m [ValType],
-    ) -> Env<'m>
+    pub fn new(m: &'m Module, spaces: &'m Spaces, locals: Locals, results: &'m [ValType]) -> Env<'m>
         requires { IsSpaces m.now spaces.now }
         ensures { result ≡ record { types = m.now.types; funcs = funcs_of m.now; tables = tables_of m.now; memories = memories_of m.now; globals = globals_of m.now; locals = locals; labels = []; results = results.now } }
     {

@@ -2,7 +2,7 @@
 #![tactic(auto)]
 
 mod blocks;
-mod body;
+pub mod body;
 mod env;
 pub mod invalid;
 pub mod laws;
@@ -11,4 +11,6 @@ pub mod marks;
 mod plain;
 mod shapes;
 pub mod spaces;
+mod surveying;
+pub mod typed_body;
 mod walk;

@@ -48,12 +48,7 @@ pub(crate) fn goes_on(instr: &Instr) -> bool
 }
 
 // What an instruction does to the operands, its mark left out.
-fn turn(
-    alloc: Global,
-    env: &Env,
-    instr: &Instr,
-    blocks: &mut Blocks,
-) -> Result<(), BodyInvalid>
+fn turn(alloc: Global, env: &Env, instr: &Instr, blocks: &mut Blocks) -> Result<(), BodyInvalid>
     ensures { Moves result (apply (effect_of (context_in env.now blocks.old) instr.now) (here blocks.old)) blocks.old blocks.new }
 {
     match instr {
@@ -85,24 +80,14 @@ fn turn(
 
 // ---- branches and calls
 
-fn br(
-    alloc: Global,
-    env: &Env,
-    label: u32,
-    blocks: &mut Blocks,
-) -> Result<(), BodyInvalid>
+fn br(alloc: Global, env: &Env, label: u32, blocks: &mut Blocks) -> Result<(), BodyInvalid>
     ensures { Moves result (apply (effect (context_in env.now blocks.old) (tree.br label)) (here blocks.old)) blocks.old blocks.new }
 {
     let types = blocks.label_copy(alloc, label)?;
     blocks.stop(&types)
 }
 
-fn br_if(
-    alloc: Global,
-    env: &Env,
-    label: u32,
-    blocks: &mut Blocks,
-) -> Result<(), BodyInvalid>
+fn br_if(alloc: Global, env: &Env, label: u32, blocks: &mut Blocks) -> Result<(), BodyInvalid>
     ensures { Moves result (apply (effect (context_in env.now blocks.old) (tree.br_if label)) (here blocks.old)) blocks.old blocks.new }
 {
     let types = blocks.label_copy(alloc, label)?;

@@ -4,7 +4,7 @@ use Rattle.module_ast.specs.Seen.{before, code_of}
 use Rattle.module_ast.specs.Positions.{code_size}
 use Rattle.code_valid.proofs.Moves.{kept}
 use Rattle.code_valid.proofs.Sequences.{next_instr, weight_before, size_before, more_surveyed}
-use Rattle.code_valid.proofs.body.+surveying.Goals as goal
+use Rattle.code_valid.proofs.surveying.+surveying.Goals as goal
 
 pub survey_code-loop-instr-preserved : goal.survey_code-loop-instr-preserved
 survey_code-loop-instr-preserved t c =

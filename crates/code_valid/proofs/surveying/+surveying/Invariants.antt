@@ -5,7 +5,7 @@ use Rattle.module_ast.specs.Positions.{code_size}
 use Rattle.module_ast.specs.declared.code.Instr.TheVariants.{If}
 use Rattle.code_valid.specs.Survey.{survey}
 use Rattle.code_valid.specs.Control.{here, with_here, context_in}
-use Rattle.code_valid.proofs.body.+surveying.Given as goal
+use Rattle.code_valid.proofs.surveying.+surveying.Given as goal
 
 abbrev pub decreases-survey_code : goal.decreases-survey_code
 decreases-survey_code l = 4 * weight l.code.now + 2
