@@ -3,6 +3,9 @@
 ghost use Rattle.code_valid.specs.Survey.{SurveyNotes};
 ghost use Rattle.code_valid.specs.Laws.{CheckIsExact, AcceptsWhatIsTyped, TypedHasMarks, MarksAreUnique, LiveTypesAreKnown, MarksAreComputed, OnlyComputed};
 
+use crate::marks::Marks;
+use crate::typed_body::TypedBody;
+
 /// The check answers exactly what the rules of typing reach. (Standard, 3.3)
 pub fn check_is_exact()
     ensures { CheckIsExact }
@@ -38,3 +41,11 @@ pub fn marks_are_computed()
     ensures has { MarksAreComputed }
     ensures only { OnlyComputed }
 {}
+
+/// Marks and typed bodies may go to other threads, and several may read one at once.
+pub fn bodies_cross_threads(marks: &Marks, body: &TypedBody) {
+    is_send_and_sync(marks);
+    is_send_and_sync(body);
+}
+
+fn is_send_and_sync<T: Send + Sync>(_value: &T) {}
