@@ -1,0 +1,12 @@
+pub mod Compare
+pub mod Computed
+pub mod Exact
+pub mod Judged
+pub mod Live
+pub mod Moves
+pub mod Parted
+pub mod Runs
+pub mod Sequences
+pub mod Sizes
+pub mod Spaced
+pub mod Surveyed

@@ -1,0 +1,25 @@
+use Rattle.std.proofs.Common.{◌≡◌, ◌≤◌, ◌+◌, drop, arith, ap, ◌∙◌}
+use Rattle.module_ast.specs.Tree.{weight}
+use Rattle.module_ast.specs.Seen.{before, code_of}
+use Rattle.module_ast.specs.Positions.{code_size}
+use Rattle.code_valid.proofs.Moves.{kept}
+use Rattle.code_valid.proofs.Sequences.{next_instr, weight_before, size_before, more_surveyed}
+use Rattle.code_valid.proofs.surveying.+surveying.Goals as goal
+
+pub survey_code-loop-instr-preserved : goal.survey_code-loop-instr-preserved
+survey_code-loop-instr-preserved t c =
+    let s = c.in_ok-survey_instr.ensures.steps in
+    let is = c.as_slice-instr-items.result.now in
+    let k = c.loop-instr.instr-index in
+    let i = c.instr-item.result in
+    let rest = code_of (drop (k + 1) is) in
+    let next = next_instr is k i (omega arith) c.instr-item.is in
+    let weights = ap weight next ∙ weight_before i rest in
+    let sizes = ap code_size next ∙ size_before i rest in
+    record {
+      same = kept c.args.blocks.now c.loop-instr.blocks c.survey_instr.new.blocks s.0 c.loop-instr.invariant.same s.1;
+      so_far = more_surveyed c.args.env.now c.args.blocks.now c.loop-instr.blocks c.survey_instr.new.blocks c.loop-instr.walk c.survey_instr.new.walk
+          rest (code_of (drop k is)) (before i) s.0 c.loop-instr.invariant.same s.1 s.2 next _ c.loop-instr.invariant.so_far;
+      lighter = omega (arith, weights, c.loop-instr.invariant.lighter);
+      position = omega (arith, sizes, c.loop-instr.invariant.position, c.in_ok-survey_instr.ensures.position);
+    }

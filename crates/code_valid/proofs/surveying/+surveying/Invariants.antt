@@ -1,0 +1,28 @@
+use Rattle.std.proofs.Common.{◌≡◌, ◌≤◌, ◌+◌, ◌*◌, drop}
+use Rattle.module_ast.specs.Tree.{weight, done}
+use Rattle.module_ast.specs.Seen.{before, code_of}
+use Rattle.module_ast.specs.Positions.{code_size}
+use Rattle.module_ast.specs.declared.code.Instr.TheVariants.{If}
+use Rattle.code_valid.specs.Survey.{survey}
+use Rattle.code_valid.specs.Control.{here, with_here, context_in}
+use Rattle.code_valid.proofs.surveying.+surveying.Given as goal
+
+abbrev pub decreases-survey_code : goal.decreases-survey_code
+decreases-survey_code l = 4 * weight l.code.now + 2
+
+abbrev pub decreases-survey_part : goal.decreases-survey_part
+decreases-survey_part l = 4 * weight l.body.now + 3
+
+abbrev pub decreases-survey_if : goal.decreases-survey_if
+decreases-survey_if l = 4 * weight (before (If l.ty l.body.now l.other.now) done)
+
+abbrev pub decreases-survey_instr : goal.decreases-survey_instr
+decreases-survey_instr l = 4 * weight (before l.instr.now done) + 1
+
+abbrev pub invariant-survey_code-loop-instr : goal.invariant-survey_code-loop-instr
+invariant-survey_code-loop-instr l = record {
+  same : l.blocks ≡ with_here (here l.blocks) l.initial.blocks;
+  so_far : survey (context_in l.env l.initial.blocks) l.initial.blocks.innermost.base (code_of (drop l.instr-index l.instr-items)) (here l.blocks) l.walk ≡ survey (context_in l.env l.initial.blocks) l.initial.blocks.innermost.base l.code (here l.initial.blocks) l.initial.walk;
+  lighter : weight (code_of (drop l.instr-index l.instr-items)) ≤ weight l.code;
+  position : l.walk.position + code_size (code_of (drop l.instr-index l.instr-items)) ≡ l.initial.walk.position + code_size l.code;
+}

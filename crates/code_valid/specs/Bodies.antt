@@ -1,0 +1,34 @@
+-- What the check of a whole body answers.
+use Rattle.std.specs.Prelude.{◌≡◌, ℕ, ◌<◌, List, [], ◌∷◌, length, Result, Ok, Err}
+use Rattle.module_ast.specs.declared.module.Module.{Module}
+use Rattle.module_ast.specs.Tree.{Tree}
+use Rattle.module_ast.specs.Limits.{IsWhole}
+use Rattle.module_ast.specs.Typing.{Context, push, TypesCode}
+use Rattle.module_ast.specs.LiveMarks.{HasMarks}
+use Rattle.module_ast.specs.Validity.{KeepsRules, TypesBody, HasBodyMarks}
+use Rattle.code_valid.specs.declared.marks.Marks.{Marks}
+
+-- what a body names outside its blocks: a branch to the function takes its results
+abbrev pub body_of : Context → Context
+body_of c = record c { labels = c.results ∷ [] }
+
+-- 3.4.1 a body of these results is typed
+abbrev pub TypesIn : Context → Tree → Type 0
+TypesIn c k = TypesCode (body_of c) k [] (push c.results [])
+
+abbrev pub HasMarksIn : Context → Tree → Marks → Type 0
+HasMarksIn c k found = HasMarks (body_of c) 0 0 k [] found.types found.height
+
+-- a body of a module that is whole and keeps the rules, where the body is typed and has these marks
+pub record IsTyped (m : Module) (defined : ℕ) (found : Marks) : Type 0 where
+  pub whole : IsWhole m
+  pub rules : KeepsRules m
+  pub in_range : defined < length m.bodies
+  pub typed : TypesBody m defined
+  pub marks : HasBodyMarks m defined found.types found.height
+
+-- such a body, by its module and its number
+pub record Typed : Type 0 where
+  pub «module» : Module
+  pub defined : ℕ
+  pub marks : Marks

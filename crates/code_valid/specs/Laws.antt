@@ -1,0 +1,47 @@
+-- The check answers exactly what the rules type, and what it notes is what a typed body has.
+use Rattle.std.specs.Prelude.{◌≡◌, ◌↔◌, ℕ, List, [], Some, true}
+use Rattle.module_ast.specs.Positions.{ends_live}
+use Rattle.wasm_num.specs.declared.ValType.{ValType}
+use Rattle.module_ast.specs.Tree.{Tree}
+use Rattle.module_ast.specs.Typing.{Context, push, TypesCode}
+use Rattle.module_ast.specs.Marks.{Mark, code_marks, code_height}
+use Rattle.module_ast.specs.LiveMarks.{HasMarks}
+use Rattle.code_valid.specs.Checking.{Stack, check, accepts, marks_of, height_of}
+use Rattle.code_valid.specs.Instance.{Instance, Gives, known}
+
+-- what check answers stands for what the rules reach from what it was given
+abbrev pub CheckIsExact : Type 0
+CheckIsExact =
+    (c : Context) (k : Tree) (a : Stack) (after : List ValType)
+    → ((before : List ValType) × Instance a before × TypesCode c k before after) ↔ Gives (check c k a) after
+
+abbrev pub AcceptsWhatIsTyped : Type 0
+AcceptsWhatIsTyped = (c : Context) (k : Tree) (results : List ValType) → (accepts c k results ≡ true) ↔ TypesCode c k [] (push results [])
+
+abbrev pub TypedHasMarks : Type 0
+TypedHasMarks =
+    (c : Context) (below p : ℕ) (k : Tree) (before after : List ValType) → TypesCode c k before after
+    → HasMarks c below p k before (marks_of c true p k (known before)) (height_of c true below k (known before))
+
+abbrev pub MarksAreUnique : Type 0
+MarksAreUnique =
+    (c : Context) (below p : ℕ) (k : Tree) (before : List ValType) (marks : List Mark) (height : ℕ) → HasMarks c below p k before marks height
+    → (marks ≡ marks_of c true p k (known before)) × (height ≡ height_of c true below k (known before))
+
+-- from known operands, up to a live end, each type is known
+abbrev pub LiveTypesAreKnown : Type 0
+LiveTypesAreKnown =
+    (c : Context) (k : Tree) (before after : List ValType) → TypesCode c k before after → ends_live true k ≡ true
+    → check c k (known before) ≡ Some (known after)
+
+-- typed code has the marks and the height that `Marks` computes, and no others
+abbrev pub MarksAreComputed : Type 0
+MarksAreComputed =
+    (c : Context) (below p : ℕ) (k : Tree) (before after : List ValType) → TypesCode c k before after
+    → HasMarks c below p k before (code_marks c p k before) (code_height c below k before)
+
+abbrev pub OnlyComputed : Type 0
+OnlyComputed =
+    (c : Context) (below p : ℕ) (k : Tree) (before after : List ValType) (marks : List Mark) (height : ℕ)
+    → TypesCode c k before after → HasMarks c below p k before marks height
+    → (marks ≡ code_marks c p k before) × (height ≡ code_height c below k before)

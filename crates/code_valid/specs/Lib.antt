@@ -1,0 +1,10 @@
+pub mod Acting
+pub mod Answers
+pub mod Bodies
+pub mod Checking
+pub mod Control
+pub mod Instance
+pub mod Laws
+pub mod Locals
+pub mod Spaces
+pub mod Survey

@@ -1,0 +1,207 @@
+// The open blocks, as the check of one sequence sees them.
+
+ghost use Rattle.std.specs.Prelude.{◌≡◌, ◌<◌, [], ◌∷◌, ◌++◌, length, slice_get, Some, None, MatchOption, MatchResult, IfOk};
+ghost use Rattle.wasm_num.specs.declared.ValType.TheVariants.{I32};
+ghost use Rattle.code_valid.specs.Checking.{dead_stack, pop_one, pop_all, push_one, push_all, apply, turns, stops, drops, selects, top_of};
+ghost use Rattle.code_valid.specs.Control.{Control, here, with_here, height_here, labels_of, within, joined, parted, HasFrame};
+ghost use Rattle.code_valid.specs.Answers.{OnRefusal, OnlyMemory, Pops, Moves, Ends};
+ghost use Rattle.ctrl_stack.specs.Stack.{started};
+
+use crate::invalid::BodyInvalid;
+use ctrl_stack::frame::Types;
+use ctrl_stack::stack::CtrlStack;
+use std::alloc::{AllocError, Global};
+use std::marker::Model;
+use wasm_num::{BlockKind, ValType};
+
+/// The open blocks of a body, of which contracts see the innermost one with its operands apart.
+#[derive(Debug, Drop)]
+pub(crate) struct Blocks {
+    stack: CtrlStack,
+}
+
+impl Model for Blocks {
+    ghost use Rattle.code_valid.specs.Control.{Control, parted, Stands};
+
+    ghost Value = { Control };
+
+    ghost view = { λ a. parted a.stack };
+
+    ghost invariant = { λ a. Stands a.stack };
+}
+
+impl Blocks {
+    /// A function with these results, before its first instruction.
+    pub fn new(alloc: Global, results: Types) -> Result<Blocks, AllocError>
+        ensures { IfOk result (λ s. s ≡ parted (started results)) }
+    {
+        Ok(Blocks {
+            stack: CtrlStack::new(alloc, results)?,
+        })
+    }
+
+    /// How many operands there are, those of the blocks around counted.
+    pub fn height(&self) -> usize
+        ensures { result ≡ height_here self.now }
+    {
+        self.stack.height()
+    }
+
+    /// The types that a branch to this label takes.
+    pub fn label(&self, label: u32) -> Option<&[ValType]>
+        ensures { MatchOption result (slice_get (labels_of self.now) label ≡ None) (λ ts. slice_get (labels_of self.now) label ≡ Some ts.now) }
+    {
+        match self.stack.label(label) {
+            None => None,
+            Some(frame) => Some(frame.label_types()),
+        }
+    }
+
+    /// A copy of the types that a branch to this label takes; `Invalid` where there is no such label.
+    pub fn label_copy(&self, alloc: Global, label: u32) -> Result<Vec<ValType>, BodyInvalid>
+        ensures { MatchResult result (λ ts. slice_get (labels_of self.now) label ≡ Some ts.items) (λ e. OnRefusal e (slice_get (labels_of self.now) label ≡ None)) }
+    {
+        match self.label(label) {
+            None => Err(BodyInvalid::Invalid),
+            Some(types) => Ok(types.to_vec(alloc)?),
+        }
+    }
+
+    /// Opens a block that takes nothing.
+    pub fn push_block(
+        &mut self,
+        alloc: Global,
+        kind: BlockKind,
+        results: Types,
+    ) -> Result<(), BodyInvalid>
+        ensures opened { OnlyMemory result (self.new ≡ within kind results self.old) }
+        ensures same { parted (joined self.old) ≡ self.old }
+    {
+        let starts = Types::from_vec(Vec::new(alloc));
+        self.stack.push_block(kind, starts, results)?;
+        Ok(())
+    }
+
+    /// Takes the results of the innermost block and closes it, where nothing else is left in it.
+    pub fn pop_block(&mut self) -> Result<(), BodyInvalid>
+        requires { HasFrame self.old.outer }
+        ensures ends { Ends result self.old }
+        ensures outer { IfOk result (λ _. self.new ≡ parted (record { frames = self.old.outer; operands = self.old.under })) }
+    {
+        self.stack.pop_block()?;
+        Ok(())
+    }
+
+    /// Ends the function, where its results are left and nothing more.
+    pub fn end(self) -> Result<(), BodyInvalid>
+        ensures { Ends result self }
+    {
+        let mut stack = self.stack;
+        stack.pop_block()?;
+        Ok(())
+    }
+
+    fn push(&mut self, ty: Option<ValType>) -> Result<(), BodyInvalid>
+        ensures { OnlyMemory result (self.new ≡ with_here (push_one ty (here self.old)) self.old) }
+    {
+        self.stack.push(ty)?;
+        Ok(())
+    }
+
+    // Takes the topmost operand, where one of this type, or of any, is expected.
+    fn pop(&mut self, expected: Option<ValType>) -> Result<Option<ValType>, BodyInvalid>
+        ensures { Pops result expected self.old self.new }
+    {
+        Ok(self.stack.pop(expected)?)
+    }
+
+    // Drops the operands of the innermost block, whose code goes on no further.
+    fn mark_dead(&mut self)
+        ensures { self.new ≡ with_here dead_stack self.old }
+    {
+        self.stack.mark_dead();
+    }
+
+    // Takes these, the last first.
+    fn pop_all(&mut self, types: &[ValType]) -> Result<(), BodyInvalid>
+        ensures { Moves result (pop_all types.now (here self.old)) self.old self.new }
+    {
+        let mut left = types.len();
+        while left > 0 {
+            left -= 1;
+            self.pop(Some(types[left]))?;
+        }
+        Ok(())
+    }
+
+    /// Puts these, the first first.
+    pub fn push_all(&mut self, types: &[ValType]) -> Result<(), BodyInvalid>
+        ensures { OnlyMemory result (self.new ≡ with_here (push_all types.now (here self.old)) self.old) }
+    {
+        for ty in types {
+            self.push(Some(*ty))?;
+        }
+        Ok(())
+    }
+
+    /// Takes these and puts those.
+    pub fn turn(&mut self, takes: &[ValType], leaves: &[ValType]) -> Result<(), BodyInvalid>
+        ensures { Moves result (apply (turns takes.now leaves.now) (here self.old)) self.old self.new }
+    {
+        self.pop_all(takes)?;
+        self.push_all(leaves)
+    }
+
+    /// Takes these, and does not go on.
+    pub fn stop(&mut self, takes: &[ValType]) -> Result<(), BodyInvalid>
+        ensures { Moves result (apply (stops takes.now) (here self.old)) self.old self.new }
+    {
+        self.pop_all(takes)?;
+        self.mark_dead();
+        Ok(())
+    }
+
+    /// Takes the operand of a condition or an index.
+    pub fn pop_i32(&mut self) -> Result<(), BodyInvalid>
+        ensures { Moves result (pop_one I32 (here self.old)) self.old self.new }
+    {
+        self.pop(Some(ValType::I32))?;
+        Ok(())
+    }
+
+    /// Takes an i32 and these, and puts those.
+    pub fn turn_i32(&mut self, takes: &[ValType], leaves: &[ValType]) -> Result<(), BodyInvalid>
+        ensures { Moves result (apply (turns (takes.now ++ I32 ∷ []) leaves.now) (here self.old)) self.old self.new }
+    {
+        self.pop_i32()?;
+        self.turn(takes, leaves)
+    }
+
+    /// Takes an i32 and these, and does not go on.
+    pub fn stop_i32(&mut self, takes: &[ValType]) -> Result<(), BodyInvalid>
+        ensures { Moves result (apply (stops (takes.now ++ I32 ∷ [])) (here self.old)) self.old self.new }
+    {
+        self.pop_i32()?;
+        self.stop(takes)
+    }
+
+    /// Drops the topmost operand, and answers its type where it is known.
+    pub fn drop_one(&mut self) -> Result<Option<ValType>, BodyInvalid>
+        ensures moves { Moves result (apply drops (here self.old)) self.old self.new }
+        ensures top { IfOk result (λ ty. ty ≡ top_of self.old.operands) }
+    {
+        self.pop(None)
+    }
+
+    /// Selects one of two operands of the same type, and answers that type where it is known.
+    pub fn select(&mut self) -> Result<Option<ValType>, BodyInvalid>
+        ensures moves { Moves result (apply selects (here self.old)) self.old self.new }
+        ensures top { IfOk result (λ ty. ty ≡ top_of self.new.operands) }
+    {
+        self.pop_i32()?;
+        let first = self.pop(None)?;
+        let second = self.pop(first)?;
+        self.push(second)?;
+        Ok(second)
+    }
+}

@@ -1,0 +1,90 @@
+// The check of a body.
+
+ghost use Rattle.std.specs.Prelude.{◌≡◌, ◌<◌, ◌^◌, length, IfOk, IsErrOf};
+ghost use Rattle.module_ast.specs.Limits.{IsWhole};
+ghost use Rattle.module_ast.specs.Positions.{code_size};
+ghost use Rattle.module_ast.specs.Validity.{KeepsRules, TypesBody, HasBodyMarks};
+ghost use Rattle.code_valid.specs.Bodies.{TypesIn, HasMarksIn};
+ghost use Rattle.code_valid.specs.Spaces.{IsSpaces};
+ghost use Rattle.code_valid.specs.declared.invalid.BodyInvalid.{BodyInvalid};
+
+use crate::blocks::Blocks;
+use crate::env::Env;
+use crate::invalid::BodyInvalid;
+use crate::locals::Locals;
+use crate::marks::Marks;
+use crate::spaces::Spaces;
+use crate::surveying::survey_code;
+use crate::walk::Walk;
+use ctrl_stack::frame::Types;
+use module_ast::code::Code;
+use module_ast::module::Module;
+use module_ast::seq::Seq;
+use std::alloc::{AllocError, Global};
+use wasm_num::ValType;
+
+/// Checks the body of a defined function by the rules of typing, and answers its marks and its height. `Invalid` says that
+/// the rules do not type it. It takes time linear in the module's imports, functions and globals and in the body; for many
+/// bodies see `check_body_in`. (Standard, 3.4.1)
+pub fn check_body(alloc: Global, m: &Module, defined: u32) -> Result<Marks, BodyInvalid>
+    requires body { defined < length m.now.bodies }
+    requires func { defined < length m.now.funcs }
+    requires whole { IsWhole m.now }
+    requires rules { KeepsRules m.now }
+    ensures typed { IfOk result (λ _. TypesBody m.now defined) }
+    ensures marks { IfOk result (λ found. HasBodyMarks m.now defined found.types found.height) }
+    ensures invalid { IsErrOf result BodyInvalid.Invalid → ¬ TypesBody m.now defined }
+{
+    let spaces = Spaces::new(alloc, m)?;
+    check_body_in(alloc, m, &spaces, defined)
+}
+
+/// Checks the body of a defined function as `check_body` does, over the index spaces of its module, so that these are made
+/// once for all bodies. It takes time in proportion to the body, and to its locals' groups. (Standard, 3.4.1)
+pub fn check_body_in(
+    alloc: Global,
+    m: &Module,
+    spaces: &Spaces,
+    defined: u32,
+) -> Result<Marks, BodyInvalid>
+    requires body { defined < length m.now.bodies }
+    requires func { defined < length m.now.funcs }
+    requires whole { IsWhole m.now }
+    requires rules { KeepsRules m.now }
+    requires spaces { IsSpaces m.now spaces.now }
+    ensures typed { IfOk result (λ _. TypesBody m.now defined) }
+    ensures marks { IfOk result (λ found. HasBodyMarks m.now defined found.types found.height) }
+    ensures invalid { IsErrOf result BodyInvalid.Invalid → ¬ TypesBody m.now defined }
+{
+    let index = m.funcs.as_slice()[defined as usize];
+    let ty = &m.types.as_slice()[index as usize];
+    let body = &m.bodies.as_slice()[defined as usize];
+    let locals = Locals::new(alloc, ty.params.as_slice(), body.groups.as_slice())?;
+    let env = Env::new(m, spaces, locals, ty.results.as_slice());
+    survey_body(alloc, &env, &body.code)
+}
+
+// Checks a body by what it can name.
+fn survey_body(alloc: Global, env: &Env, code: &Code) -> Result<Marks, BodyInvalid>
+    requires { code_size code.now < 2 ^ 32 }
+    ensures typed { IfOk result (λ _. TypesIn env.now code.now) }
+    ensures marks { IfOk result (HasMarksIn env.now code.now) }
+    ensures invalid { IsErrOf result BodyInvalid.Invalid → ¬ TypesIn env.now code.now }
+{
+    let results = copied(alloc, env.results())?;
+    let mut blocks = Blocks::new(alloc, results)?;
+    let mut walk = Walk::new(alloc);
+    survey_code(alloc, env, code, &mut blocks, &mut walk)?;
+    blocks.end()?;
+    let (marks, height) = walk.finish();
+    Ok(Marks {
+        types: Seq::from_vec(marks),
+        height,
+    })
+}
+
+fn copied(alloc: Global, types: &[ValType]) -> Result<Types, AllocError>
+    ensures { IfOk result (λ copy. copy ≡ types.now) }
+{
+    Ok(Types::from_vec(types.to_vec(alloc)?))
+}

@@ -1,0 +1,110 @@
+// What the instructions of a body can name.
+
+ghost use Rattle.std.specs.Prelude.{◌≡◌, [], slice_get, Some, None, MatchOption};
+ghost use Rattle.module_ast.specs.Spaces.{funcs_of, tables_of, memories_of, globals_of};
+ghost use Rattle.code_valid.specs.Checking.{is_some_list};
+ghost use Rattle.code_valid.specs.Spaces.{IsSpaces};
+
+use crate::locals::Locals;
+use crate::spaces::Spaces;
+use module_ast::module::{FuncType, GlobalType, Module};
+use std::marker::Model;
+use wasm_num::ValType;
+
+/// What the instructions of a body can name, the blocks around them left out. (Standard, 3.1.1)
+#[derive(Drop)]
+pub(crate) struct Env<'m> {
+    m: &'m Module,
+    spaces: &'m Spaces,
+    locals: Locals,
+    results: &'m [ValType],
+}
+
+impl<'m> Model for Env<'m> {
+    ghost use Rattle.std.specs.Prelude.{[]};
+    ghost use Rattle.module_ast.specs.Spaces.{funcs_of, tables_of, memories_of, globals_of};
+    ghost use Rattle.module_ast.specs.Typing.{Context};
+    ghost use Rattle.code_valid.specs.Spaces.{IsSpaces};
+
+    ghost Value = { Context };
+
+    ghost view = { λ a.
+        record {
+          types = a.m.now.types;
+          funcs = funcs_of a.m.now;
+          tables = tables_of a.m.now;
+          memories = memories_of a.m.now;
+          globals = globals_of a.m.now;
+          locals = a.locals;
+          labels = [];
+          results = a.results.now;
+        } };
+
+    ghost invariant = { λ a. IsSpaces a.m.now a.spaces.now };
+}
+
+impl<'m> Env<'m> {
+    /// Of a body of this module, whose spaces these are, with these locals and results.
+    pub fn new(m: &'m Module, spaces: &'m Spaces, locals: Locals, results: &'m [ValType]) -> Env<'m>
+        requires { IsSpaces m.now spaces.now }
+        ensures { result ≡ record { types = m.now.types; funcs = funcs_of m.now; tables = tables_of m.now; memories = memories_of m.now; globals = globals_of m.now; locals = locals; labels = []; results = results.now } }
+    {
+        Env {
+            m,
+            spaces,
+            locals,
+            results,
+        }
+    }
+
+    /// The types of the function's results.
+    pub fn results(&self) -> &[ValType]
+        ensures { result.now ≡ self.now.results }
+    {
+        self.results
+    }
+
+    /// The type of a local.
+    pub fn local(&self, index: u32) -> Option<ValType>
+        ensures { result ≡ slice_get self.now.locals index }
+    {
+        self.locals.get(index)
+    }
+
+    /// The type of a global.
+    pub fn global(&self, index: u32) -> Option<GlobalType>
+        ensures { result ≡ slice_get self.now.globals index }
+    {
+        self.spaces.global(index)
+    }
+
+    /// The index of a function's type.
+    pub fn func(&self, index: u32) -> Option<u32>
+        ensures { result ≡ slice_get self.now.funcs index }
+    {
+        self.spaces.func(index)
+    }
+
+    /// The function type of this index.
+    pub fn func_type(&self, index: u32) -> Option<&FuncType>
+        ensures { MatchOption result (slice_get self.now.types index ≡ None) (λ t. slice_get self.now.types index ≡ Some t.now) }
+    {
+        self.m.types.as_slice().get(index as usize)
+    }
+
+    /// Whether there is a table.
+    #[tactic(auto, using(crate::proofs::Spaced::some_list))]
+    pub fn has_table(&self) -> bool
+        ensures { result ≡ is_some_list self.now.tables }
+    {
+        self.spaces.has_table()
+    }
+
+    /// Whether there is a memory.
+    #[tactic(auto, using(crate::proofs::Spaced::some_list))]
+    pub fn has_memory(&self) -> bool
+        ensures { result ≡ is_some_list self.now.memories }
+    {
+        self.spaces.has_memory()
+    }
+}

@@ -1,0 +1,112 @@
+// The locals of a function.
+
+ghost use Rattle.std.specs.Prelude.{◌≡◌};
+
+use module_ast::module::Group;
+use std::alloc::{AllocError, Global};
+use std::marker::Model;
+use wasm_num::ValType;
+
+// Locals of one type in a row, and how many there are up to the last of them.
+#[derive(Clone, Copy, Debug, PartialEq, Eq)]
+struct Run {
+    end: u64,
+    ty: ValType,
+}
+
+/// The types of a function's locals: its parameters first, then each group that its body lists, of which a few bytes may
+/// declare up to 2^32. Contracts see them as a list; they are kept as one entry for each parameter and group.
+/// (Standard, 2.5.3)
+#[derive(Debug, Drop)]
+pub struct Locals {
+    runs: Vec<Run>,
+}
+
+impl Model for Locals {
+    ghost use Rattle.std.specs.Prelude.{List};
+    ghost use Rattle.wasm_num.specs.declared.ValType.{ValType as types};
+    ghost use Rattle.code_valid.specs.Locals.{types_from, RiseFrom};
+
+    ghost Value = { List types };
+
+    ghost view = { λ a. types_from 0 a.runs.items };
+
+    ghost invariant = { λ a. RiseFrom 0 a.runs.items };
+}
+
+impl Locals {
+    ghost use Rattle.std.specs.Prelude.{◌++◌, ◌^◌, ◌<◌, IfOk, slice_get};
+    ghost use Rattle.module_ast.specs.Profile.{locals_of};
+    ghost use Rattle.module_ast.specs.Validity.{declared_locals};
+
+    /// The locals of a function with these parameters whose body lists these groups.
+    pub fn new(alloc: Global, params: &[ValType], groups: &[Group]) -> Result<Locals, AllocError>
+        requires { locals_of groups.now < 2 ^ 32 }
+        ensures { IfOk result (λ l. l ≡ params.now ++ declared_locals groups.now) }
+    {
+        let mut runs = Vec::new(alloc);
+        let mut end = 0_u64;
+        for ty in params {
+            end += 1;
+            runs.push(Run { end, ty: *ty })?;
+        }
+        for group in groups {
+            end += group.count as u64;
+            runs.push(Run { end, ty: group.ty })?;
+        }
+        Ok(Locals { runs })
+    }
+
+    /// The type of a local. It takes time in the logarithm of the number of parameters and groups.
+    pub fn get(&self, index: u32) -> Option<ValType>
+        ensures { result ≡ slice_get self.now index }
+    {
+        let index = index as u64;
+        let runs = self.runs.as_slice();
+        let before = runs.partition_point(|run| run.end <= index);
+        runs.get(before).map(|run| run.ty)
+    }
+}
+
+#[cfg(test)]
+mod tests {
+    use super::Locals;
+    use module_ast::module::Group;
+    use std::test::Fail;
+    use wasm_num::ValType;
+
+    // Two parameters, two locals of one type, none, and as many of another as there may be.
+    #[test]
+    fn types_of_locals(rt: HostRuntime) -> Result<(), Fail> {
+        let groups = [
+            Group {
+                count: 2,
+                ty: ValType::I64,
+            },
+            Group {
+                count: 0,
+                ty: ValType::I64,
+            },
+            Group {
+                count: 4_294_967_293,
+                ty: ValType::I32,
+            },
+        ];
+        let locals = Locals::new(rt.alloc(), &[ValType::I64, ValType::I32], &groups)?;
+        let cases = [
+            (0, ValType::I64),
+            (1, ValType::I32),
+            (2, ValType::I64),
+            (3, ValType::I64),
+            (4, ValType::I32),
+            (4_294_967_295, ValType::I32),
+        ];
+        for (index, ty) in cases {
+            assert_eq!(rt; locals.get(index), Some(ty), "{index}");
+        }
+        let few = Locals::new(rt.alloc(), &[ValType::I64], &[])?;
+        assert_eq!(rt; few.get(0), Some(ValType::I64));
+        assert_eq!(rt; few.get(1), None);
+        Ok(())
+    }
+}

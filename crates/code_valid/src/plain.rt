@@ -1,0 +1,292 @@
+// The instructions with no sequence in them, by what they do to the operands.
+
+ghost use Rattle.std.specs.Prelude.{◌≡◌, ◌<◌, ◌^◌, ◌&&◌, nat_le, slice_get, IfOk};
+ghost use Rattle.module_ast.specs.Tree as tree;
+ghost use Rattle.code_valid.specs.Checking.{apply, effect, same_types, takes_these, all_take, is_some_list};
+ghost use Rattle.code_valid.specs.Control.{here, labels_of, context_in};
+ghost use Rattle.code_valid.specs.Answers.{Moves};
+ghost use Rattle.code_valid.specs.Acting.{effect_of, marked_by, goes_on_by};
+
+use crate::blocks::Blocks;
+use crate::env::Env;
+use crate::invalid::BodyInvalid;
+use crate::shapes::{load_shape, num_leaves, num_takes, store_shape};
+use module_ast::code::Instr;
+use module_ast::ops::{LoadOp, MemArg, StoreOp};
+use std::alloc::Global;
+use wasm_num::{NumOp, ValType};
+
+/// Does what an instruction with no sequence in it does to the operands, and answers the type that a `drop` drops or a
+/// `select` leaves, where it is known; of a block `Invalid`. (Standard, 3.3)
+pub(crate) fn act(
+    alloc: Global,
+    env: &Env,
+    instr: &Instr,
+    blocks: &mut Blocks,
+) -> Result<Option<ValType>, BodyInvalid>
+    ensures moves { Moves result (apply (effect_of (context_in env.now blocks.old) instr.now) (here blocks.old)) blocks.old blocks.new }
+    ensures marks { IfOk result (λ ty. ty ≡ marked_by instr.now blocks.old.operands blocks.new.operands) }
+{
+    match instr {
+        Instr::Drop => blocks.drop_one(),
+        Instr::Select => blocks.select(),
+        _ => {
+            turn(alloc, env, instr, blocks)?;
+            Ok(None)
+        }
+    }
+}
+
+/// Whether the code behind an instruction of its own sequence is live with it.
+pub(crate) fn goes_on(instr: &Instr) -> bool
+    ensures { result ≡ goes_on_by instr.now }
+{
+    match instr {
+        Instr::Unreachable | Instr::Br(_) | Instr::BrTable(_, _) | Instr::Return => false,
+        _ => true,
+    }
+}
+
+// What an instruction does to the operands, its mark left out.
+fn turn(alloc: Global, env: &Env, instr: &Instr, blocks: &mut Blocks) -> Result<(), BodyInvalid>
+    ensures { Moves result (apply (effect_of (context_in env.now blocks.old) instr.now) (here blocks.old)) blocks.old blocks.new }
+{
+    match instr {
+        Instr::Block(_, _) | Instr::Loop(_, _) | Instr::If(_, _, _) => Err(BodyInvalid::Invalid),
+        Instr::Unreachable => blocks.stop(&[]),
+        Instr::Nop => blocks.turn(&[], &[]),
+        Instr::Br(label) => br(alloc, env, *label, blocks),
+        Instr::BrIf(label) => br_if(alloc, env, *label, blocks),
+        Instr::BrTable(labels, label) => br_table(alloc, env, labels.as_slice(), *label, blocks),
+        Instr::Return => blocks.stop(env.results()),
+        Instr::Call(func) => call(env, *func, blocks),
+        Instr::CallIndirect(ty) => call_indirect(env, *ty, blocks),
+        Instr::Drop => blocks.drop_one().map(|_| ()),
+        Instr::Select => blocks.select().map(|_| ()),
+        Instr::LocalGet(local) => local_get(env, *local, blocks),
+        Instr::LocalSet(local) => local_set(env, *local, blocks),
+        Instr::LocalTee(local) => local_tee(env, *local, blocks),
+        Instr::GlobalGet(global) => global_get(env, *global, blocks),
+        Instr::GlobalSet(global) => global_set(env, *global, blocks),
+        Instr::Load(op, at) => load(env, *op, *at, blocks),
+        Instr::Store(op, at) => store(env, *op, *at, blocks),
+        Instr::MemorySize => memory_size(env, blocks),
+        Instr::MemoryGrow => memory_grow(env, blocks),
+        Instr::I32Const(_) => blocks.turn(&[], &[ValType::I32]),
+        Instr::I64Const(_) => blocks.turn(&[], &[ValType::I64]),
+        Instr::Num(op) => number(env, *op, blocks),
+    }
+}
+
+// ---- branches and calls
+
+fn br(alloc: Global, env: &Env, label: u32, blocks: &mut Blocks) -> Result<(), BodyInvalid>
+    ensures { Moves result (apply (effect (context_in env.now blocks.old) (tree.br label)) (here blocks.old)) blocks.old blocks.new }
+{
+    let types = blocks.label_copy(alloc, label)?;
+    blocks.stop(&types)
+}
+
+fn br_if(alloc: Global, env: &Env, label: u32, blocks: &mut Blocks) -> Result<(), BodyInvalid>
+    ensures { Moves result (apply (effect (context_in env.now blocks.old) (tree.br_if label)) (here blocks.old)) blocks.old blocks.new }
+{
+    let types = blocks.label_copy(alloc, label)?;
+    blocks.turn_i32(&types, &types)
+}
+
+fn br_table(
+    alloc: Global,
+    env: &Env,
+    labels: &[u32],
+    label: u32,
+    blocks: &mut Blocks,
+) -> Result<(), BodyInvalid>
+    ensures { Moves result (apply (effect (context_in env.now blocks.old) (tree.br_table labels.now label)) (here blocks.old)) blocks.old blocks.new }
+{
+    let types = blocks.label_copy(alloc, label)?;
+    if all_take(blocks, &types, labels) {
+        blocks.stop_i32(&types)
+    } else {
+        Err(BodyInvalid::Invalid)
+    }
+}
+
+// Whether a branch to each of these labels takes these types.
+fn all_take(blocks: &Blocks, types: &[ValType], labels: &[u32]) -> bool
+    ensures { result ≡ all_take (labels_of blocks.now) types.now labels.now }
+{
+    for label in labels {
+        if !takes_these(blocks, types, *label) {
+            return false;
+        }
+    }
+    true
+}
+
+fn takes_these(blocks: &Blocks, types: &[ValType], label: u32) -> bool
+    ensures { result ≡ takes_these types.now (slice_get (labels_of blocks.now) label) }
+{
+    match blocks.label(label) {
+        None => false,
+        Some(found) => same_types(found, types),
+    }
+}
+
+fn same_types(left: &[ValType], right: &[ValType]) -> bool
+    ensures { result ≡ same_types left.now right.now }
+{
+    left == right
+}
+
+fn call(env: &Env, func: u32, blocks: &mut Blocks) -> Result<(), BodyInvalid>
+    ensures { Moves result (apply (effect (context_in env.now blocks.old) (tree.call func)) (here blocks.old)) blocks.old blocks.new }
+{
+    match env.func(func) {
+        None => Err(BodyInvalid::Invalid),
+        Some(index) => match env.func_type(index) {
+            None => Err(BodyInvalid::Invalid),
+            Some(ty) => blocks.turn(ty.params.as_slice(), ty.results.as_slice()),
+        },
+    }
+}
+
+fn call_indirect(env: &Env, index: u32, blocks: &mut Blocks) -> Result<(), BodyInvalid>
+    ensures { Moves result (apply (effect (context_in env.now blocks.old) (tree.call_indirect index)) (here blocks.old)) blocks.old blocks.new }
+{
+    if !env.has_table() {
+        return Err(BodyInvalid::Invalid);
+    }
+    match env.func_type(index) {
+        None => Err(BodyInvalid::Invalid),
+        Some(ty) => blocks.turn_i32(ty.params.as_slice(), ty.results.as_slice()),
+    }
+}
+
+// ---- variables
+
+fn local_get(env: &Env, local: u32, blocks: &mut Blocks) -> Result<(), BodyInvalid>
+    ensures { Moves result (apply (effect (context_in env.now blocks.old) (tree.local_get local)) (here blocks.old)) blocks.old blocks.new }
+{
+    match env.local(local) {
+        None => Err(BodyInvalid::Invalid),
+        Some(ty) => blocks.turn(&[], &[ty]),
+    }
+}
+
+fn local_set(env: &Env, local: u32, blocks: &mut Blocks) -> Result<(), BodyInvalid>
+    ensures { Moves result (apply (effect (context_in env.now blocks.old) (tree.local_set local)) (here blocks.old)) blocks.old blocks.new }
+{
+    match env.local(local) {
+        None => Err(BodyInvalid::Invalid),
+        Some(ty) => blocks.turn(&[ty], &[]),
+    }
+}
+
+fn local_tee(env: &Env, local: u32, blocks: &mut Blocks) -> Result<(), BodyInvalid>
+    ensures { Moves result (apply (effect (context_in env.now blocks.old) (tree.local_tee local)) (here blocks.old)) blocks.old blocks.new }
+{
+    match env.local(local) {
+        None => Err(BodyInvalid::Invalid),
+        Some(ty) => blocks.turn(&[ty], &[ty]),
+    }
+}
+
+fn global_get(env: &Env, global: u32, blocks: &mut Blocks) -> Result<(), BodyInvalid>
+    ensures { Moves result (apply (effect (context_in env.now blocks.old) (tree.global_get global)) (here blocks.old)) blocks.old blocks.new }
+{
+    match env.global(global) {
+        None => Err(BodyInvalid::Invalid),
+        Some(found) => blocks.turn(&[], &[found.ty]),
+    }
+}
+
+fn global_set(env: &Env, global: u32, blocks: &mut Blocks) -> Result<(), BodyInvalid>
+    ensures { Moves result (apply (effect (context_in env.now blocks.old) (tree.global_set global)) (here blocks.old)) blocks.old blocks.new }
+{
+    match env.global(global) {
+        None => Err(BodyInvalid::Invalid),
+        Some(found) => {
+            if found.mutable {
+                blocks.turn(&[found.ty], &[])
+            } else {
+                Err(BodyInvalid::Invalid)
+            }
+        }
+    }
+}
+
+// ---- memory and numbers
+
+// Whether 2 to this power is at most the width.
+fn fits_width(align: u32, width: u32) -> bool
+    requires { width < 16 }
+    ensures { result ≡ nat_le (2 ^ align) width }
+{
+    match align {
+        0 => 1 <= width,
+        1 => 2 <= width,
+        2 => 4 <= width,
+        3 => 8 <= width,
+        _ => false,
+    }
+}
+
+fn is_aligned(env: &Env, align: u32, width: u32) -> bool
+    requires { width < 16 }
+    ensures { result ≡ (is_some_list env.now.memories && nat_le (2 ^ align) width) }
+{
+    env.has_memory() && fits_width(align, width)
+}
+
+fn load(env: &Env, op: LoadOp, at: MemArg, blocks: &mut Blocks) -> Result<(), BodyInvalid>
+    ensures { Moves result (apply (effect (context_in env.now blocks.old) (tree.load op at)) (here blocks.old)) blocks.old blocks.new }
+{
+    let (ty, width) = load_shape(op);
+    if is_aligned(env, at.align, width) {
+        blocks.turn(&[ValType::I32], &[ty])
+    } else {
+        Err(BodyInvalid::Invalid)
+    }
+}
+
+fn store(env: &Env, op: StoreOp, at: MemArg, blocks: &mut Blocks) -> Result<(), BodyInvalid>
+    ensures { Moves result (apply (effect (context_in env.now blocks.old) (tree.store op at)) (here blocks.old)) blocks.old blocks.new }
+{
+    let (ty, width) = store_shape(op);
+    if is_aligned(env, at.align, width) {
+        blocks.turn(&[ValType::I32, ty], &[])
+    } else {
+        Err(BodyInvalid::Invalid)
+    }
+}
+
+fn memory_size(env: &Env, blocks: &mut Blocks) -> Result<(), BodyInvalid>
+    ensures { Moves result (apply (effect (context_in env.now blocks.old) tree.memory_size) (here blocks.old)) blocks.old blocks.new }
+{
+    if env.has_memory() {
+        blocks.turn(&[], &[ValType::I32])
+    } else {
+        Err(BodyInvalid::Invalid)
+    }
+}
+
+fn memory_grow(env: &Env, blocks: &mut Blocks) -> Result<(), BodyInvalid>
+    ensures { Moves result (apply (effect (context_in env.now blocks.old) tree.memory_grow) (here blocks.old)) blocks.old blocks.new }
+{
+    if env.has_memory() {
+        blocks.turn(&[ValType::I32], &[ValType::I32])
+    } else {
+        Err(BodyInvalid::Invalid)
+    }
+}
+
+fn number(env: &Env, op: NumOp, blocks: &mut Blocks) -> Result<(), BodyInvalid>
+    ensures { Moves result (apply (effect (context_in env.now blocks.old) (tree.num op)) (here blocks.old)) blocks.old blocks.new }
+{
+    let (ty, two) = num_takes(op);
+    if two {
+        blocks.turn(&[ty, ty], &[num_leaves(op)])
+    } else {
+        blocks.turn(&[ty], &[num_leaves(op)])
+    }
+}

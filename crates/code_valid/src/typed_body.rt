@@ -1,0 +1,77 @@
+// Bodies that are typed.
+
+use crate::marks::Marks;
+use module_ast::module::{Body, Module};
+use std::marker::Model;
+
+/// The body of a defined function that the rules of typing type, in a module that is whole and keeps the rules, with the
+/// marks and the height that it has. (Standard, 3.4.1)
+#[derive(Debug, Drop)]
+pub struct TypedBody<'m> {
+    module: &'m Module,
+    defined: u32,
+    marks: &'m Marks,
+}
+
+impl<'m> Model for TypedBody<'m> {
+    ghost use Rattle.code_valid.specs.Bodies.{Typed, IsTyped};
+
+    ghost Value = { Typed };
+
+    ghost use Rattle.module_ast.specs.contracts.module.Module as of_module;
+    ghost use Rattle.std.specs.Coded.{codes};
+
+    ghost coded = { Prim.hlevel (codes, of_module.the_row.coded) };
+
+    ghost view = { λ a. record { «module» = a.module.now; defined = a.defined; marks = a.marks.now } };
+
+    ghost invariant = { λ a. IsTyped a.module.now a.defined a.marks.now };
+}
+
+impl<'m> TypedBody<'m> {
+    ghost use Rattle.std.specs.Prelude.{◌≡◌, slice_get, Some};
+    ghost use Rattle.code_valid.specs.Bodies.{IsTyped};
+
+    /// This body, which has been checked.
+    pub fn new(m: &'m Module, defined: u32, marks: &'m Marks) -> TypedBody<'m>
+        requires { IsTyped m.now defined marks.now }
+        ensures of { result.module ≡ m.now }
+        ensures at { result.defined ≡ defined }
+        ensures has { result.marks ≡ marks.now }
+    {
+        TypedBody {
+            module: m,
+            defined,
+            marks,
+        }
+    }
+
+    /// The module.
+    pub fn module(&self) -> &'m Module
+        ensures { result.now ≡ self.now.module }
+    {
+        self.module
+    }
+
+    /// The number of the function among those that are defined.
+    pub fn defined(&self) -> u32
+        ensures { result ≡ self.now.defined }
+    {
+        self.defined
+    }
+
+    /// The body.
+    pub fn body(&self) -> &'m Body
+        ensures { slice_get self.now.module.bodies self.now.defined ≡ Some result.now }
+    {
+        &self.module.bodies.as_slice()[self.defined as usize]
+    }
+
+    /// Its marks and its height.
+    pub fn marks(&self) -> &'m Marks
+        ensures marks { result.now ≡ self.now.marks }
+        ensures typed { IsTyped self.now.module self.now.defined self.now.marks }
+    {
+        self.marks
+    }
+}
