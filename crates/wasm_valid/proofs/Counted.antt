@@ -55,6 +55,10 @@ spaces_few m w =
       globals = omega (arith, length-append (imported_globals m.imports) (global_types m.globals), length-global_types m.globals);
     }
 
+-- no more functions are imported than there are imports
+pub imports_few : (m : Module) → length (imported_funcs m.imports) ≤ length m.imports
+imports_few m = (imported_few m.imports).funcs
+
 -- before the loop
 pub counted_none : (m : Module) → AreCounted m (record { funcs = length m.funcs; tables = length m.tables; memories = length m.memories; globals = length m.globals }) m.imports
 counted_none m = record {

@@ -1,5 +1,8 @@
+pub mod Apart
+pub mod Checked
 pub mod Counted
+pub mod Crosses
 pub mod Each
 pub mod Few
+pub mod Firsts
 pub mod Initial
-pub mod Apart

@@ -1,3 +1,5 @@
+pub mod Broken
 pub mod Constants
 pub mod Counts
 pub mod Imported
+pub mod Validated

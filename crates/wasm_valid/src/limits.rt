@@ -8,7 +8,7 @@ ghost use Rattle.wasm_valid.specs.Imported.{IfTable, IfMemory};
 use crate::counts::Counts;
 use module_ast::module::{Import, Item, Module, Range};
 
-/// There is at most one table, imports counted. (Standard, 3.4.8)
+/// There is at most one table, imports counted. (Standard, 3.4.10)
 pub fn keeps_one_table(m: &Module, counts: &Counts) -> bool
     requires { AreCounts m.now counts.now }
     ensures { IsTrue result ↔ Keeps m.now one_table }
@@ -16,7 +16,7 @@ pub fn keeps_one_table(m: &Module, counts: &Counts) -> bool
     counts.tables <= 1
 }
 
-/// There is at most one memory, imports counted. (Standard, 3.4.8)
+/// There is at most one memory, imports counted. (Standard, 3.4.10)
 pub fn keeps_one_memory(m: &Module, counts: &Counts) -> bool
     requires { AreCounts m.now counts.now }
     ensures { IsTrue result ↔ Keeps m.now one_memory }

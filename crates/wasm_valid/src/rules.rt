@@ -33,7 +33,7 @@ fn name_types(imports: &[Import], types: usize) -> bool
     imports.iter().all(|i| names_type(i, types))
 }
 
-/// Each imported function names a type. (Standard, 3.4.7)
+/// Each imported function names a type. (Standard, 3.4.9)
 pub fn keeps_import_types(m: &Module) -> bool
     ensures { IsTrue result ↔ Keeps m.now import_types }
 {
@@ -48,7 +48,7 @@ pub fn keeps_function_types(m: &Module) -> bool
     m.funcs.as_slice().iter().all(|ty| (*ty as usize) < types)
 }
 
-/// Each export names an entry of its index space. (Standard, 3.4.6)
+/// Each export names an entry of its index space. (Standard, 3.4.8)
 pub fn keeps_export_indices(m: &Module, counts: &Counts) -> bool
     requires { AreCounts m.now counts.now }
     ensures { IsTrue result ↔ Keeps m.now export_indices }
@@ -57,7 +57,7 @@ pub fn keeps_export_indices(m: &Module, counts: &Counts) -> bool
     exports.iter().all(|e| e.index < count_in(counts, e.kind))
 }
 
-/// The start function, where there is one, exists. (Standard, 3.4.5)
+/// The start function, where there is one, exists. (Standard, 3.4.7)
 pub fn keeps_start_index(m: &Module, counts: &Counts) -> bool
     requires { AreCounts m.now counts.now }
     ensures { IsTrue result ↔ Keeps m.now start_index }
@@ -75,7 +75,7 @@ fn is_bare(ty: &FuncType) -> bool
     ty.params.as_slice().is_empty() && ty.results.as_slice().is_empty()
 }
 
-/// The start function, where there is one, has neither parameters nor results. (Standard, 3.4.5)
+/// The start function, where there is one, has neither parameters nor results. (Standard, 3.4.7)
 pub fn keeps_start_type(m: &Module) -> bool
     ensures { IsTrue result ↔ Keeps m.now start_type }
 {
@@ -88,7 +88,7 @@ pub fn keeps_start_type(m: &Module) -> bool
     }
 }
 
-/// The table of each element segment exists. (Standard, 3.4.3)
+/// The table of each element segment exists. (Standard, 3.4.5)
 pub fn keeps_element_tables(m: &Module, counts: &Counts) -> bool
     requires { AreCounts m.now counts.now }
     ensures { IsTrue result ↔ Keeps m.now element_tables }
@@ -104,7 +104,7 @@ fn name_funcs(element: &Element, funcs: u32) -> bool
     element.funcs.as_slice().iter().all(|f| *f < funcs)
 }
 
-/// Each function of each element segment exists. (Standard, 3.4.3)
+/// Each function of each element segment exists. (Standard, 3.4.5)
 pub fn keeps_element_funcs(m: &Module, counts: &Counts) -> bool
     requires { AreCounts m.now counts.now }
     ensures { IsTrue result ↔ Keeps m.now element_funcs }
@@ -113,7 +113,7 @@ pub fn keeps_element_funcs(m: &Module, counts: &Counts) -> bool
     elements.iter().all(|e| name_funcs(e, counts.funcs))
 }
 
-/// The memory of each data segment exists. (Standard, 3.4.4)
+/// The memory of each data segment exists. (Standard, 3.4.6)
 pub fn keeps_segment_memories(m: &Module, counts: &Counts) -> bool
     requires { AreCounts m.now counts.now }
     ensures { IsTrue result ↔ Keeps m.now segment_memories }

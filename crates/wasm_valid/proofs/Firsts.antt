@@ -1,0 +1,128 @@
+-- The first rule that is not kept, among tests of some rules in their order.
+use Rattle.std.proofs.Common.{◌≡◌, ℕ, suc, ◌+◌, ◌<◌, ◌≤◌, ◌⊎◌, inl, inr, Bool, true, false, List, [], ◌∷◌, ◌++◌, length, refl, sym, ap, ◌∙◌, subst, arith}
+use Rattle.std.proofs.lemmas.Bool.{cases_lt}
+use Rattle.std.specs.Prelude.{◌↔◌, IsTrue, not, MatchOption, Option, Some, None, slice_get}
+use Rattle.std.specs.List.{position_from}
+use Rattle.module_ast.specs.declared.module.Module.{Module}
+use Rattle.module_ast.specs.Validity as rules
+use Rattle.module_ast.specs.Validity.{Rule, number_of, Keeps, KeepsRules}
+use Rattle.wasm_valid.specs.Broken.{KeepsBelow, BreaksFirst}
+
+-- the rules that are tried first, and the others, in their order
+abbrev pub nine : List Rule
+nine = rules.one_result ∷ rules.import_types ∷ rules.function_types ∷ rules.one_table ∷ rules.one_memory ∷ rules.table_limits ∷ rules.memory_pages ∷ rules.memory_limits ∷ rules.init_constant ∷ []
+
+abbrev pub others : List Rule
+others = rules.init_global ∷ rules.init_type ∷ rules.export_indices ∷ rules.export_names ∷ rules.start_index ∷ rules.start_type ∷ rules.element_tables ∷ rules.element_offsets ∷ rules.element_funcs ∷ rules.segment_memories ∷ rules.segment_offsets ∷ []
+
+-- the rule with a number
+abbrev rule_at : ℕ → Option Rule
+rule_at n = slice_get (rules.one_result ∷ (nine ++ others)) n
+
+rule_at-number : (r : Rule) → rule_at (number_of r) ≡ Some r
+rule_at-number rules.one_result = refl
+rule_at-number rules.import_types = refl
+rule_at-number rules.function_types = refl
+rule_at-number rules.one_table = refl
+rule_at-number rules.one_memory = refl
+rule_at-number rules.table_limits = refl
+rule_at-number rules.memory_pages = refl
+rule_at-number rules.memory_limits = refl
+rule_at-number rules.init_constant = refl
+rule_at-number rules.init_global = refl
+rule_at-number rules.init_type = refl
+rule_at-number rules.export_indices = refl
+rule_at-number rules.export_names = refl
+rule_at-number rules.start_index = refl
+rule_at-number rules.start_type = refl
+rule_at-number rules.element_tables = refl
+rule_at-number rules.element_offsets = refl
+rule_at-number rules.element_funcs = refl
+rule_at-number rules.segment_memories = refl
+rule_at-number rules.segment_offsets = refl
+
+same_rule : (r s : Rule) → number_of r ≡ number_of s → r ≡ s
+same_rule r s e =
+    let p : Some r ≡ Some s = sym (rule_at-number r) ∙ ap rule_at e ∙ rule_at-number s in
+    cc
+
+-- one rule more that is kept
+keeps_more : (m : Module) (r : Rule) (n : ℕ) → number_of r ≡ n → KeepsBelow m n → Keeps m r → KeepsBelow m (n + 1)
+keeps_more m r n e below here s h =
+    elim (cases_lt (number_of s) n) [
+      | inl lt ↦ below s lt
+      | inr ge ↦ subst (Keeps m) (same_rule r s (omega arith)) here
+    ]
+
+-- the tests of rules with successive numbers
+abbrev pub AreTests : Module → ℕ → List Bool → List Rule → Type 0
+AreTests m n [] [] = Unit {0}
+AreTests m n (b ∷ bs) (r ∷ rs) = (number_of r ≡ n) × (IsTrue b ↔ Keeps m r) × AreTests m (n + 1) bs rs
+AreTests m n _ _ = ⊥
+
+pub first_found : (m : Module) (n : ℕ) (bs : List Bool) (rs : List Rule) → AreTests m n bs rs → KeepsBelow m n → MatchOption (position_from not n bs) (KeepsBelow m (n + length bs)) (BreaksFirst m)
+first_found m n [] [] h below = let e : n ≡ n + 0 = omega arith in subst (KeepsBelow m) e below
+first_found m n [] (r ∷ rs) h below = absurd h
+first_found m n (b ∷ bs) [] h below = absurd h
+first_found m n (false ∷ bs) (r ∷ rs) (e, test, _) below =
+    let before = λ (s : Rule) (lt : number_of s < number_of r). below s (omega arith) in
+    (r, e, (λ k. absurd (let t : false ≡ true = test.1 k in cc), before))
+first_found m n (true ∷ bs) (r ∷ rs) (e, test, rest) below =
+    let more = first_found m (n + 1) bs rs rest (keeps_more m r n e below (test.0 refl)) in
+    let same : n + 1 + length bs ≡ n + length (true ∷ bs) = omega arith in
+    subst (λ (k : ℕ). MatchOption (position_from not (n + 1) bs) (KeepsBelow m k) (BreaksFirst m)) same more
+
+number_small : (r : Rule) → number_of r < 21
+number_small rules.one_result = omega arith
+number_small rules.import_types = omega arith
+number_small rules.function_types = omega arith
+number_small rules.one_table = omega arith
+number_small rules.one_memory = omega arith
+number_small rules.table_limits = omega arith
+number_small rules.memory_pages = omega arith
+number_small rules.memory_limits = omega arith
+number_small rules.init_constant = omega arith
+number_small rules.init_global = omega arith
+number_small rules.init_type = omega arith
+number_small rules.export_indices = omega arith
+number_small rules.export_names = omega arith
+number_small rules.start_index = omega arith
+number_small rules.start_type = omega arith
+number_small rules.element_tables = omega arith
+number_small rules.element_offsets = omega arith
+number_small rules.element_funcs = omega arith
+number_small rules.segment_memories = omega arith
+number_small rules.segment_offsets = omega arith
+
+-- there are no rules but these twenty
+pub keeps_all : (m : Module) → KeepsBelow m 21 → KeepsRules m
+keeps_all m h r = h r (number_small r)
+
+number_some : (r : Rule) → 1 ≤ number_of r
+number_some rules.one_result = omega arith
+number_some rules.import_types = omega arith
+number_some rules.function_types = omega arith
+number_some rules.one_table = omega arith
+number_some rules.one_memory = omega arith
+number_some rules.table_limits = omega arith
+number_some rules.memory_pages = omega arith
+number_some rules.memory_limits = omega arith
+number_some rules.init_constant = omega arith
+number_some rules.init_global = omega arith
+number_some rules.init_type = omega arith
+number_some rules.export_indices = omega arith
+number_some rules.export_names = omega arith
+number_some rules.start_index = omega arith
+number_some rules.start_type = omega arith
+number_some rules.element_tables = omega arith
+number_some rules.element_offsets = omega arith
+number_some rules.element_funcs = omega arith
+number_some rules.segment_memories = omega arith
+number_some rules.segment_offsets = omega arith
+
+pub keeps_none : (m : Module) → KeepsBelow m 1
+keeps_none m r h = absurd (omega (arith, number_some r))
+
+pub keeps_whole : (m : Module) (o : Option ℕ) → MatchOption o (KeepsBelow m 21) (BreaksFirst m) → MatchOption o (KeepsRules m) (BreaksFirst m)
+keeps_whole m None h = keeps_all m h
+keeps_whole m (Some n) h = h

@@ -1,0 +1,16 @@
+-- A valid module with the marks of each body.
+use Rattle.std.specs.Prelude.{◌≡◌, ℕ, List, length, slice_get, Some}
+use Rattle.module_ast.specs.declared.module.Module.{Module}
+use Rattle.module_ast.specs.Limits.{IsWhole}
+use Rattle.module_ast.specs.Validity.{IsValid, HasBodyMarks}
+use Rattle.code_valid.specs.declared.marks.Marks.{Marks}
+
+-- so many marks are those of the first bodies
+abbrev pub MarkFirst : Module → List Marks → Type 0
+MarkFirst m marks = (defined : ℕ) (found : Marks) → slice_get marks defined ≡ Some found → HasBodyMarks m defined found.types found.height
+
+pub record IsValidated (m : Module) (marks : List Marks) : Type 0 where
+  pub whole : IsWhole m
+  pub valid : IsValid m
+  pub count : length marks ≡ length m.bodies
+  pub marks_of : MarkFirst m marks

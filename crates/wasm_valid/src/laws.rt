@@ -1,0 +1,10 @@
+// What holds of the types.
+
+use crate::valid_module::ValidModule;
+
+/// A valid module may go to other threads, and several may read one at once.
+pub fn valid_modules_cross_threads(module: &ValidModule) {
+    is_send_and_sync(module);
+}
+
+fn is_send_and_sync<T: Send + Sync>(_value: &T) {}

@@ -1,0 +1,68 @@
+// Valid modules.
+
+use code_valid::marks::Marks;
+use code_valid::typed_body::TypedBody;
+use module_ast::module::Module;
+use module_ast::seq::Seq;
+use std::marker::Model;
+
+/// A module that is whole and valid, with what the check of each body noted. Contracts see the module. (Standard, 3.4)
+#[derive(Debug, Drop)]
+pub struct ValidModule {
+    module: Module,
+    marks: Seq<Marks>,
+}
+
+impl Model for ValidModule {
+    ghost use Rattle.module_ast.specs.declared.module.Module.{Module};
+
+    ghost Value = { Module };
+
+    ghost use Rattle.module_ast.specs.contracts.module.Module as of_module;
+    ghost use Rattle.std.specs.Coded.{codes};
+
+    ghost coded = { Prim.hlevel (codes, of_module.the_row.coded) };
+
+    ghost view = { λ a. a.module };
+
+    ghost use Rattle.wasm_valid.specs.Validated.{IsValidated};
+
+    ghost invariant = { λ a. IsValidated a.module a.marks };
+}
+
+impl ValidModule {
+    ghost use Rattle.std.specs.Prelude.{◌≡◌, ◌<◌, length};
+    ghost use Rattle.module_ast.specs.Limits.{IsWhole};
+    ghost use Rattle.module_ast.specs.Validity.{IsValid};
+    ghost use Rattle.wasm_valid.specs.Validated.{IsValidated};
+
+    /// This module, with the marks of each body.
+    pub fn new(module: Module, marks: Seq<Marks>) -> ValidModule
+        requires { IsValidated «module» marks }
+        ensures { result ≡ «module» }
+    {
+        ValidModule { module, marks }
+    }
+
+    /// The module.
+    pub fn module(&self) -> &Module
+        ensures module { result.now ≡ self.now }
+        ensures whole { IsWhole self.now }
+        ensures valid { IsValid self.now }
+    {
+        &self.module
+    }
+
+    /// The body of a defined function, with its marks.
+    pub fn typed(&self, defined: u32) -> TypedBody<'_>
+        requires { defined < length self.now.bodies }
+        ensures of { result.module ≡ self.now }
+        ensures at { result.defined ≡ defined }
+    {
+        TypedBody::new(
+            &self.module,
+            defined,
+            &self.marks.as_slice()[defined as usize],
+        )
+    }
+}
