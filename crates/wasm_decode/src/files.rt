@@ -45,7 +45,7 @@ fn in_order(id: u8, last: u8) -> bool
     id == 0 || last < id
 }
 
-/// Takes all the sections that are left.
+/// Takes all the sections that are left. After an `Err` it is not told where the cursor stands.
 pub fn read_sections(alloc: Global, cursor: &mut Cursor, nesting: u32) -> Result<Draft, DecodeFault>
     requires fits { AreBytes cursor.now.left }
     requires bytes { length cursor.now.left ≤ 268435456 }

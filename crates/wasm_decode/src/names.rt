@@ -17,7 +17,7 @@ use module_ast::module::{Export, ExportKind, Import, Item};
 use module_ast::name::Name;
 use std::alloc::Global;
 
-/// A name (5.2.4), copied.
+/// Takes a name (5.2.4), copied. After an `Err` it is not told where the cursor stands.
 pub fn read_name(alloc: Global, cursor: &mut Cursor) -> Result<Name, Fault>
     ensures ok { IfOk result (λ n. IsFront IsName cursor.old.left cursor.new.left n) }
     ensures malformed { IsErrOf result Fault.Malformed → HasNoFront IsName cursor.old.left }
@@ -27,7 +27,7 @@ pub fn read_name(alloc: Global, cursor: &mut Cursor) -> Result<Name, Fault>
     Ok(Name::from_string(text))
 }
 
-/// What is imported (5.5.5); none is a global of a floating type.
+// What is imported (5.5.5); `None` is a global of a floating type.
 fn item(cursor: &mut Cursor) -> Result<Option<Item>, Bad>
     ensures ok { IfOk result (λ o. (i : grammar.Item) × IsFront IsItem cursor.old.left cursor.new.left i × MatchOption o (item_floats i ≡ true) (λ x. i ≡ profile.item x)) }
     ensures bad { OnErr result (HasNoFront IsItem cursor.old.left) }
@@ -78,7 +78,7 @@ impl Entry for Imports {
     ghost one = { one_import };
 }
 
-/// The kind of what is exported (5.5.10).
+// The kind of what is exported (5.5.10).
 fn export_kind(cursor: &mut Cursor) -> Result<ExportKind, Bad>
     ensures ok { IfOk result (λ k. IsFront IsExportKind cursor.old.left cursor.new.left k) }
     ensures bad { OnErr result (HasNoFront IsExportKind cursor.old.left) }

@@ -46,6 +46,7 @@ pub trait Entry {
     ghost form: { Form Self.Value Shape };
 
     /// Takes an item from the front. Code that nests deeper than `nesting` is left out.
+    /// After an `Err` it is not told where the cursor stands.
     fn read(alloc: Global, cursor: &mut Cursor, nesting: u32) -> Result<Piece<Self::Value>, Fault>
         requires bytes { length cursor.now.left ≤ 268435456 }
         requires nesting { nesting ≤ 1002 }
@@ -99,7 +100,8 @@ pub fn add<E: Entry>(part: &mut Part<E::Value>, piece: Piece<E::Value>) -> Resul
     Ok(())
 }
 
-/// Takes a vector from the front: the number of its items, and the items.
+/// Takes a vector from the front: the number of its items, and the items. Memory grows only as they are read.
+/// After an `Err` it is not told where the cursor stands.
 pub fn read_vec<E: Entry>(
     alloc: Global,
     cursor: &mut Cursor,

@@ -56,7 +56,8 @@ fn custom(alloc: Global, content: &[u8]) -> Result<Name, Fault>
 
 /// Puts the section of this id and content into the draft.
 ///
-/// `Malformed` where no section has this id, and where its content is none: it has to fill the bytes.
+/// `Malformed` where no section has this id, and where its content is none: it has to fill the bytes. After an `Err` it is
+/// not told what the draft holds.
 pub fn read_content(
     alloc: Global,
     draft: &mut Draft,
@@ -90,7 +91,8 @@ pub fn read_content(
     Ok(())
 }
 
-/// Takes what stands behind the id of a section: its size, and its content.
+/// Takes what stands behind the id of a section: its size, and its content. After an `Err` it is not told where the cursor
+/// stands and what the draft holds.
 pub fn read_section(
     alloc: Global,
     draft: &mut Draft,

@@ -58,7 +58,7 @@ impl Entry for FuncTypes {
     ghost one = { one_func_type };
 }
 
-/// A minimum, and a maximum where there is one (5.3.4).
+/// Takes a minimum, and a maximum where there is one (5.3.4). After an `Err` it is not told where the cursor stands.
 pub fn limits(cursor: &mut Cursor) -> Result<Range, Bad>
     ensures ok { IfOk result (λ r. IsFront IsMemoryType cursor.old.left cursor.new.left r) }
     ensures bad { OnErr result (HasNoFront IsMemoryType cursor.old.left) }
@@ -81,7 +81,7 @@ pub fn limits(cursor: &mut Cursor) -> Result<Range, Bad>
     }
 }
 
-/// The type of a table (5.3.5).
+/// Takes the type of a table (5.3.6). After an `Err` it is not told where the cursor stands.
 pub fn table_type(cursor: &mut Cursor) -> Result<Range, Bad>
     ensures ok { IfOk result (λ r. IsFront IsTableType cursor.old.left cursor.new.left r) }
     ensures bad { OnErr result (HasNoFront IsTableType cursor.old.left) }
@@ -134,7 +134,7 @@ impl Entry for Tables {
     ghost one = { one_table_type };
 }
 
-/// Whether a global can be written (5.3.7).
+// Whether a global can be written (5.3.7).
 fn mutability(cursor: &mut Cursor) -> Result<bool, Bad>
     ensures ok { IfOk result (λ b. IsFront IsMutability cursor.old.left cursor.new.left b) }
     ensures bad { OnErr result (HasNoFront IsMutability cursor.old.left) }
@@ -147,7 +147,7 @@ fn mutability(cursor: &mut Cursor) -> Result<bool, Bad>
     }
 }
 
-/// The type of a global (5.3.7); none is of a floating one.
+/// Takes the type of a global (5.3.7); `None` is of a floating one. After an `Err` it is not told where the cursor stands.
 pub fn global_type(cursor: &mut Cursor) -> Result<Option<GlobalType>, Bad>
     ensures ok { IfOk result (λ o. (g : grammar.GlobalType) × IsFront IsGlobalType cursor.old.left cursor.new.left g × MatchOption o (is_floating g.ty ≡ true) (λ t. g ≡ global_type t)) }
     ensures bad { OnErr result (HasNoFront IsGlobalType cursor.old.left) }
