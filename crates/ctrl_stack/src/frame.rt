@@ -37,8 +37,8 @@ impl Types {
     }
 }
 
-/// An open block: the types that it begins and ends with, how many operands stand below it, and whether its code can no
-/// longer go on where it is read. (Standard, Appendix, Validation Algorithm)
+/// An open block: the types that it begins and ends with, how many operands stand below it, and whether the rest of its
+/// code is never reached. (Standard, Appendix, Validation Algorithm)
 #[derive(Debug, Drop)]
 pub struct Frame {
     pub kind: BlockKind,

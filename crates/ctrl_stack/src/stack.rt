@@ -159,7 +159,7 @@ impl CtrlStack {
         self.frames.pop().ok_or(StackFault::Mismatch)
     }
 
-    /// Drops the operands of the innermost frame, whose code goes on no further.
+    /// Drops the operands of the innermost frame, the rest of whose code is never reached.
     pub fn mark_dead(&mut self)
         requires { 0 < length self.old.frames }
         ensures { self.new ≡ dead_from_here self.old }

@@ -7,10 +7,11 @@ use module_ast::module::Module;
 use std::alloc::{AllocError, Global};
 use std::collections::BTreeSet;
 
-/// No two exports have the same name. It keeps the names that it has met in order. (Standard, 3.4.10)
+/// No two exports have the same name. (Standard, 3.4.10)
 pub fn keeps_export_names(alloc: Global, m: &Module) -> Result<bool, AllocError>
     ensures { IfOk result (λ b. IsTrue b ↔ Keeps m.now export_names) }
 {
+    // In an ordered set, names cannot be chosen so that they collide.
     let mut seen = BTreeSet::new(alloc);
     let exports = m.exports.as_slice();
     for export in exports {
