@@ -64,8 +64,8 @@ pub fn check_body_in(
     survey_body(alloc, &env, &body.code)
 }
 
-// Checks a body by what it can name.
-fn survey_body(alloc: Global, env: &Env, code: &Code) -> Result<Marks, BodyInvalid>
+/// Checks a body by what it can name.
+pub(crate) fn survey_body(alloc: Global, env: &Env, code: &Code) -> Result<Marks, BodyInvalid>
     requires { code_size code.now < 2 ^ 32 }
     ensures typed { IfOk result (λ _. TypesIn env.now code.now) }
     ensures marks { IfOk result (HasMarksIn env.now code.now) }

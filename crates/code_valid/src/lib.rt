@@ -12,5 +12,7 @@ mod plain;
 mod shapes;
 pub mod spaces;
 mod surveying;
+#[cfg(test)]
+mod tests;
 pub mod typed_body;
 mod walk;
