@@ -37,11 +37,11 @@ impl ValidModule {
     ghost use Rattle.wasm_valid.specs.Validated.{IsValidated};
 
     /// This module, with the marks of each body.
-    pub fn new(module: Module, marks: Seq<Marks>) -> ValidModule
-        requires { IsValidated «module» marks }
-        ensures { result ≡ «module» }
+    pub fn new(m: Module, marks: Seq<Marks>) -> ValidModule
+        requires { IsValidated m marks }
+        ensures { result ≡ m }
     {
-        ValidModule { module, marks }
+        ValidModule { module: m, marks }
     }
 
     /// The module.

@@ -2,13 +2,13 @@ use Rattle.std.proofs.Common.{ap, length, arith}
 use Rattle.wasm_valid.proofs.Few.{entries_fit}
 use Rattle.wasm_valid.proofs.Counted.{imports_few}
 use Rattle.wasm_valid.proofs.Checked.{checked_more, checked_all}
-use Rattle.wasm_valid.proofs.validate.check_bodies.Goals as goal
+use Rattle.wasm_valid.proofs.bodies.check_bodies.Goals as goal
 
 pub overflow_cast-defined-end : goal.overflow_cast-defined-end
 overflow_cast-defined-end c = omega (arith, entries_fit c.args.m.now c.requires.whole, ap length c.as_slice.ensures)
 
-pub overflow_add-result : goal.overflow_add-result
-overflow_add-result c =
+pub overflow_add-func : goal.overflow_add-func
+overflow_add-func c =
     omega (arith, imports_few c.args.m.now, entries_fit c.args.m.now c.requires.whole, ap length c.as_slice.ensures, c.imported-imported.ensures)
 
 pub loop-defined-preserved : goal.loop-defined-preserved
