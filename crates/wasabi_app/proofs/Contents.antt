@@ -1,8 +1,6 @@
 -- Contents that were not touched before a write, or where they are told.
 use Rattle.std.proofs.Common.{◌≡◌, ℕ, List, refl, ◌∙◌, subst, inl, inr, Option, Some, None}
 use Rattle.outside_io.specs.Outside.{Contents, Unchanged, Wrote, WrotePart, Holds, IsMissing, IsTooLong}
-use Rattle.wasabi_app.specs.Words.{Line}
-use Rattle.wasabi_app.specs.Stages.{Seen, Put, put_whole, put_failed, put_no_memory, Made, malformed, unfit, other_form, make_no_memory, made}
 
 -- what was not touched at all
 pub unchanged_same : (held : Option Contents) → Unchanged held held
@@ -36,26 +34,6 @@ part_after name bytes None (Some b) c p q = absurd p
 part_after name bytes (Some a) None c p q = absurd p
 part_after name bytes None None (Some c) p q = absurd q
 part_after name bytes (Some a) (Some b) None p q = absurd q
-
--- what was put, and made, after contents that were not touched
-put_after : (target output : List ℕ) (old mid new : Seen) (status : ℕ) → Unchanged old.contents mid.contents → mid.writes ≡ old.writes
-    → Put target output mid new status → Put target output old new status
-put_after target output old mid new status u e (put_whole w) = put_whole (wrote_after target output old.contents mid.contents new.contents u w)
-put_after target output old mid new status u e (put_failed r w) =
-    put_failed (rw (← e) r) (part_after target output old.contents mid.contents new.contents u w)
-put_after target output old mid new status u e (put_no_memory w) =
-    put_no_memory (part_after target output old.contents mid.contents new.contents u w)
-
--- what was made after such contents
-pub made_after : (line : Line) (bytes : List ℕ) (old mid new : Seen) (status : ℕ) → Unchanged old.contents mid.contents → mid.writes ≡ old.writes
-    → Made line bytes mid new status → Made line bytes old new status
-made_after line bytes old mid new status u e (malformed none v) = malformed none (unchanged_both old.contents mid.contents new.contents u v)
-made_after line bytes old mid new status u e (unfit un v) = unfit un (unchanged_both old.contents mid.contents new.contents u v)
-made_after line bytes old mid new status u e (other_form form v) =
-    other_form form (unchanged_both old.contents mid.contents new.contents u v)
-made_after line bytes old mid new status u e (make_no_memory v) = make_no_memory (unchanged_both old.contents mid.contents new.contents u v)
-made_after line bytes old mid new status u e (made name count output _ f i p) =
-    made name count output status f i (put_after line.target output old mid new status u e p)
 
 -- where contents are told
 pub holds_told : (held : Option Contents) (told : Contents) (name bytes : List ℕ) → held ≡ Some told → Holds held name bytes → told name ≡ Some bytes

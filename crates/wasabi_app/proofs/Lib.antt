@@ -1,5 +1,10 @@
-pub mod Lines
+pub mod OptionWords
+pub mod WholeModules
+pub mod Positions
 pub mod Files
 pub mod Contents
+pub mod HookCounts
 pub mod Clauses
+pub mod Standing
 pub mod Kept
+pub mod Outputs

@@ -1,5 +1,9 @@
 pub mod Words
 pub mod Reading
+pub mod Texts
+pub mod Refusals
+pub mod Printing
 pub mod Files
+pub mod Loading
+pub mod Making
 pub mod Ends
-pub mod Stages

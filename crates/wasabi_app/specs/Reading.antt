@@ -1,31 +1,62 @@
 -- The words of a command as they are read, a few at a time.
-use Rattle.std.specs.Prelude.{◌≡◌, ℕ, ◌⊎◌, List, ◌∷◌, codes}
+use Rattle.std.specs.Prelude.{◌≡◌, ◌≢◌, ℕ, List, Option, Some, option_map, codes}
 use Rattle.hook_select.specs.declared.Hooks.{Hooks}
 use Rattle.wasabi_app.specs.declared.words.Line.{Line as ReadLine}
-use Rattle.wasabi_app.specs.Words.{Line, IsLine, IsList, IsRefused}
+use Rattle.wasabi_app.specs.declared.words.Options.{Options as ReadOptions}
+use Rattle.wasabi_app.specs.declared.words.Command.{Command}
+use Rattle.wasabi_app.specs.declared.words.Command.TheVariants.{Check, Instrument}
+use Rattle.wasabi_app.specs.declared.lines.Counts.{Counts as ReadCounts}
+use Rattle.wasabi_app.specs.Texts.{Counts}
+use Rattle.wasabi_app.specs.Words.{Line, Options, IsList, IsLine, IsCheck, Adds, AreOptions}
 
 -- the line that was read, as its texts
 abbrev pub line_of : ReadLine → Line
 line_of line = record { subject = line.subject.now; target = line.target.now; hooks = line.hooks }
 
+-- so the options
+abbrev pub options_of : ReadOptions → Options
+options_of o = record { target = option_map (λ t. t.now) o.target; hooks = o.hooks }
+
+-- the words ask for this command
+abbrev pub IsCommand : List (List ℕ) → Command → Type 0
+IsCommand words (Check subject) = IsCheck words subject.now
+IsCommand words (Instrument line) = IsLine words (line_of line)
+
 -- the text is no list that is taken
 abbrev pub IsNoList : (text : List ℕ) → Type 0
 IsNoList text = (hooks : Hooks) → IsList text hooks → ⊥
 
--- two options with a value each are `--out` with the target and `--hooks` with the list, in either order
-abbrev pub IsOptions : (first one second two target list : List ℕ) → Type 0
-IsOptions first one second two target list =
-    ((first ≡ codes "--out") × (one ≡ target) × (second ≡ codes "--hooks") × (two ≡ list))
-    ⊎ ((first ≡ codes "--hooks") × (one ≡ list) × (second ≡ codes "--out") × (two ≡ target))
+-- this option can't be added
+abbrev pub AddsNone : (name value : List ℕ) → Options → Type 0
+AddsNone name value old = (new : Options) → Adds name value old new → ⊥
 
--- they are not, whatever the target and the list
-abbrev pub IsNoOptions : (first one second two : List ℕ) → Type 0
-IsNoOptions first one second two = (target list : List ℕ) → IsOptions first one second two target list → ⊥
+-- these words are no options behind those
+abbrev pub AreNoOptions : List (List ℕ) → Options → Type 0
+AreNoOptions words old = (new : Options) → AreOptions words old new → ⊥
 
--- these words behind the program's name, whatever that is, are this line
-abbrev pub IsLineBehind : List (List ℕ) → Line → Type 0
-IsLineBehind words line = (program : List ℕ) → IsLine (program ∷ words) line
+-- this mode with this subject and these options is this command
+abbrev pub IsModeOf : (mode subject : List ℕ) → Options → Command → Type 0
+IsModeOf mode subject options (Check s) = (mode ≡ codes "check") × (s.now ≡ subject)
+IsModeOf mode subject options (Instrument line) =
+    (mode ≡ codes "instrument") × (line.subject.now ≡ subject)
+    × (options ≡ record { target = Some line.target.now; hooks = Some line.hooks })
 
--- behind no name of a program are they the words of a command
-abbrev pub IsRefusedBehind : List (List ℕ) → Type 0
-IsRefusedBehind words = (program : List ℕ) → IsRefused (program ∷ words)
+-- this mode with these options is no command
+pub record IsNoMode (mode : List ℕ) (options : Options) : Type 0 where
+  pub no_check : mode ≢ codes "check"
+  pub no_line : (target : List ℕ) (hooks : Hooks) → mode ≡ codes "instrument" → options ≡ record { target = Some target; hooks = Some hooks } → ⊥
+
+-- the counts that were made
+abbrev pub counts_in : ReadCounts → Counts
+counts_in c = record {
+  types = c.types;
+  imports = c.imports;
+  functions = c.functions;
+  tables = c.tables;
+  memories = c.memories;
+  globals = c.globals;
+  exports = c.exports;
+  elements = c.elements;
+  segments = c.segments;
+  instructions = c.instructions;
+}

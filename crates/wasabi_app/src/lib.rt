@@ -2,6 +2,12 @@
 #![tactic(auto)]
 
 mod app;
+mod check_mode;
+mod counts;
+mod instrument_mode;
+mod lines;
+mod load;
+mod say;
 mod words;
 
 pub use app::run_app;

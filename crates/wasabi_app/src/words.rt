@@ -1,18 +1,32 @@
 // The words of a command.
 
-ghost use Rattle.std.specs.Prelude.{◌≡◌, ◌↔◌, [], ◌∷◌, IsTrue, MatchOption, IfSome};
-ghost use Rattle.instrument.specs.Nops.{nop_group, IsNopChoice};
-ghost use Rattle.wasabi_app.specs.Words.{IsList, IsLine, IsRefused, IsValue, texts};
-ghost use Rattle.wasabi_app.specs.Reading.{IsLineBehind, IsNoList, IsNoOptions, IsOptions, IsRefusedBehind, line_of};
+ghost use Rattle.std.specs.Prelude.{◌≡◌, ◌↔◌, [], ◌∷◌, IsTrue, MatchOption};
+ghost use Rattle.wasabi_app.specs.Words.{Adds, AreOptions, IsList, IsLine, IsRefused, IsValue, no_options, texts};
+ghost use Rattle.wasabi_app.specs.Reading.{AddsNone, AreNoOptions, IsCommand, IsModeOf, IsNoList, IsNoMode, options_of};
 
 use hook_select::Hooks;
 
-/// What a command asks for: the subject is instrumented for these groups, and written under the target's name.
+/// What a command of the mode `instrument` asks for: the subject is instrumented for these groups, and written under the
+/// target's name.
 #[derive(Clone, Copy)]
 pub(crate) struct Line<'w> {
     pub(crate) subject: &'w str,
     pub(crate) target: &'w str,
     pub(crate) hooks: Hooks,
+}
+
+/// What a command asks for.
+#[derive(Clone, Copy)]
+pub(crate) enum Command<'w> {
+    Check { subject: &'w str },
+    Instrument(Line<'w>),
+}
+
+// What the options say.
+#[derive(Clone, Copy)]
+struct Options<'w> {
+    target: Option<&'w str>,
+    hooks: Option<Hooks>,
 }
 
 // Whether a text is not empty and does not begin with `-`.
@@ -25,23 +39,15 @@ fn is_value(text: &str) -> bool
     }
 }
 
-// The group of nop alone.
-fn nop_alone() -> Hooks
-    ensures { result ≡ nop_group }
-{
-    Hooks {
-        nop: true,
-        ..Hooks::none()
-    }
-}
-
 // The set of groups that a list names; none where it is neither `nop` nor `none`.
 fn read_hooks(list: &str) -> Option<Hooks>
-    ensures exact { MatchOption result (IsNoList list.now) (IsList list.now) }
-    ensures choice { IfSome result IsNopChoice }
+    ensures { MatchOption result (IsNoList list.now) (IsList list.now) }
 {
     if list == "nop" {
-        return Some(nop_alone());
+        return Some(Hooks {
+            nop: true,
+            ..Hooks::none()
+        });
     }
     if list == "none" {
         return Some(Hooks::none());
@@ -49,68 +55,74 @@ fn read_hooks(list: &str) -> Option<Hooks>
     None
 }
 
-// The target and the list, from the two options with their values; none where these are not `--out` and `--hooks`.
-fn read_options<'w>(
-    first: &str,
-    one: &'w str,
-    second: &str,
-    two: &'w str,
-) -> Option<(&'w str, &'w str)>
-    ensures { MatchOption result (IsNoOptions first.now one.now second.now two.now)
-        (λ p. IsOptions first.now one.now second.now two.now p.0.now p.1.now) }
+// The options with one more; none where there is no such option, it stands already, or its value is not taken.
+fn with_option<'w>(options: &Options<'w>, name: &str, value: &'w str) -> Option<Options<'w>>
+    ensures { MatchOption result (AddsNone name.now value.now (options_of options.now))
+        (λ added. Adds name.now value.now (options_of options.now) (options_of added)) }
 {
-    if first == "--out" && second == "--hooks" {
-        return Some((one, two));
+    if name == "--out" && options.target.is_none() && is_value(value) {
+        return Some(Options {
+            target: Some(value),
+            hooks: options.hooks,
+        });
     }
-    if first == "--hooks" && second == "--out" {
-        return Some((two, one));
+    if name == "--hooks" && options.hooks.is_none() {
+        let hooks = read_hooks(value)?;
+        return Some(Options {
+            target: options.target,
+            hooks: Some(hooks),
+        });
     }
     None
 }
 
-// The line of the words behind the program's name; none where no command has them.
-fn line_of_texts<'w>(
-    mode: &str,
-    subject: &'w str,
-    first: &str,
-    one: &'w str,
-    second: &str,
-    two: &'w str,
-) -> Option<Line<'w>>
-    ensures exact { MatchOption result
-        (IsRefusedBehind (mode.now ∷ subject.now ∷ first.now ∷ one.now ∷ second.now ∷ two.now ∷ []))
-        (λ line. IsLineBehind (mode.now ∷ subject.now ∷ first.now ∷ one.now ∷ second.now ∷ two.now ∷ []) (line_of line)) }
-    ensures choice { IfSome result (λ line. IsNopChoice line.hooks) }
+// What these options and those before them say; none where they are none.
+fn read_options<'w>(options: &Options<'w>, words: &'w [String]) -> Option<Options<'w>>
+    ensures { MatchOption result (AreNoOptions (texts words.now) (options_of options.now))
+        (λ all. AreOptions (texts words.now) (options_of options.now) (options_of all)) }
 {
-    if mode != "instrument" || !is_value(subject) {
-        return None;
+    match words {
+        [] => Some(*options),
+        [_] => None,
+        [name, value, rest @ ..] => {
+            let added = with_option(options, name.as_str(), value.as_str())?;
+            read_options(&added, rest)
+        }
     }
-    let (target, list) = read_options(first, one, second, two)?;
-    if !is_value(target) {
-        return None;
-    }
-    let hooks = read_hooks(list)?;
-    Some(Line {
-        subject,
-        target,
-        hooks,
-    })
 }
 
-/// The line of these words; none exactly where no command has them.
-pub(crate) fn read_line(words: &[String]) -> Option<Line<'_>>
-    ensures exact { MatchOption result (IsRefused (texts words.now)) (λ line. IsLine (texts words.now) (line_of line)) }
-    ensures choice { IfSome result (λ line. IsNopChoice line.hooks) }
+/// The command of these words; none exactly where no command has them.
+pub(crate) fn read_command(words: &[String]) -> Option<Command<'_>>
+    ensures { MatchOption result (IsRefused (texts words.now)) (IsCommand (texts words.now)) }
 {
-    let [_program, mode, subject, first, one, second, two] = words else {
+    let [_program, mode, subject, rest @ ..] = words else {
         return None;
     };
-    line_of_texts(
-        mode.as_str(),
-        subject.as_str(),
-        first.as_str(),
-        one.as_str(),
-        second.as_str(),
-        two.as_str(),
-    )
+    let subject = subject.as_str();
+    if !is_value(subject) {
+        return None;
+    }
+    let none = Options {
+        target: None,
+        hooks: None,
+    };
+    let options = read_options(&none, rest)?;
+    command_of(mode.as_str(), subject, &options)
+}
+
+// The command of this mode; none where there is no such mode, or an option that it needs is missing.
+fn command_of<'w>(mode: &str, subject: &'w str, options: &Options<'w>) -> Option<Command<'w>>
+    ensures { MatchOption result (IsNoMode mode.now (options_of options.now)) (IsModeOf mode.now subject.now (options_of options.now)) }
+{
+    if mode == "check" {
+        return Some(Command::Check { subject });
+    }
+    if mode != "instrument" {
+        return None;
+    }
+    Some(Command::Instrument(Line {
+        subject,
+        target: options.target?,
+        hooks: options.hooks?,
+    }))
 }

@@ -1,0 +1,27 @@
+-- A decoded module is whole, and its check says what it breaks.
+use Rattle.std.proofs.Common.{ap, subst, Err}
+use Rattle.wasabi_app.specs.Loading.{Refutes, broken_rule, invalid_body, no_memory}
+use Rattle.wasabi_app.specs.Texts.{rule_text}
+use Rattle.wasabi_app.proofs.WholeModules.{fit_whole}
+use Rattle.wasabi_app.proofs.Outputs.{valid_fit}
+use Rattle.wasabi_app.proofs.load.valid_module.Goals as goal
+
+pub validate-requires-clause-whole : goal.validate-requires-clause-whole
+validate-requires-clause-whole g c =
+    λ _ _. fit_whole c.args.limits.now c.args.bytes.now c.in_ok-module.module c.requires.short c.requires.locals c.requires.nesting c.in_ok-module.ensures.ok
+
+pub returns-in-Ok-clause-ok : goal.returns-in-Ok-clause-ok
+returns-in-Ok-clause-ok g c = valid_fit c.args.limits.now c.args.bytes.now c.in_ok-module.module _ c.in-Ok.ensures.same c.in_ok-module.ensures.ok c.in-Ok.ensures.valid
+
+pub returns-in-Err-Module-clause-refused : goal.returns-in-Err-Module-clause-refused
+returns-in-Err-Module-clause-refused g c =
+    let broken = c.in-Err-Module.ensures.rule _ (ap Err c.in-Err-Module.field-0-is) in
+    subst (λ n. Refutes c.args.name.now c.args.limits.now c.args.bytes.now 8 (rule_text c.args.name.now n)) broken.1
+    (broken_rule c.in_ok-module.module broken.0 c.in_ok-module.ensures.ok broken.2)
+
+pub returns-in-Err-Body-clause-refused : goal.returns-in-Err-Body-clause-refused
+returns-in-Err-Body-clause-refused g c =
+    invalid_body c.in_ok-module.module _ c.in_ok-module.ensures.ok (c.in-Err-Body.ensures.body _ (ap Err c.in-Err-Body.field-0-is))
+
+pub returns-in-Err-NoMemory-clause-refused : goal.returns-in-Err-NoMemory-clause-refused
+returns-in-Err-NoMemory-clause-refused g c = no_memory

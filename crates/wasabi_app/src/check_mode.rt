@@ -1,0 +1,41 @@
+// The mode `check`.
+
+ghost use Rattle.std.specs.Prelude.{◌≡◌, ◌≤◌, ℕ, List, IfErr, IfOk, string_bytes};
+ghost use Rattle.wasabi_app.specs.Ends.{Answers, Refuses};
+ghost use Rattle.wasabi_app.specs.Printing.{seen};
+ghost use Rattle.wasabi_app.specs.Refusals.{status_of, text_of};
+ghost use Rattle.wasabi_app.specs.Words.{IsCheck};
+
+use crate::counts::count;
+use crate::lines::Refusal;
+use crate::load::load;
+use module_ast::module::Limits;
+use outside_io::Shelf;
+use std::alloc::Global;
+use std::thread::Threads;
+
+// How many bytes a subject may have.
+const LONGEST_SUBJECT: u64 = 268_435_456;
+
+/// Reads the subject and checks it; the line of its counts, or why it is refused. No name is changed.
+pub(crate) fn check<'w, R: Threads + Sync, S: Shelf>(
+    rt: &R,
+    alloc: Global,
+    subject: &'w str,
+    shelf: &mut S,
+) -> Result<String, Refusal<'w>>
+    ensures answered { (words : List (List ℕ)) → IsCheck words subject.now → IfOk result (λ line. Answers words
+        (seen (S.contents shelf.old) (S.read_faults shelf.old) (S.write_faults shelf.old))
+        (seen (S.contents shelf.new) (S.read_faults shelf.new) (S.write_faults shelf.new)) (string_bytes line)) }
+    ensures refused { (words : List (List ℕ)) → IsCheck words subject.now → IfErr result (λ r. Refuses words
+        (seen (S.contents shelf.old) (S.read_faults shelf.old) (S.write_faults shelf.old))
+        (seen (S.contents shelf.new) (S.read_faults shelf.new) (S.write_faults shelf.new)) (status_of r) (text_of r)) }
+    ensures read_count { S.read_faults shelf.old ≤ S.read_faults shelf.new }
+    ensures write_count { S.write_faults shelf.old ≤ S.write_faults shelf.new }
+{
+    let valid = load(rt, alloc, subject, LONGEST_SUBJECT, &Limits::wide(), shelf)?;
+    match count(valid.module()).line(alloc) {
+        Ok(line) => Ok(line),
+        Err(_) => Err(Refusal::NoMemory),
+    }
+}

@@ -1,0 +1,91 @@
+// Valid modules, read from a shelf.
+
+ghost use Rattle.std.specs.Prelude.{◌≡◌, ◌≤◌, IfOk, IfErr, length};
+ghost use Rattle.outside_io.specs.Outside.{Unchanged};
+ghost use Rattle.module_ast.specs.Validity.{IsValid};
+ghost use Rattle.wasabi_app.specs.Files.{IsFit, wide_file};
+ghost use Rattle.wasabi_app.specs.Loading.{IsLoaded, Refutes, Unloaded};
+ghost use Rattle.wasabi_app.specs.Printing.{seen};
+ghost use Rattle.wasabi_app.specs.Refusals.{status_of, text_of};
+
+use crate::lines::Refusal;
+use module_ast::module::{Limits, Module};
+use outside_io::{ReadFault, Shelf};
+use std::alloc::Global;
+use std::thread::Threads;
+use wasm_decode::decode;
+use wasm_decode::fault::DecodeFault;
+use wasm_valid::{Invalid, ValidModule, validate};
+
+/// The valid module that stands under a name, of at most `cap` bytes, within these limits. No name is changed.
+pub(crate) fn load<'w, R: Threads + Sync, S: Shelf>(
+    rt: &R,
+    alloc: Global,
+    name: &'w str,
+    cap: u64,
+    limits: &Limits,
+    shelf: &mut S,
+) -> Result<ValidModule, Refusal<'w>>
+    requires short { cap ≤ wide_file }
+    requires nesting { limits.now.nesting ≤ 1002 }
+    requires locals { limits.now.locals ≤ 60000 }
+    ensures ok { IfOk result (λ v. IsLoaded (S.contents shelf.old) name.now cap limits.now v) }
+    ensures refused { IfErr result (λ r. Unloaded name.now cap limits.now
+        (seen (S.contents shelf.old) (S.read_faults shelf.old) (S.write_faults shelf.old))
+        (seen (S.contents shelf.new) (S.read_faults shelf.new) (S.write_faults shelf.new)) (status_of r) (text_of r)) }
+    ensures kept { Unchanged (S.contents shelf.old) (S.contents shelf.new) }
+    ensures read_count { S.read_faults shelf.old ≤ S.read_faults shelf.new }
+    ensures write_count { S.write_faults shelf.new ≡ S.write_faults shelf.old }
+{
+    match shelf.read(alloc, name, cap) {
+        Ok(bytes) => valid_module(rt, alloc, name, bytes.as_slice(), limits),
+        Err(ReadFault::Missing) => Err(Refusal::Missing { name }),
+        Err(ReadFault::TooLong { length }) => Err(Refusal::TooLong { name, length }),
+        Err(ReadFault::Failed) => Err(Refusal::Unread { name }),
+        Err(ReadFault::NoMemory) => Err(Refusal::NoMemory),
+    }
+}
+
+// The valid module with these bytes.
+fn valid_module<'w, R: Threads + Sync>(
+    rt: &R,
+    alloc: Global,
+    name: &'w str,
+    bytes: &[u8],
+    limits: &Limits,
+) -> Result<ValidModule, Refusal<'w>>
+    requires short { length bytes.now ≤ wide_file }
+    requires nesting { limits.now.nesting ≤ 1002 }
+    requires locals { limits.now.locals ≤ 60000 }
+    ensures ok { IfOk result (λ v. IsFit limits.now bytes.now v × IsValid v) }
+    ensures refused { IfErr result (λ r. Refutes name.now limits.now bytes.now (status_of r) (text_of r)) }
+{
+    let module = fit_module(alloc, name, bytes, limits)?;
+    match validate(rt, alloc, module, 1) {
+        Ok(valid) => Ok(valid),
+        Err(Invalid::Module { rule }) => Err(Refusal::BrokenRule { name, rule }),
+        Err(Invalid::Body { func }) => Err(Refusal::InvalidBody { name, func }),
+        Err(Invalid::NoMemory) => Err(Refusal::NoMemory),
+    }
+}
+
+// The module with these bytes, whether it is valid or not.
+fn fit_module<'w>(
+    alloc: Global,
+    name: &'w str,
+    bytes: &[u8],
+    limits: &Limits,
+) -> Result<Module, Refusal<'w>>
+    requires short { length bytes.now ≤ wide_file }
+    requires nesting { limits.now.nesting ≤ 1002 }
+    ensures ok { IfOk result (λ m. IsFit limits.now bytes.now m) }
+    ensures refused { IfErr result (λ r. Refutes name.now limits.now bytes.now (status_of r) (text_of r)) }
+{
+    match decode(alloc, bytes, limits) {
+        Ok(module) => Ok(module),
+        Err(DecodeFault::Malformed { section }) => Err(Refusal::Malformed { name, section }),
+        Err(DecodeFault::Float { section }) => Err(Refusal::Floats { name, section }),
+        Err(DecodeFault::Limit { which, value }) => Err(Refusal::OverLimit { name, which, value }),
+        Err(DecodeFault::NoMemory) => Err(Refusal::NoMemory),
+    }
+}
