@@ -16,6 +16,7 @@ use module_ast::ops::{LoadOp, MemArg, StoreOp};
 use module_ast::seq::Seq;
 use std::alloc::{AllocError, Global};
 use std::mem;
+use std::test::Fail;
 use wasm_num::{NumOp, ValType};
 
 // The words of a body in the order of its bytes. Constants are 0, and loads and stores are those of an i32 with the
@@ -275,213 +276,237 @@ fn verdict(alloc: Global, m: &Module, results: &[ValType], words: &[Word]) -> Op
     }
 }
 
-#[test]
-fn valid_bodies(rt: HostRuntime) {
-    let alloc = rt.alloc();
-    let rows: [(&[ValType], &[Word]); 43] = [
-        (NONE, &[]),
-        (NONE, &[Nop]),
-        (INT, &[I32]),
-        (INT, &[I32, I32, Add]),
-        (NONE, &[I32, Drop]),
-        (INT, &[I32, I32, I32, Select]),
-        (LONG, &[I64, I64, I32, Select]),
-        (INT, &[Get(0)]),
-        (LONG, &[Get(2)]),
-        (NONE, &[I64, Set(1)]),
-        (INT, &[I32, Tee(0)]),
-        (INT, &[GlobalGet(0)]),
-        (NONE, &[I64, GlobalSet(1)]),
-        (INT, &[I32, Load(2)]),
-        (NONE, &[I32, I32, Store(0)]),
-        (INT, &[Size]),
-        (INT, &[I32, Grow]),
-        (INT, &[I32, I64, Call(0)]),
-        (NONE, &[Call(1)]),
-        (INT, &[I32, I64, I32, CallIndirect(1)]),
-        (NONE, &[Block, End]),
-        (INT, &[BlockI32, I32, End]),
-        (NONE, &[I32, If, End]),
-        (NONE, &[I32, If, Nop, Else, Unreachable, End]),
-        (INT, &[I32, IfI32, I32, Else, I32, End]),
+// A body's results and words.
+type Row = (&'static [ValType], &'static [Word]);
+
+fn valid(row: u32) -> Option<Row> {
+    Some(match row {
+        0 => (NONE, &[]),
+        1 => (NONE, &[Nop]),
+        2 => (INT, &[I32]),
+        3 => (INT, &[I32, I32, Add]),
+        4 => (NONE, &[I32, Drop]),
+        5 => (INT, &[I32, I32, I32, Select]),
+        6 => (LONG, &[I64, I64, I32, Select]),
+        7 => (INT, &[Get(0)]),
+        8 => (LONG, &[Get(2)]),
+        9 => (NONE, &[I64, Set(1)]),
+        10 => (INT, &[I32, Tee(0)]),
+        11 => (INT, &[GlobalGet(0)]),
+        12 => (NONE, &[I64, GlobalSet(1)]),
+        13 => (INT, &[I32, Load(2)]),
+        14 => (NONE, &[I32, I32, Store(0)]),
+        15 => (INT, &[Size]),
+        16 => (INT, &[I32, Grow]),
+        17 => (INT, &[I32, I64, Call(0)]),
+        18 => (NONE, &[Call(1)]),
+        19 => (INT, &[I32, I64, I32, CallIndirect(1)]),
+        20 => (NONE, &[Block, End]),
+        21 => (INT, &[BlockI32, I32, End]),
+        22 => (NONE, &[I32, If, End]),
+        23 => (NONE, &[I32, If, Nop, Else, Unreachable, End]),
+        24 => (INT, &[I32, IfI32, I32, Else, I32, End]),
         // results inside results
-        (
+        25 => (
             INT,
             &[BlockI32, BlockI32, I32, End, BlockI32, I32, End, Add, End],
         ),
         // values under a branch are left
-        (INT, &[I64, I32, Br(0)]),
-        (INT, &[I64, I32, Return]),
-        (INT, &[BlockI32, I64, I32, Br(0), End]),
-        (
+        26 => (INT, &[I64, I32, Br(0)]),
+        27 => (INT, &[I64, I32, Return]),
+        28 => (INT, &[BlockI32, I64, I32, Br(0), End]),
+        29 => (
             INT,
             &[BlockI32, BlockI32, I32, I32, BrTable(0, 1), End, End],
         ),
         // a branch to a loop takes nothing
-        (NONE, &[Loop, Br(0), End]),
-        (INT, &[LoopI32, I32, BrIf(0), I32, End]),
-        (INT, &[LoopI32, I32, I32, BrIf(0), End]),
+        30 => (NONE, &[Loop, Br(0), End]),
+        31 => (INT, &[LoopI32, I32, BrIf(0), I32, End]),
+        32 => (INT, &[LoopI32, I32, I32, BrIf(0), End]),
         // code that is not live, with operands of unknown types
-        (INT, &[Unreachable]),
-        (INT, &[Unreachable, Add]),
-        (NONE, &[Unreachable, Drop]),
-        (INT, &[Unreachable, Select]),
-        (LONG, &[Unreachable, Select]),
-        (LONG, &[Unreachable, I64, I32, Select]),
-        (LONG, &[Unreachable, BrIf(0)]),
-        (INT, &[Unreachable, BlockI32, I32, End, Add]),
-        (INT, &[BlockI32, Unreachable, End]),
-        (NONE, &[Block, Br(1), Drop, End]),
-    ];
-    let made = rich(alloc);
-    assert_eq!(rt; made.is_ok(), true);
-    if let Ok(m) = &made {
-        for (results, words) in rows {
-            assert_eq!(rt;
-                verdict(alloc, m, results, words),
-                Some(true),
-                "{}",
-                words.len()
-            );
-        }
-    }
+        33 => (INT, &[Unreachable]),
+        34 => (INT, &[Unreachable, Add]),
+        35 => (NONE, &[Unreachable, Drop]),
+        36 => (INT, &[Unreachable, Select]),
+        37 => (LONG, &[Unreachable, Select]),
+        38 => (LONG, &[Unreachable, I64, I32, Select]),
+        39 => (LONG, &[Unreachable, BrIf(0)]),
+        40 => (INT, &[Unreachable, BlockI32, I32, End, Add]),
+        41 => (INT, &[BlockI32, Unreachable, End]),
+        42 => (NONE, &[Block, Br(1), Drop, End]),
+        _ => return None,
+    })
 }
 
-#[test]
-fn invalid_bodies(rt: HostRuntime) {
-    let alloc = rt.alloc();
-    let rows: [(&[ValType], &[Word]); 43] = [
-        (INT, &[]),
-        (NONE, &[I32]),
-        (NONE, &[Drop]),
-        (INT, &[I64]),
-        (INT, &[I32, I32]),
-        (INT, &[I32, I64, Add]),
-        (INT, &[I32, I64, I32, Select]),
-        (INT, &[I32, I32, I64, Select]),
-        (INT, &[Get(3)]),
-        (NONE, &[I32, Set(1)]),
-        (INT, &[GlobalGet(2)]),
-        (NONE, &[I32, GlobalSet(0)]),
-        (NONE, &[I32, GlobalSet(1)]),
-        (INT, &[I32, Load(3)]),
-        (NONE, &[I32, I32, Store(3)]),
-        (NONE, &[I32, I64, Store(0)]),
-        (INT, &[I64, Grow]),
-        (INT, &[I32, Call(0)]),
-        (INT, &[I64, I32, Call(0)]),
-        (NONE, &[Call(2)]),
-        (NONE, &[I32, CallIndirect(3)]),
-        (INT, &[I32, I64, CallIndirect(1)]),
-        (NONE, &[Br(1)]),
-        (INT, &[I64, Br(0)]),
-        (INT, &[Return]),
-        (INT, &[BlockI32, End]),
-        (NONE, &[Block, I32, End]),
+fn invalid(row: u32) -> Option<Row> {
+    Some(match row {
+        0 => (INT, &[]),
+        1 => (NONE, &[I32]),
+        2 => (NONE, &[Drop]),
+        3 => (INT, &[I64]),
+        4 => (INT, &[I32, I32]),
+        5 => (INT, &[I32, I64, Add]),
+        6 => (INT, &[I32, I64, I32, Select]),
+        7 => (INT, &[I32, I32, I64, Select]),
+        8 => (INT, &[Get(3)]),
+        9 => (NONE, &[I32, Set(1)]),
+        10 => (INT, &[GlobalGet(2)]),
+        11 => (NONE, &[I32, GlobalSet(0)]),
+        12 => (NONE, &[I32, GlobalSet(1)]),
+        13 => (INT, &[I32, Load(3)]),
+        14 => (NONE, &[I32, I32, Store(3)]),
+        15 => (NONE, &[I32, I64, Store(0)]),
+        16 => (INT, &[I64, Grow]),
+        17 => (INT, &[I32, Call(0)]),
+        18 => (INT, &[I64, I32, Call(0)]),
+        19 => (NONE, &[Call(2)]),
+        20 => (NONE, &[I32, CallIndirect(3)]),
+        21 => (INT, &[I32, I64, CallIndirect(1)]),
+        22 => (NONE, &[Br(1)]),
+        23 => (INT, &[I64, Br(0)]),
+        24 => (INT, &[Return]),
+        25 => (INT, &[BlockI32, End]),
+        26 => (NONE, &[Block, I32, End]),
         // a block finds none of the operands around it
-        (INT, &[I32, Block, Drop, End, I32]),
-        (INT, &[I32, BlockI32, End]),
-        (NONE, &[Unreachable, Block, Drop, End]),
-        (NONE, &[If, End]),
-        (NONE, &[I64, If, End]),
+        27 => (INT, &[I32, Block, Drop, End, I32]),
+        28 => (INT, &[I32, BlockI32, End]),
+        29 => (NONE, &[Unreachable, Block, Drop, End]),
+        30 => (NONE, &[If, End]),
+        31 => (NONE, &[I64, If, End]),
         // an `if` with a result has two parts
-        (INT, &[I32, IfI32, I32, End]),
-        (INT, &[I32, IfI32, I32, Else, I64, End]),
-        (INT, &[I32, IfI32, I32, Else, End]),
+        32 => (INT, &[I32, IfI32, I32, End]),
+        33 => (INT, &[I32, IfI32, I32, Else, I64, End]),
+        34 => (INT, &[I32, IfI32, I32, Else, End]),
         // a branch to a loop does not take its results
-        (INT, &[LoopI32, I32, BrIf(0), End]),
-        (INT, &[LoopI32, I32, Br(0), End, Drop]),
+        35 => (INT, &[LoopI32, I32, BrIf(0), End]),
+        36 => (INT, &[LoopI32, I32, Br(0), End, Drop]),
         // labels that disagree
-        (
+        37 => (
             INT,
             &[BlockI32, Block, I32, I32, BrTable(0, 1), End, I32, End],
         ),
-        (INT, &[BlockI32, I32, I32, BrTable(7, 0), End]),
-        (INT, &[BlockI32, Block, I32, BrTable(1, 0), End, I32, End]),
+        38 => (INT, &[BlockI32, I32, I32, BrTable(7, 0), End]),
+        39 => (INT, &[BlockI32, Block, I32, BrTable(1, 0), End, I32, End]),
         // known types in code that is not live
-        (INT, &[Unreachable, I64]),
-        (NONE, &[Unreachable, I64, I32, Add, Drop]),
-        (LONG, &[Unreachable, I64, Select]),
-    ];
-    let made = rich(alloc);
-    assert_eq!(rt; made.is_ok(), true);
-    if let Ok(m) = &made {
-        for (results, words) in rows {
-            assert_eq!(rt;
-                verdict(alloc, m, results, words),
-                Some(false),
-                "{}",
-                words.len()
-            );
+        40 => (INT, &[Unreachable, I64]),
+        41 => (NONE, &[Unreachable, I64, I32, Add, Drop]),
+        42 => (LONG, &[Unreachable, I64, Select]),
+        _ => return None,
+    })
+}
+
+// Bodies with an i32 as result, for a module without memory and table, and whether they are valid there.
+fn without(row: u32) -> Option<(&'static [Word], bool)> {
+    Some(match row {
+        0 => (&[Get(0)], true),
+        1 => (&[I32, Load(0)], false),
+        2 => (&[I32, I32, Store(0), I32], false),
+        3 => (&[Size], false),
+        4 => (&[I32, Grow], false),
+        5 => (&[I32, I64, I32, CallIndirect(1)], false),
+        6 => (&[GlobalGet(0)], false),
+        _ => return None,
+    })
+}
+
+// Valid bodies without results, with their marks and heights.
+fn live(row: u32) -> Option<(&'static [Word], &'static [(u32, ValType)], u64)> {
+    Some(match row {
+        0 => (&[], &[], 0),
+        1 => (&[I32, Drop], &[(1, ValType::I32)], 1),
+        2 => (
+            &[I32, I64, Drop, Drop],
+            &[(2, ValType::I64), (3, ValType::I32)],
+            2,
+        ),
+        3 => (
+            &[I64, I64, I32, Select, Drop],
+            &[(3, ValType::I64), (4, ValType::I64)],
+            3,
+        ),
+        // operands below an open block count
+        4 => (
+            &[I32, Block, I32, Drop, End, Drop],
+            &[(3, ValType::I32), (5, ValType::I32)],
+            2,
+        ),
+        // code behind a branch is not live, and code behind its block is
+        5 => (&[Unreachable, I32, I32, Drop, Drop], &[], 0),
+        6 => (
+            &[Block, Br(0), Drop, End, I32, Drop],
+            &[(5, ValType::I32)],
+            1,
+        ),
+        7 => (
+            &[I32, If, I32, Drop, Else, I64, Drop, End],
+            &[(3, ValType::I32), (6, ValType::I64)],
+            1,
+        ),
+        _ => return None,
+    })
+}
+
+fn has_marks(found: &[Mark], marks: &[(u32, ValType)]) -> bool {
+    if found.len() != marks.len() {
+        return false;
+    }
+    for (mark, (pos, ty)) in found.iter().zip(marks) {
+        if mark.pos != *pos || mark.ty != *ty {
+            return false;
         }
     }
+    true
+}
+
+#[test]
+fn valid_bodies(rt: HostRuntime) -> Result<(), Fail> {
+    let alloc = rt.alloc();
+    let m = rich(alloc)?;
+    for row in 0..43 {
+        let (results, words) = valid(row).ok_or("no row")?;
+        assert_eq!(rt; verdict(alloc, &m, results, words), Some(true), "{row}");
+    }
+    assert!(rt; valid(43).is_none());
+    Ok(())
+}
+
+#[test]
+fn invalid_bodies(rt: HostRuntime) -> Result<(), Fail> {
+    let alloc = rt.alloc();
+    let m = rich(alloc)?;
+    for row in 0..43 {
+        let (results, words) = invalid(row).ok_or("no row")?;
+        assert_eq!(rt; verdict(alloc, &m, results, words), Some(false), "{row}");
+    }
+    assert!(rt; invalid(43).is_none());
+    Ok(())
 }
 
 // Without memory and table nothing names them.
 #[test]
-fn bodies_of_a_bare_module(rt: HostRuntime) {
+fn bodies_of_a_bare_module(rt: HostRuntime) -> Result<(), Fail> {
     let alloc = rt.alloc();
-    let rows: [(&[Word], bool); 7] = [
-        (&[Get(0)], true),
-        (&[I32, Load(0)], false),
-        (&[I32, I32, Store(0), I32], false),
-        (&[Size], false),
-        (&[I32, Grow], false),
-        (&[I32, I64, I32, CallIndirect(1)], false),
-        (&[GlobalGet(0)], false),
-    ];
-    let made = bare(alloc);
-    assert_eq!(rt; made.is_ok(), true);
-    if let Ok(m) = &made {
-        for (words, valid) in rows {
-            assert_eq!(rt;
-                verdict(alloc, m, INT, words),
-                Some(valid),
-                "{}",
-                words.len()
-            );
-        }
+    let m = bare(alloc)?;
+    for row in 0..7 {
+        let (words, valid) = without(row).ok_or("no row")?;
+        assert_eq!(rt; verdict(alloc, &m, INT, words), Some(valid), "{row}");
     }
+    assert!(rt; without(7).is_none());
+    Ok(())
 }
 
-// Marks and heights of bodies without results.
 #[test]
-fn live_places(rt: HostRuntime) {
+fn live_places(rt: HostRuntime) -> Result<(), Fail> {
     let alloc = rt.alloc();
-    let int = |pos| Mark {
-        pos,
-        ty: ValType::I32,
-    };
-    let long = |pos| Mark {
-        pos,
-        ty: ValType::I64,
-    };
-    let rows: [(&[Word], &[Mark], u64); 8] = [
-        (&[], &[], 0),
-        (&[I32, Drop], &[int(1)], 1),
-        (&[I32, I64, Drop, Drop], &[long(2), int(3)], 2),
-        (&[I64, I64, I32, Select, Drop], &[long(3), long(4)], 3),
-        // operands below an open block count
-        (&[I32, Block, I32, Drop, End, Drop], &[int(3), int(5)], 2),
-        // code behind a branch is not live, and code behind its block is
-        (&[Unreachable, I32, I32, Drop, Drop], &[], 0),
-        (&[Block, Br(0), Drop, End, I32, Drop], &[int(5)], 1),
-        (
-            &[I32, If, I32, Drop, Else, I64, Drop, End],
-            &[int(3), long(6)],
-            1,
-        ),
-    ];
-    let made = rich(alloc);
-    assert_eq!(rt; made.is_ok(), true);
-    if let Ok(m) = &made {
-        for (words, marks, height) in rows {
-            let got = found(alloc, m, NONE, words);
-            assert_eq!(rt; got.is_ok(), true, "{}", words.len());
-            if let Ok(got) = &got {
-                assert_eq!(rt; got.types.as_slice(), marks, "{}", words.len());
-                assert_eq!(rt; got.height, height, "{}", words.len());
-            }
-        }
+    let m = rich(alloc)?;
+    for row in 0..8 {
+        let (words, marks, height) = live(row).ok_or("no row")?;
+        let Ok(got) = found(alloc, &m, NONE, words) else {
+            return Err("not valid".into());
+        };
+        assert!(rt; has_marks(got.types.as_slice(), marks), "{row}");
+        assert_eq!(rt; got.height, height, "{row}");
     }
+    assert!(rt; live(8).is_none());
+    Ok(())
 }
