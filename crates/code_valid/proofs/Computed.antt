@@ -1,5 +1,5 @@
 -- The marks and the height that typed code has are those that `code_marks` and `code_height` compute.
-use Rattle.std.proofs.Common.{◌≡◌, ℕ, zero, suc, ◌+◌, ◌≤◌, List, [], ◌∷◌, ◌++◌, length, drop, max, Some, Bool, true, false, cond, refl, sym, ap, ap₂, ◌∙◌, subst, arith, slice_get, append_assoc, length-append}
+use Rattle.std.proofs.Common.{◌≡◌, ℕ, zero, suc, ◌+◌, ◌≤◌, List, [], ◌∷◌, ◌++◌, length, drop, max, Bool, true, false, cond, refl, sym, ap, ap₂, ◌∙◌, subst, arith, append_assoc, length-append}
 use Rattle.wasm_num.specs.declared.ValType.{ValType}
 use Rattle.wasm_num.specs.declared.ValType.TheVariants.{I32, I64}
 use Rattle.wasm_num.specs.Shapes.{num_operands, num_result}

@@ -1,5 +1,5 @@
 -- How the instructions of a sequence join.
-use Rattle.std.proofs.Common.{◌≡◌, ℕ, ◌+◌, ◌<◌, List, length, drop, get_or, Option, Some, None, Bool, true, refl, sym, ap, ◌∙◌, subst, arith}
+use Rattle.std.proofs.Common.{◌≡◌, ℕ, ◌+◌, ◌<◌, List, length, drop, get_or, Option, Some, None, true, refl, sym, ap, ◌∙◌, subst, arith}
 use Rattle.std.proofs.lemmas.List.{at_drop_more}
 use Rattle.wasm_num.specs.declared.ValType.{ValType}
 use Rattle.module_ast.specs.declared.code.Instr.{Instr}
@@ -10,7 +10,7 @@ use Rattle.module_ast.specs.Seen.{before, code_of}
 use Rattle.module_ast.specs.Positions.{code_size, goes_on}
 use Rattle.module_ast.specs.Typing.{Context}
 use Rattle.code_valid.specs.Checking.{Stack, apply, effect, with_some, marked, or_else}
-use Rattle.code_valid.specs.Control.{Control, here, with_here, height_here, context_in}
+use Rattle.code_valid.specs.Control.{Control, here, with_here, context_in}
 use Rattle.code_valid.specs.Survey.{Notes, see, note, on_one, survey}
 use Rattle.code_valid.specs.Acting.{plain_of, IsPlain, effect_of, marked_by, goes_on_by, pass}
 

@@ -1,5 +1,5 @@
 -- Whether there is a table, and a memory.
-use Rattle.std.proofs.Common.{◌≡◌, ℕ, ◌<◌, List, [], ◌∷◌, length, Bool, true, false, refl, arith}
+use Rattle.std.proofs.Common.{◌≡◌, ◌<◌, List, [], ◌∷◌, length, Bool, true, false, refl, arith}
 use Rattle.std.specs.Prelude.{◌↔◌, IsTrue}
 use Rattle.code_valid.specs.Checking.{is_some_list}
 

@@ -1,7 +1,6 @@
 -- What the calls of the check answer.
 use Rattle.std.specs.Prelude.{◌≡◌, Option, Some, None, true, false, List, Result, Ok, Err}
 use Rattle.wasm_num.specs.declared.ValType.{ValType}
-use Rattle.wasm_num.specs.declared.BlockKind.{BlockKind}
 use Rattle.ctrl_stack.specs.declared.stack.StackFault.{StackFault}
 use Rattle.ctrl_stack.specs.declared.stack.StackFault.TheVariants.{Mismatch}
 use Rattle.ctrl_stack.specs.declared.stack.StackFault.TheVariants as faults

@@ -1,5 +1,5 @@
 -- What the check of a whole body answers.
-use Rattle.std.specs.Prelude.{◌≡◌, ℕ, ◌<◌, List, [], ◌∷◌, length, Result, Ok, Err}
+use Rattle.std.specs.Prelude.{ℕ, ◌<◌, [], ◌∷◌, length}
 use Rattle.module_ast.specs.declared.module.Module.{Module}
 use Rattle.module_ast.specs.Tree.{Tree}
 use Rattle.module_ast.specs.Limits.{IsWhole}

@@ -1,4 +1,4 @@
-use Rattle.std.proofs.Common.{◌≡◌, ◌≤◌, ◌+◌, drop, arith, ap, ◌∙◌}
+use Rattle.std.proofs.Common.{◌+◌, drop, arith, ap, ◌∙◌}
 use Rattle.module_ast.specs.Tree.{weight}
 use Rattle.module_ast.specs.Seen.{before, code_of}
 use Rattle.module_ast.specs.Positions.{code_size}
