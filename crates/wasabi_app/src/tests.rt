@@ -424,11 +424,11 @@ fn nested(alloc: Global, depth: usize) -> Result<Vec<u8>, AllocError> {
     body.push(0x0B)?;
     let mut content = Vec::new(alloc);
     content.push(1)?;
-    leb_binary::put_u32(&mut content, body.len() as u32)?;
+    leb_binary::put_u32(&mut content, u32::try_from(body.len()).unwrap_or(0))?;
     content.extend_from_slice(&body)?;
     let mut bytes = Vec::from_slice(alloc, &ONE_NOP[..25])?;
     bytes.push(0x0A)?;
-    leb_binary::put_u32(&mut bytes, content.len() as u32)?;
+    leb_binary::put_u32(&mut bytes, u32::try_from(content.len()).unwrap_or(0))?;
     bytes.extend_from_slice(&content)?;
     Ok(bytes)
 }
