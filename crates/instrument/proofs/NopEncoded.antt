@@ -1,6 +1,7 @@
 -- The modules of nops with hooks can be written in canonical bytes.
 use Rattle.std.proofs.Common.{◌≡◌, ℕ, ◌^◌, ◌<◌, List, Bool, refl, sym, ap, ◌∙◌, subst, arith}
 use Rattle.std.proofs.lemmas.List.Elements.{All-from_recursion}
+use Rattle.module_ast.specs.Texts.{Text}
 use Rattle.module_ast.specs.declared.module.Body.{Body}
 use Rattle.module_ast.specs.declared.module.Module.{Module}
 use Rattle.module_ast.specs.declared.module.Which.TheVariants.{Locals, Nesting}
@@ -15,7 +16,7 @@ use Rattle.instrument.proofs.NopValid.{output_within}
 use Rattle.instrument.proofs.NopParts.{IsTold, told_output, original_long, output_short}
 
 -- It is within the wide limits, and its bytes are few enough.
-pub output_whole : (name : List ℕ) (count : ℕ) (hooks : Hooks) (told : Bool) → IsNopModule name count → IsNopChoice hooks → IsTold hooks count told → IsWhole (nops_output told name count)
+pub output_whole : (name : Text) (count : ℕ) (hooks : Hooks) (told : Bool) → IsNopModule name count → IsNopChoice hooks → IsTold hooks count told → IsWhole (nops_output told name count)
 output_whole name count hooks told known choice t =
     let within = subst (IsWithin wide) (told_output name count hooks told choice t) (output_within name count hooks choice) in
     let long = original_long name count in
@@ -28,5 +29,5 @@ output_whole name count hooks told known choice t =
     }
 
 -- Its bytes are the output.
-pub output_written : (name : List ℕ) (count : ℕ) (hooks : Hooks) (told : Bool) (m : Module) (bytes : List ℕ) → IsNopChoice hooks → IsTold hooks count told → m ≡ nops_output told name count → bytes ≡ module_bytes m → bytes ≡ output_bytes (nop_module name count) hooks
+pub output_written : (name : Text) (count : ℕ) (hooks : Hooks) (told : Bool) (m : Module) (bytes : List ℕ) → IsNopChoice hooks → IsTold hooks count told → m ≡ nops_output told name count → bytes ≡ module_bytes m → bytes ≡ output_bytes (nop_module name count) hooks
 output_written name count hooks told m bytes choice t made e = e ∙ ap module_bytes (made ∙ sym (told_output name count hooks told choice t))

@@ -4,6 +4,7 @@ use Rattle.std.specs.Prelude.{codes, filter, flat_map, fold}
 use Rattle.wasm_num.specs.declared.BlockKind.TheVariants.{Function}
 use Rattle.wasm_num.specs.declared.ValType.{ValType}
 use Rattle.wasm_num.specs.declared.ValType.TheVariants.{I32}
+use Rattle.module_ast.specs.Texts.{Text}
 use Rattle.module_ast.specs.declared.module.Item.TheVariants as items
 use Rattle.module_ast.specs.declared.module.ExportKind.TheVariants.{Func}
 use Rattle.module_ast.specs.declared.module.Module.{Module}
@@ -28,10 +29,10 @@ told_nops p zero = done
 told_nops p (suc n) = plain (i32_const (pos 0)) (plain (i32_const (pos p)) (plain (call 0) (plain nop (told_nops (p + 1) n))))
 
 -- the module of told nops
-abbrev pub hooked_module : (name : List ℕ) (count : ℕ) → Module
+abbrev pub hooked_module : (name : Text) (count : ℕ) → Module
 hooked_module name count = record {
   types = record { params = []; results = [] } ∷ record { params = I32 ∷ I32 ∷ []; results = [] } ∷ [];
-  imports = record { «module» = hook_module; name = codes "nop"; item = items.Func 1 } ∷ [];
+  imports = record { «module» = hook_module_text; name = hook_text (Plain Nop); item = items.Func 1 } ∷ [];
   funcs = 0 ∷ [];
   tables = [];
   memories = [];
@@ -60,7 +61,7 @@ nops_end zero = refl
 nops_end (suc n) = nops_end n
 
 -- the function of the module
-abbrev pub nop_site : (name : List ℕ) (count : ℕ) → Site
+abbrev pub nop_site : (name : Text) (count : ℕ) → Site
 nop_site name count = site_of (nop_module name count) 0 0 (record { groups = []; code = nops count done })
 
 -- the keys of nop stay where nop is selected
@@ -74,16 +75,16 @@ untold_keys zero more = refl
 untold_keys (suc n) more = untold_keys n more
 
 -- the keys of the body, whatever is selected: those of the entry, of the nops and of the end
-keys_of_body : (name : List ℕ) (n : ℕ) → flat_map (live_keys (nop_site name n)) (places (nops n done)) ≡ Begin Function ∷ (nop_keys n ++ Return [] ∷ End Function ∷ [])
+keys_of_body : (name : Text) (n : ℕ) → flat_map (live_keys (nop_site name n)) (places (nops n done)) ≡ Begin Function ∷ (nop_keys n ++ Return [] ∷ End Function ∷ [])
 keys_of_body name n =
     ap (λ l. Begin Function ∷ l)
     (keys_of_nops (nop_site name n) (function_scope (nops n done) ∷ []) 0 n (at (code_size (nops n done)) (ends_live true (nops n done)) (closes (function_scope (nops n done))) [] ∷ [])
     ∙ ap (λ live. nop_keys n ++ flat_map (live_keys (nop_site name n)) (at (code_size (nops n done)) live (closes (function_scope (nops n done))) [] ∷ [])) (nops_end n))
 
-wanted_hooked : (name : List ℕ) (n : ℕ) → wanted_keys nop_group (nop_site name n) ≡ nop_keys n
+wanted_hooked : (name : Text) (n : ℕ) → wanted_keys nop_group (nop_site name n) ≡ nop_keys n
 wanted_hooked name n = ap (filter (is_wanted nop_group)) (keys_of_body name n) ∙ told_keys n (Return [] ∷ End Function ∷ []) ∙ append-nil (nop_keys n)
 
-wanted_none : (name : List ℕ) (n : ℕ) → wanted_keys no_groups (nop_site name n) ≡ []
+wanted_none : (name : Text) (n : ℕ) → wanted_keys no_groups (nop_site name n) ≡ []
 wanted_none name n = ap (filter (is_wanted no_groups)) (keys_of_body name n) ∙ untold_keys n (Return [] ∷ End Function ∷ [])
 
 -- a key that is there is not added
@@ -92,15 +93,15 @@ one_key zero = refl
 one_key (suc n) = one_key n
 
 -- the one key, where nop is selected and there is one
-pub needed_hooked : (name : List ℕ) (c : ℕ) → needed (nop_module name (suc c)) nop_group ≡ Plain Nop ∷ []
+pub needed_hooked : (name : Text) (c : ℕ) → needed (nop_module name (suc c)) nop_group ≡ Plain Nop ∷ []
 needed_hooked name c = ap (λ l. distinct_keys (l ++ [])) (wanted_hooked name (suc c)) ∙ ap distinct_keys (append-nil (nop_keys (suc c))) ∙ one_key c
 
 -- no key, where no group is selected
-pub needed_none : (name : List ℕ) (count : ℕ) → needed (nop_module name count) no_groups ≡ []
+pub needed_none : (name : Text) (count : ℕ) → needed (nop_module name count) no_groups ≡ []
 needed_none name count = ap (λ l. distinct_keys (l ++ [])) (wanted_none name count)
 
 -- no key, where there is no nop
-pub needed_empty : (name : List ℕ) → needed (nop_module name 0) nop_group ≡ []
+pub needed_empty : (name : Text) → needed (nop_module name 0) nop_group ≡ []
 needed_empty name = refl
 
 -- nops need no temporaries
@@ -109,12 +110,12 @@ temps_of_nops hooks s scopes p zero more = refl
 temps_of_nops hooks s scopes p (suc n) more = temps_of_nops hooks s scopes (p + 1) n more
 
 -- nor does the end of the function, where its results are not told
-pub temps_hooked : (name : List ℕ) (n : ℕ) → body_temps nop_group (nop_site name n) ≡ []
+pub temps_hooked : (name : Text) (n : ℕ) → body_temps nop_group (nop_site name n) ≡ []
 temps_hooked name n =
     temps_of_nops nop_group (nop_site name n) (function_scope (nops n done) ∷ []) 0 n (at (code_size (nops n done)) (ends_live true (nops n done)) (closes (function_scope (nops n done))) [] ∷ [])
     ∙ ap (λ live. flat_map (place_temps nop_group (nop_site name n)) (at (code_size (nops n done)) live (closes (function_scope (nops n done))) [] ∷ [])) (nops_end n)
 
-pub temps_none : (name : List ℕ) (n : ℕ) → body_temps no_groups (nop_site name n) ≡ []
+pub temps_none : (name : Text) (n : ℕ) → body_temps no_groups (nop_site name n) ≡ []
 temps_none name n =
     temps_of_nops no_groups (nop_site name n) (function_scope (nops n done) ∷ []) 0 n (at (code_size (nops n done)) (ends_live true (nops n done)) (closes (function_scope (nops n done))) [] ∷ [])
     ∙ ap (λ live. flat_map (place_temps no_groups (nop_site name n)) (at (code_size (nops n done)) live (closes (function_scope (nops n done))) [] ∷ [])) (nops_end n)
@@ -130,37 +131,37 @@ setting_with hooks keys s temps = record {
 }
 
 -- live nops inside the function, told
-live_hooked : (name : List ℕ) (m p n : ℕ) → live_code (setting_with nop_group (Plain Nop ∷ []) (nop_site name m) []) (function_scope (nops m done) ∷ []) p (nops n done) ≡ told_nops p n
+live_hooked : (name : Text) (m p n : ℕ) → live_code (setting_with nop_group (Plain Nop ∷ []) (nop_site name m) []) (function_scope (nops m done) ∷ []) p (nops n done) ≡ told_nops p n
 live_hooked name m p zero = refl
 live_hooked name m p (suc n) = ap (λ k. plain (i32_const (pos 0)) (plain (i32_const (pos p)) (plain (call 0) (plain nop k)))) (live_hooked name m (p + 1) n)
 
 -- and not told
-live_none : (name : List ℕ) (m p n : ℕ) → live_code (setting_with no_groups [] (nop_site name m) []) (function_scope (nops m done) ∷ []) p (nops n done) ≡ nops n done
+live_none : (name : Text) (m p n : ℕ) → live_code (setting_with no_groups [] (nop_site name m) []) (function_scope (nops m done) ∷ []) p (nops n done) ≡ nops n done
 live_none name m p zero = refl
 live_none name m p (suc n) = ap (plain nop) (live_none name m (p + 1) n)
 
-body_hooked : (name : List ℕ) (n : ℕ) → rewritten_body (setting_with nop_group (Plain Nop ∷ []) (nop_site name n) (body_temps nop_group (nop_site name n))) ≡ record { groups = []; code = told_nops 0 n }
+body_hooked : (name : Text) (n : ℕ) → rewritten_body (setting_with nop_group (Plain Nop ∷ []) (nop_site name n) (body_temps nop_group (nop_site name n))) ≡ record { groups = []; code = told_nops 0 n }
 body_hooked name n =
     ap (λ temps. rewritten_body (setting_with nop_group (Plain Nop ∷ []) (nop_site name n) temps)) (temps_hooked name n)
     ∙ ap (λ code. record { groups = []; code = code }) (live_hooked name n 0 n)
 
-body_none : (name : List ℕ) (n : ℕ) → rewritten_body (setting_with no_groups [] (nop_site name n) (body_temps no_groups (nop_site name n))) ≡ record { groups = []; code = nops n done }
+body_none : (name : Text) (n : ℕ) → rewritten_body (setting_with no_groups [] (nop_site name n) (body_temps no_groups (nop_site name n))) ≡ record { groups = []; code = nops n done }
 body_none name n =
     ap (λ temps. rewritten_body (setting_with no_groups [] (nop_site name n) temps)) (temps_none name n)
     ∙ ap (λ code. record { groups = []; code = code }) (live_none name n 0 n)
 
 -- the output, where nop is selected and there is one
-pub output_hooked : (name : List ℕ) (c : ℕ) → output (nop_module name (suc c)) nop_group ≡ hooked_module name (suc c)
+pub output_hooked : (name : Text) (c : ℕ) → output (nop_module name (suc c)) nop_group ≡ hooked_module name (suc c)
 output_hooked name c =
     ap (output_with (nop_module name (suc c)) nop_group) (needed_hooked name c)
     ∙ ap (λ body. record (hooked_module name (suc c)) { bodies = body ∷ [] }) (body_hooked name (suc c))
 
 -- the output is the original, where no group is selected
-pub output_none : (name : List ℕ) (count : ℕ) → output (nop_module name count) no_groups ≡ nop_module name count
+pub output_none : (name : Text) (count : ℕ) → output (nop_module name count) no_groups ≡ nop_module name count
 output_none name count =
     ap (output_with (nop_module name count) no_groups) (needed_none name count)
     ∙ ap (λ body. record (nop_module name count) { bodies = body ∷ [] }) (body_none name count)
 
 -- or there is no nop
-pub output_empty : (name : List ℕ) → output (nop_module name 0) nop_group ≡ nop_module name 0
+pub output_empty : (name : Text) → output (nop_module name 0) nop_group ≡ nop_module name 0
 output_empty name = refl

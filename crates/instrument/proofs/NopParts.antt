@@ -1,6 +1,7 @@
 -- The module of nops with hooks, part by part, and its bytes, section by section.
 use Rattle.std.proofs.Common.{◌≡◌, ℕ, zero, suc, ◌+◌, ◌*◌, ◌^◌, ◌<◌, ◌≤◌, inl, inr, List, [], ◌∷◌, ◌++◌, Bool, true, false, refl, sym, ap, ◌∙◌, length, arith, length-append, append-nil}
 use Rattle.std.specs.Prelude.{IsTrue, ◌↔◌, None}
+use Rattle.module_ast.specs.Texts.{Text}
 use Rattle.module_ast.specs.declared.module.ExportKind.TheVariants.{Func}
 use Rattle.module_ast.specs.declared.module.Export.{Export}
 use Rattle.module_ast.specs.declared.module.Body.{Body}
@@ -26,10 +27,10 @@ abbrev pub nop_body : (told : Bool) → Site → (count : ℕ) → Body
 nop_body told s count = record { groups = []; code = nops_rewritten told s count }
 
 -- one export of a function
-abbrev pub nop_export : (name : List ℕ) → (index : ℕ) → Export
+abbrev pub nop_export : (name : Text) → (index : ℕ) → Export
 nop_export name index = record { name = name; kind = Func; index = index }
 
-pub site_is_first : (name : List ℕ) (count : ℕ) → IsFirst (nop_site name count)
+pub site_is_first : (name : Text) (count : ℕ) → IsFirst (nop_site name count)
 site_is_first name count = record { func = refl; starts = refl }
 
 -- the body with these types of temporaries
@@ -40,7 +41,7 @@ body_with told s count temps = record {
 }
 
 -- nops need no further locals
-body_is : (told : Bool) (name : List ℕ) (count : ℕ) → rewritten_body (nop_setting told (nop_site name count)) ≡ nop_body told (nop_site name count) count
+body_is : (told : Bool) (name : Text) (count : ℕ) → rewritten_body (nop_setting told (nop_site name count)) ≡ nop_body told (nop_site name count) count
 body_is true name count = ap (body_with true (nop_site name count) count) (temps_hooked name count)
 body_is false name count = ap (body_with false (nop_site name count) count) (temps_none name count)
 
@@ -71,7 +72,7 @@ parts_module told e b = record {
   customs = [];
 }
 
-parts_are : (told : Bool) (name : List ℕ) (count : ℕ) (b : Body) → parts_module told (nop_export name (length (nop_keys told))) b ≡ record (nops_output told name count) { bodies = b ∷ [] }
+parts_are : (told : Bool) (name : Text) (count : ℕ) (b : Body) → parts_module told (nop_export name (length (nop_keys told))) b ≡ record (nops_output told name count) { bodies = b ∷ [] }
 parts_are true name count b = refl
 parts_are false name count b = refl
 
@@ -93,7 +94,7 @@ whole m = record {
 }
 
 -- A module of these parts, and of nothing else, is the one that is written.
-pub output_from : (told : Bool) (name : List ℕ) (count : ℕ) (m : Module) → m.types ≡ nop_types told → m.imports ≡ nop_imports told → m.funcs ≡ 0 ∷ [] → m.exports ≡ nop_export name (length (nop_keys told)) ∷ []
+pub output_from : (told : Bool) (name : Text) (count : ℕ) (m : Module) → m.types ≡ nop_types told → m.imports ≡ nop_imports told → m.funcs ≡ 0 ∷ [] → m.exports ≡ nop_export name (length (nop_keys told)) ∷ []
     → m.bodies ≡ nop_body told (nop_site name count) count ∷ [] → IsBare m → m ≡ nops_output told name count
 output_from told name count m types imports funcs exports bodies bare =
     let body = nop_body told (nop_site name count) count in
@@ -114,7 +115,7 @@ sections_bytes told e b =
 skip : (a e b : List ℕ) → a ++ [] ++ [] ++ [] ++ e ++ [] ++ [] ++ b ++ [] ≡ a ++ e ++ b
 skip a e b = simp append-nil
 
-sections_by : (told : Bool) (name : List ℕ) (count : ℕ) → module_bytes (record (nops_output told name count) { bodies = nop_body told (nop_site name count) count ∷ [] }) ≡ sections_bytes told (nop_export name (length (nop_keys told))) (nop_body told (nop_site name count) count)
+sections_by : (told : Bool) (name : Text) (count : ℕ) → module_bytes (record (nops_output told name count) { bodies = nop_body told (nop_site name count) count ∷ [] }) ≡ sections_bytes told (nop_export name (length (nop_keys told))) (nop_body told (nop_site name count) count)
 sections_by true name count =
     skip (header ++ vec_section 1 func_type_bytes (nop_types true) ++ vec_section 2 import_bytes (nop_imports true) ++ vec_section 3 unsigned_bytes (0 ∷ []))
     (vec_section 7 export_bytes (nop_export name 1 ∷ []))
@@ -125,7 +126,7 @@ sections_by false name count =
     (vec_section 10 (λ b. sized_bytes (body_bytes b)) (nop_body false (nop_site name count) count ∷ []))
 
 -- the bytes of the module that is written
-output_sections : (told : Bool) (name : List ℕ) (count : ℕ) → module_bytes (nops_output told name count) ≡ sections_bytes told (nop_export name (length (nop_keys told))) (nop_body told (nop_site name count) count)
+output_sections : (told : Bool) (name : Text) (count : ℕ) → module_bytes (nops_output told name count) ≡ sections_bytes told (nop_export name (length (nop_keys told))) (nop_body told (nop_site name count) count)
 output_sections told name count = ap (λ b. module_bytes (record (nops_output told name count) { bodies = b ∷ [] })) (body_is told name count) ∙ sections_by told name count
 
 -- Nops are told where nop is selected and there is one.
@@ -141,7 +142,7 @@ is_told true h = refl
 is_told false h = absurd (cc)
 
 -- so the module that is written is the output
-pub told_output : (name : List ℕ) (count : ℕ) (hooks : Hooks) (told : Bool) → IsNopChoice hooks → IsTold hooks count told → output (nop_module name count) hooks ≡ nops_output told name count
+pub told_output : (name : Text) (count : ℕ) (hooks : Hooks) (told : Bool) → IsNopChoice hooks → IsTold hooks count told → output (nop_module name count) hooks ≡ nops_output told name count
 told_output name count hooks told (inl e) t =
     ap (output (nop_module name count)) e ∙ ap (output_with (nop_module name count) no_groups) (needed_none name count)
     ∙ ap (λ t. nops_output t name count) (untold told (IsTrue hooks.nop × (0 < count)) t.0 (λ h. let f = ap (λ (g : Hooks). g.nop) e in absurd (cc (h.0, f))))
@@ -167,7 +168,7 @@ code_length told s n f h =
     omega arith
 
 -- of what the export section contains
-pub export_length : (name : List ℕ) (index : ℕ) → length name ≤ narrow_file → index < 2 ^ 32 → length (vec_bytes export_bytes (nop_export name index ∷ [])) ≤ length name + 12
+pub export_length : (name : Text) (index : ℕ) → length name ≤ narrow_file → index < 2 ^ 32 → length (vec_bytes export_bytes (nop_export name index ∷ [])) ≤ length name + 12
 export_length name index h i =
     let c = sized_length name (omega arith) in
     let u = unsigned_five index i in
@@ -180,7 +181,7 @@ nops_long : (n : ℕ) → length (code_bytes (nops n done)) ≡ n
 nops_long zero = refl
 nops_long (suc n) = let r = nops_long n in omega arith
 
-name_long : (name : List ℕ) → length name ≤ length (vec_section 7 export_bytes (nop_export name 0 ∷ []))
+name_long : (name : Text) → length name ≤ length (vec_section 7 export_bytes (nop_export name 0 ∷ []))
 name_long name =
     let content = vec_bytes export_bytes (nop_export name 0 ∷ []) in
     let inner : length content ≡ length (unsigned_bytes 1) + length (sized_bytes name ++ 0 ∷ unsigned_bytes 0) = length-append (unsigned_bytes 1) ((sized_bytes name ++ 0 ∷ unsigned_bytes 0) ++ []) ∙ ap (λ l. length (unsigned_bytes 1) + length l) (append-nil (sized_bytes name ++ 0 ∷ unsigned_bytes 0)) in
@@ -195,7 +196,7 @@ code_long n =
     omega (arith, nops_long n, length-append (unsigned_bytes (length content)) content, length-append (unsigned_bytes (length body)) body, length-append (code_bytes (nops n done)) (0x0B ∷ []))
 
 -- both are short where the original is
-pub original_long : (name : List ℕ) (count : ℕ) → length name + count ≤ length (module_bytes (nop_module name count))
+pub original_long : (name : Text) (count : ℕ) → length name + count ≤ length (module_bytes (nop_module name count))
 original_long name count =
     let front = header ++ vec_section 1 func_type_bytes (nop_module name count).types ++ vec_section 3 unsigned_bytes (0 ∷ []) in
     let named = vec_section 7 export_bytes (nop_export name 0 ∷ []) in
@@ -215,7 +216,7 @@ keys_length : (told : Bool) → length (nop_keys told) ≤ 1
 keys_length true = omega arith
 keys_length false = omega arith
 
-named_length : (name : List ℕ) (index : ℕ) → length name ≤ narrow_file → index < 2 ^ 32 → length (vec_section 7 export_bytes (nop_export name index ∷ [])) ≤ length name + 18
+named_length : (name : Text) (index : ℕ) → length name ≤ narrow_file → index < 2 ^ 32 → length (vec_section 7 export_bytes (nop_export name index ∷ [])) ≤ length name + 18
 named_length name index h i =
     let e = export_length name index h i in
     omega (arith, section_length 7 (vec_bytes export_bytes (nop_export name index ∷ [])) (omega arith))
@@ -230,7 +231,7 @@ short_by : (a b c whole : List ℕ) (name count : ℕ) → length whole ≡ leng
 short_by a b c whole name count e n k f g h = omega (arith, length-append (a ++ b) c, length-append a b)
 
 -- The bytes that are written are no more than an output may have.
-pub output_short : (told : Bool) (name : List ℕ) (count : ℕ) → length name ≤ narrow_file → count ≤ narrow_file → length (module_bytes (nops_output told name count)) ≤ 268435456
+pub output_short : (told : Bool) (name : Text) (count : ℕ) → length name ≤ narrow_file → count ≤ narrow_file → length (module_bytes (nops_output told name count)) ≤ 268435456
 output_short told name count n c =
     let index = length (nop_keys told) in
     let s = nop_site name count in

@@ -1,9 +1,10 @@
 -- The modules of one function of nops, which is exported, and the sets of groups that they are told with.
-use Rattle.std.specs.Prelude.{◌≡◌, ℕ, ◌≤◌, ◌<◌, ◌^◌, ◌⊎◌, List, [], ◌∷◌, length, None, All, IsUtf8}
+use Rattle.std.specs.Prelude.{◌≡◌, ℕ, ◌≤◌, ◌<◌, ◌^◌, ◌⊎◌, List, [], ◌∷◌, length, None, All}
 use Rattle.module_ast.specs.declared.module.ExportKind.TheVariants.{Func}
 use Rattle.module_ast.specs.declared.module.Body.{Body}
 use Rattle.module_ast.specs.declared.module.Module.{Module}
 use Rattle.module_ast.specs.Tree.{done}
+use Rattle.module_ast.specs.Texts.{Text}
 use Rattle.module_ast.specs.Canonical.{code_bytes, module_bytes, without_customs}
 use Rattle.hook_select.specs.declared.GroupName.TheVariants.{Nop}
 pub use Rattle.rewrite.specs.Nops.{nops}
@@ -11,7 +12,7 @@ use Rattle.hook_select.specs.declared.Hooks.{Hooks}
 use Rattle.hook_select.specs.Groups.{hooks_of, is_among}
 
 -- one function without parameters and results, exported under a name, whose body is so many nops
-abbrev pub nop_module : (name : List ℕ) → (count : ℕ) → Module
+abbrev pub nop_module : (name : Text) → (count : ℕ) → Module
 nop_module name count = record {
   types = record { params = []; results = [] } ∷ [];
   imports = [];
@@ -42,17 +43,16 @@ abbrev pub narrow_file : ℕ
 narrow_file = 16777216
 
 -- a module of nops whose file is short enough
-pub record IsNopModule (name : List ℕ) (count : ℕ) : Type 0 where
-  pub text : IsUtf8 name
+pub record IsNopModule (name : Text) (count : ℕ) : Type 0 where
   pub short : length (module_bytes (nop_module name count)) ≤ narrow_file
 
 -- the module is of this form, custom sections aside
-abbrev pub IsNops : Module → (name : List ℕ) → (count : ℕ) → Type 0
+abbrev pub IsNops : Module → (name : Text) → (count : ℕ) → Type 0
 IsNops m name count = without_customs m ≡ nop_module name count
 
 -- it is so under no name and with no number of nops
 abbrev pub IsNoNops : Module → Type 0
-IsNoNops m = (name : List ℕ) (count : ℕ) → IsNops m name count → ⊥
+IsNoNops m = (name : Text) (count : ℕ) → IsNops m name count → ⊥
 
 -- the module has functions, their types and exports alone, custom sections aside
 pub record HasFunctionsAlone (m : Module) : Type 0 where

@@ -2,6 +2,7 @@
 use Rattle.std.proofs.Common.{◌≡◌, ℕ, ◌≤◌, List, [], ◌∷◌, ◌++◌, length, sym, ap, subst, length-append, arith}
 use Rattle.std.specs.Prelude.{map}
 use Rattle.std.proofs.lemmas.List.{length-map, map-id}
+use Rattle.leb_binary.specs.Texts.{Text}
 use Rattle.leb_binary.specs.Leb.{IsName}
 use Rattle.leb_binary.specs.Shortest.{unsigned_bytes}
 use Rattle.leb_binary.proofs.Spelled.{shortest_unsigned}
@@ -41,8 +42,8 @@ least_sized a size content bytes e n h =
     least_both (unsigned_bytes (length a)) a size content bytes e (omega arith) h
 
 -- names
-pub name_least : (bytes text : List ℕ) → IsName bytes text → length (sized_bytes text) ≤ length bytes
-name_least bytes text (size, e, n, u) = least_sized text size text bytes e n (omega arith)
+pub name_least : (bytes : List ℕ) (text : Text) → IsName bytes text → length (sized_bytes text.bytes) ≤ length bytes
+name_least bytes text (size, e, n) = least_sized text.bytes size text.bytes bytes e n (omega arith)
 
 module _ {A B : Type 0} (item : List ℕ → B → Type 0) (f : A → List ℕ) (view : A → B) (w : AtLeast item f view) where
   -- one item after another

@@ -77,7 +77,7 @@ item_least bytes (items.Global g) (rest, e, h) = least_op 0x03 (global_type_byte
 
 import_at_least : (bytes : List ℕ) (i : Import) → IsImport bytes (import_of i) → length (import_bytes i) ≤ length bytes
 import_at_least bytes i (front, rest, e, h, (middle, back, f, j, k)) =
-    least_three (sized_bytes i.module) (sized_bytes i.name) (item_bytes i.item) front middle back rest bytes e f (name_least front i.module h) (name_least middle i.name j) (item_least back i.item k)
+    least_three (sized_bytes i.module.bytes) (sized_bytes i.name.bytes) (item_bytes i.item) front middle back rest bytes e f (name_least front i.module h) (name_least middle i.name j) (item_least back i.item k)
 
 pub import_least : AtLeast IsImport import_bytes import_of
 import_least = record { least = import_at_least }
@@ -99,7 +99,7 @@ kind_least bytes kinds.Global h = omega (arith, ap length h)
 export_at_least : (bytes : List ℕ) (x : Export) → IsExport bytes (export x) → length (export_bytes x) ≤ length bytes
 export_at_least bytes x (front, rest, e, h, (a, b, f, j, k)) =
     let target = kind_byte x.kind ∷ unsigned_bytes x.index in
-    least_both (sized_bytes x.name) target front rest bytes e (name_least front x.name h) (least_both (kind_byte x.kind ∷ []) (unsigned_bytes x.index) a b rest f (kind_least a x.kind j) (u32_least b x.index k))
+    least_both (sized_bytes x.name.bytes) target front rest bytes e (name_least front x.name h) (least_both (kind_byte x.kind ∷ []) (unsigned_bytes x.index) a b rest f (kind_least a x.kind j) (u32_least b x.index k))
 
 pub export_least : AtLeast IsExport export_bytes export
 export_least = record { least = export_at_least }

@@ -1,7 +1,7 @@
 -- Writers: functions to bytes that are in a grammar where what they write fits.
 use Rattle.std.proofs.Common.{ℕ, ◌^◌, ◌<◌, ◌≤◌, ◌⊎◌, inl, inr, List, [], ◌∷◌, ◌++◌, length, refl, sym, ap, subst, length-append, arith}
 use Rattle.std.proofs.lemmas.Bool.{cases_lt}
-use Rattle.std.specs.Prelude.{map, All, IsUtf8}
+use Rattle.std.specs.Prelude.{map, All}
 use Rattle.std.proofs.lemmas.List.{length-map, map-id}
 use Rattle.std.proofs.lemmas.List.Elements.{All-head, All-tail}
 use Rattle.leb_binary.specs.Leb.{IsName}
@@ -108,10 +108,10 @@ list_writes item f P w = record {
 }
 
 -- names
-pub name_writes : Writes IsName sized_bytes (λ text. text) IsUtf8
+pub name_writes : Writes IsName (λ text. sized_bytes text.bytes) (λ text. text) (λ text. Unit {0})
 name_writes = record {
-  some = λ text. counted_some (length text) text;
+  some = λ text. counted_some (length text.bytes) text.bytes;
   spelled = λ text h l.
-      let few = back_short (unsigned_bytes (length text)) text l in
-      (unsigned_bytes (length text), refl, u32_spelled (length text) few, h);
+      let few = back_short (unsigned_bytes (length text.bytes)) text.bytes l in
+      (unsigned_bytes (length text.bytes), refl, u32_spelled (length text.bytes) few);
 }

@@ -75,12 +75,12 @@ item_spelled (items.Global g) h = (global_type_bytes g, refl, global_type_spelle
 
 pub import_writes : Writes IsImport import_bytes import_of FitsImport
 import_writes = record {
-  some = λ i. front_some (sized_bytes i.module ++ sized_bytes i.name) (item_bytes i.item) (front_some (sized_bytes i.module) (sized_bytes i.name) (counted_some (length i.module) i.module));
+  some = λ i. front_some (sized_bytes i.module.bytes ++ sized_bytes i.name.bytes) (item_bytes i.item) (front_some (sized_bytes i.module.bytes) (sized_bytes i.name.bytes) (counted_some (length i.module.bytes) i.module.bytes));
   spelled = λ i h l.
-      let owner = sized_bytes i.module in
-      let name = sized_bytes i.name in
+      let owner = sized_bytes i.module.bytes in
+      let name = sized_bytes i.name.bytes in
       let s = three_short owner name (item_bytes i.item) l in
-      (owner, name ++ item_bytes i.item, append_assoc owner name (item_bytes i.item), name_writes.spelled i.module h.module s.front, (name, item_bytes i.item, refl, name_writes.spelled i.name h.name s.middle, item_spelled i.item h.item));
+      (owner, name ++ item_bytes i.item, append_assoc owner name (item_bytes i.item), name_writes.spelled i.module tt s.front, (name, item_bytes i.item, refl, name_writes.spelled i.name tt s.middle, item_spelled i.item h));
 }
 
 -- 5.5.9 globals
@@ -101,11 +101,11 @@ kind_spelled kinds.Global = refl
 
 pub export_writes : Writes IsExport export_bytes export FitsExport
 export_writes = record {
-  some = λ e. front_some (sized_bytes e.name) (kind_byte e.kind ∷ unsigned_bytes e.index) (counted_some (length e.name) e.name);
+  some = λ e. front_some (sized_bytes e.name.bytes) (kind_byte e.kind ∷ unsigned_bytes e.index) (counted_some (length e.name.bytes) e.name.bytes);
   spelled = λ e h l.
-      let name = sized_bytes e.name in
+      let name = sized_bytes e.name.bytes in
       let target = kind_byte e.kind ∷ unsigned_bytes e.index in
-      (name, target, refl, name_writes.spelled e.name h.name (front_short name target l), (kind_byte e.kind ∷ [], unsigned_bytes e.index, refl, kind_spelled e.kind, u32_spelled e.index h.index));
+      (name, target, refl, name_writes.spelled e.name tt (front_short name target l), (kind_byte e.kind ∷ [], unsigned_bytes e.index, refl, kind_spelled e.kind, u32_spelled e.index h));
 }
 
 -- 5.5.12 element segments

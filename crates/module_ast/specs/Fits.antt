@@ -1,5 +1,5 @@
 -- Modules whose numbers are of their sizes: what has to hold for canonical bytes to be in the grammar.
-use Rattle.std.specs.Prelude.{◌≡◌, ℕ, ◌^◌, ◌<◌, length, Option, Some, None, All, IsUtf8}
+use Rattle.std.specs.Prelude.{◌≡◌, ℕ, ◌^◌, ◌<◌, length, Option, Some, None, All}
 use Rattle.leb_binary.specs.Leb.{IsInSize}
 use Rattle.module_ast.specs.declared.ops.MemArg.{MemArg}
 use Rattle.module_ast.specs.declared.module.Range.{Range}
@@ -74,20 +74,17 @@ FitsItem (items.Table r) = FitsRange r
 FitsItem (items.Memory r) = FitsRange r
 FitsItem (items.Global g) = Unit {0}
 
--- an import: two names in UTF-8, and an item
-pub record FitsImport (i : Import) : Type 0 where
-  pub «module» : IsUtf8 i.module
-  pub name : IsUtf8 i.name
-  pub item : FitsItem i.item
+-- an import: its item
+abbrev pub FitsImport : Import → Type 0
+FitsImport i = FitsItem i.item
 
 -- a global: its initial value
 abbrev pub FitsGlobal : GlobalDef → Type 0
 FitsGlobal g = FitsCode g.init
 
--- an export: a name in UTF-8, and an index
-pub record FitsExport (e : Export) : Type 0 where
-  pub name : IsUtf8 e.name
-  pub index : FitsIndex e.index
+-- an export: its index
+abbrev pub FitsExport : Export → Type 0
+FitsExport e = FitsIndex e.index
 
 -- an element segment: indices, and an offset
 pub record FitsElement (e : Element) : Type 0 where

@@ -22,3 +22,5 @@ pub mod Tokens
 pub mod Laws
 pub mod Shortest
 pub mod Fits
+pub mod Ascii
+pub use Rattle.leb_binary.specs.Texts

@@ -1,5 +1,6 @@
 -- The bytes of a file are of one kind alone.
 use Rattle.std.proofs.Common.{◌≡◌, ℕ, ◌<◌, ◌≤◌, inl, inr, List, [], ◌∷◌, length, sym, ap, ◌∙◌, subst, arith, true, false}
+use Rattle.module_ast.specs.Texts.{Text}
 use Rattle.module_ast.specs.declared.module.Module.{Module}
 use Rattle.module_ast.specs.Grammar.{IsFault}
 use Rattle.module_ast.specs.Canonical.{module_bytes}
@@ -71,6 +72,6 @@ pub canonical_short : (bytes : List ℕ) (m : Module) → length bytes ≤ narro
 canonical_short bytes m s g = omega (arith, module_least bytes m g, s)
 
 -- so are those of the module of nops that it is
-pub nops_short : (bytes : List ℕ) (m : Module) (name : List ℕ) (count : ℕ) → length bytes ≤ narrow_file → Gram bytes m
+pub nops_short : (bytes : List ℕ) (m : Module) (name : Text) (count : ℕ) → length bytes ≤ narrow_file → Gram bytes m
     → IsNops m name count → length (module_bytes (nop_module name count)) ≤ narrow_file
 nops_short bytes m name count s g n = subst (λ x. length (module_bytes x) ≤ narrow_file) n (canonical_short bytes m s g)

@@ -1,6 +1,7 @@
 -- Where contents are told, what stands under the subject's name decides the status.
 use Rattle.std.proofs.Common.{◌≡◌, ℕ, ◌<◌, ◌≤◌, ◌⊎◌, inl, inr, List, length, refl, sym, ◌∙◌, ap, subst, arith, Some, None, codes}
 use Rattle.outside_io.specs.Outside.{Contents}
+use Rattle.module_ast.specs.Texts.{Text}
 use Rattle.module_ast.specs.declared.module.Limits.{Limits}
 use Rattle.module_ast.specs.declared.module.Module.{Module}
 use Rattle.module_ast.specs.Validity.{IsValid}
@@ -33,11 +34,11 @@ moved words _ _ _ _ _ _ (to_instrument a p) (to_instrument b q) P h =
     subst (λ x. P x narrow_file narrow) same h
 
 -- a valid module was read
-abbrev HasLoaded : Seen → (name : List ℕ) → (cap : ℕ) → Limits → Type 0
+abbrev HasLoaded : Seen → (name : Text) → (cap : ℕ) → Limits → Type 0
 HasLoaded old name cap limits = (bytes : List ℕ) × (m : Module) × IsRead old.contents name cap bytes × IsFit limits bytes m × IsValid m
 
 -- what came of reading the subject
-data Outcome (old new : Seen) (name : List ℕ) (cap : ℕ) (limits : Limits) : ℕ → Type 0 where
+data Outcome (old new : Seen) (name : Text) (cap : ℕ) (limits : Limits) : ℕ → Type 0 where
   none_loaded : (status : ℕ) (text : List ℕ) → Unloaded name cap limits old new status text → Outcome old new name cap limits status
   loaded : (status : ℕ) → HasLoaded old name cap limits → Outcome old new name cap limits status
   memory_ended : Outcome old new name cap limits 14
@@ -49,14 +50,14 @@ loaded_output words old line written h =
     let a = h.instrumented.accepted in
     (h.bytes, h.instrumented.original, h.subject, record { spelled = a.spelled; within = a.limits }, a.valid)
 
-answer_outcome : (words : List (List ℕ)) (old new : Seen) (name : List ℕ) (cap : ℕ) (limits : Limits) (text : List ℕ) → HasSubject words name cap limits
+answer_outcome : (words : List (List ℕ)) (old new : Seen) (name : Text) (cap : ℕ) (limits : Limits) (text : List ℕ) → HasSubject words name cap limits
     → Answers words old new text → HasLoaded old name cap limits
 answer_outcome words old new name cap limits _ s (checked subject bytes m c i f v u) =
     moved words subject name wide_file cap wide limits (to_check subject c) s (HasLoaded old) (bytes, m, i, f, v)
 answer_outcome words old new name cap limits _ s (instrumented line written h n w) =
     moved words line.subject name narrow_file cap narrow limits (to_instrument line h.command) s (HasLoaded old) (loaded_output words old line written h)
 
-refusal_outcome : (words : List (List ℕ)) (old new : Seen) (name : List ℕ) (cap : ℕ) (limits : Limits) (status : ℕ) (text : List ℕ)
+refusal_outcome : (words : List (List ℕ)) (old new : Seen) (name : Text) (cap : ℕ) (limits : Limits) (status : ℕ) (text : List ℕ)
     → HasSubject words name cap limits → Refuses words old new status text → Outcome old new name cap limits status
 refusal_outcome words old new name cap limits _ _ s (no_command r u) = absurd (subject_refused words name cap limits r s)
 refusal_outcome words old new name cap limits _ _ s (unloaded n c l status text t r u) =
@@ -69,7 +70,7 @@ refusal_outcome words old new name cap limits _ _ s (unwritten line written h n 
     (loaded 5 (loaded_output words old line written h))
 refusal_outcome words old new name cap limits _ _ s (written_no_memory line written h n p) = memory_ended
 
-outcome_of : (words : List (List ℕ)) (old new : Seen) (before after : Printing) (name : List ℕ) (cap : ℕ) (limits : Limits) (status : ℕ)
+outcome_of : (words : List (List ℕ)) (old new : Seen) (before after : Printing) (name : Text) (cap : ℕ) (limits : Limits) (status : ℕ)
     → HasSubject words name cap limits → Ends words old new before after status → Outcome old new name cap limits status
 outcome_of words old new before after name cap limits _ s (answered text a t) = loaded 0 (answer_outcome words old new name cap limits text s a)
 outcome_of words old new before after name cap limits _ s (answer_broken text a t) = loaded 15 (answer_outcome words old new name cap limits text s a)
@@ -79,12 +80,12 @@ outcome_of words old new before after name cap limits _ s (refusal_cut status te
 outcome_of words old new before after name cap limits _ s (refusal_unmade status text r t) = memory_ended
 
 -- bytes that were read are those that are told
-same_bytes : (old : Seen) (told : Contents) (name : List ℕ) (cap : ℕ) (bytes other : List ℕ) → old.contents ≡ Some told → told name ≡ Some bytes
+same_bytes : (old : Seen) (told : Contents) (name : Text) (cap : ℕ) (bytes other : List ℕ) → old.contents ≡ Some told → told name ≡ Some bytes
     → IsRead old.contents name cap other → other ≡ bytes
 same_bytes old told name cap bytes other e n i = let b = holds_told old.contents told name other e i.there in cc
 
 -- a subject that is missing
-missing_unloaded : (old new : Seen) (told : Contents) (name : List ℕ) (cap : ℕ) (limits : Limits) (status : ℕ) (text : List ℕ) → old.contents ≡ Some told
+missing_unloaded : (old new : Seen) (told : Contents) (name : Text) (cap : ℕ) (limits : Limits) (status : ℕ) (text : List ℕ) → old.contents ≡ Some told
     → told name ≡ None → Unloaded name cap limits old new status text → IsKept status 3
 missing_unloaded old new told name cap limits _ _ e n (missing m) = inl refl
 missing_unloaded old new told name cap limits _ _ e n (too_long l t) = inl refl
@@ -92,7 +93,7 @@ missing_unloaded old new told name cap limits _ _ e n (unread r) = inr (inl refl
 missing_unloaded old new told name cap limits _ _ e n (refuted bytes status text i r) = let b = holds_told old.contents told name bytes e i.there in cc
 missing_unloaded old new told name cap limits _ _ e n unloaded_no_memory = inr (inr refl)
 
-missing_kept : (old new : Seen) (told : Contents) (name : List ℕ) (cap : ℕ) (limits : Limits) (status : ℕ) → old.contents ≡ Some told → told name ≡ None
+missing_kept : (old new : Seen) (told : Contents) (name : Text) (cap : ℕ) (limits : Limits) (status : ℕ) → old.contents ≡ Some told → told name ≡ None
     → Outcome old new name cap limits status → IsKept status 3
 missing_kept old new told name cap limits _ e n (none_loaded status text u) = missing_unloaded old new told name cap limits status text e n u
 missing_kept old new told name cap limits _ e n (loaded status (bytes, m, i, f, v)) = let b = holds_told old.contents told name bytes e i.there in cc
@@ -308,7 +309,7 @@ checks_all words old new before after _ (refusal_cut status text r t) subject to
 checks_all words old new before after _ (refusal_unmade status text r t) subject told bytes m c e n g f v = inr (inr (inr refl))
 
 -- a module of nops is valid
-nops_valid : (m : Module) (name : List ℕ) (count : ℕ) → IsNops m name count → IsValid m
+nops_valid : (m : Module) (name : Text) (count : ℕ) → IsNops m name count → IsValid m
 nops_valid m name count n = subst IsValid (sym (ap (λ (x : Module). record x { customs = m.customs }) n)) (dressed_valid name count m.customs)
 
 -- a refusal of a module of nops

@@ -1,6 +1,7 @@
 -- What the bytes of a subject are: no module, one that is unfit, an invalid or a valid one.
 use Rattle.std.specs.Prelude.{ℕ, ◌≤◌, ◌⊎◌, List, length, Option}
 use Rattle.outside_io.specs.Outside.{Contents, Holds}
+use Rattle.module_ast.specs.Texts.{Text}
 use Rattle.module_ast.specs.declared.module.Limits.{Limits}
 use Rattle.module_ast.specs.declared.module.Module.{Module}
 use Rattle.module_ast.specs.declared.module.Which.{Which}
@@ -17,7 +18,7 @@ abbrev pub wide_file : ℕ
 wide_file = 268435456
 
 -- where contents are told, the name has these bytes, which are no more than the cap
-pub record IsRead (held : Option Contents) (name : List ℕ) (cap : ℕ) (bytes : List ℕ) : Type 0 where
+pub record IsRead (held : Option Contents) (name : Text) (cap : ℕ) (bytes : List ℕ) : Type 0 where
   pub there : Holds held name bytes
   pub short : length bytes ≤ cap
 
@@ -50,4 +51,4 @@ IsNopFile bytes name count = (m : Module) × IsFit narrow bytes m × IsNops m na
 
 -- the bytes are a module of nops
 abbrev pub IsTaken : (bytes : List ℕ) → Type 0
-IsTaken bytes = (name : List ℕ) × (count : ℕ) × IsNopFile bytes name count
+IsTaken bytes = (name : Text) × (count : ℕ) × IsNopFile bytes name count

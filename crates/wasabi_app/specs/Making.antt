@@ -1,5 +1,6 @@
 -- How the making of an output ends.
 use Rattle.std.specs.Prelude.{◌≡◌, ℕ, List, length}
+use Rattle.module_ast.specs.Texts.{Text}
 use Rattle.module_ast.specs.declared.module.Module.{Module}
 use Rattle.module_ast.specs.Decoding.{Gram}
 use Rattle.module_ast.specs.Profile.{IsWithin}
@@ -16,7 +17,7 @@ hook_count m hooks = length (needed m hooks)
 
 -- the output of a module of nops, for every file of it, and the line that tells of it
 pub record IsMade (m : Module) (hooks : Hooks) (output text : List ℕ) : Type 0 where
-  pub taken : (name : List ℕ) × (count : ℕ) × IsNops m name count
+  pub taken : (name : Text) × (count : ℕ) × IsNops m name count
   pub instrumented : (file : List ℕ) → Gram file m → IsWithin narrow m → IsInstrumented file hooks output
   pub told : text ≡ wrote_text (length output) (hook_count m hooks)
 

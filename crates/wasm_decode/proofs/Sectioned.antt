@@ -2,6 +2,7 @@
 use Rattle.std.proofs.Common.{◌≡◌, ℕ, List, [], ◌∷◌, ◌++◌, ap, refl, ◌∙◌}
 use Rattle.std.specs.Prelude.{Some}
 use Rattle.std.specs.Global.{Vec}
+use Rattle.leb_binary.specs.Texts.{Text}
 use Rattle.module_ast.specs.declared.module.Range.{Range}
 use Rattle.module_ast.specs.declared.module.FuncType.{FuncType}
 use Rattle.module_ast.specs.declared.module.Import.{Import}
@@ -61,6 +62,6 @@ pub with_start : (bound : ℕ) (d : Draft) (m : Module) (x : ℕ) → IsDraft bo
 with_start bound d m x h start_section = refl
 with_start bound d m x h k = h k
 
-pub with_customs : (bound : ℕ) (d : Draft) (m : Module) (v : Vec (List ℕ)) (x : List ℕ) → IsDraft bound d m → v.items ≡ d.customs.items ++ x ∷ [] → IsDraft bound (record d { customs = v }) (with_section (custom_section, x) m)
+pub with_customs : (bound : ℕ) (d : Draft) (m : Module) (v : Vec Text) (x : Text) → IsDraft bound d m → v.items ≡ d.customs.items ++ x ∷ [] → IsDraft bound (record d { customs = v }) (with_section (custom_section, x) m)
 with_customs bound d m v x h e custom_section = e ∙ ap (λ l. l ++ x ∷ []) (h custom_section)
 with_customs bound d m v x h e k = h k

@@ -2,6 +2,7 @@
 use Rattle.std.proofs.Common.{◌≡◌, ℕ, ◌+◌, inl, inr, List, [], ◌∷◌, ◌++◌, refl, sym, ap, ◌∙◌, subst, append_assoc, arith}
 use Rattle.std.specs.Prelude.{map, Bool, true, false, Option, Some, None, cond, nat_lt}
 use Rattle.std.proofs.lemmas.Bool.{ltb-true, ltb-false}
+use Rattle.leb_binary.specs.Texts.{Text}
 use Rattle.module_ast.specs.declared.module.Module.{Module}
 use Rattle.module_ast.specs.declared.module.Body.{Body}
 use Rattle.module_ast.specs.declared.module.Group.{Group}
@@ -97,7 +98,7 @@ few_in bound d g h e =
 
 -- ---- the module
 
-abbrev tree_by : List grammar.FuncType → List grammar.Import → List ℕ → List Range → List Range → List grammar.GlobalDef → List grammar.Export → Option ℕ → List grammar.Element → List grammar.Body → List grammar.Segment → List (List ℕ) → grammar.Module
+abbrev tree_by : List grammar.FuncType → List grammar.Import → List ℕ → List Range → List Range → List grammar.GlobalDef → List grammar.Export → Option ℕ → List grammar.Element → List grammar.Body → List grammar.Segment → List Text → grammar.Module
 tree_by a b c d e f g h i j k l = record {
   types = a;
   imports = b;

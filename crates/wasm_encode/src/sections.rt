@@ -15,15 +15,15 @@ use std::alloc::AllocError;
 
 // How many bytes a name has.
 fn name_length(name: &Name) -> u64
-    requires { length (sized_bytes name.now) < 2 ^ 63 }
-    ensures { result ≡ length (sized_bytes name.now) }
+    requires { length (sized_bytes name.now.bytes) < 2 ^ 63 }
+    ensures { result ≡ length (sized_bytes name.now.bytes) }
 {
     sized_length(name.as_str().as_bytes())
 }
 
 // Adds a name (5.2.4).
 fn put_name(out: &mut Vec<u8>, name: &Name) -> Result<(), AllocError>
-    ensures { OnOk result (out.new.items ≡ out.old.items ++ sized_bytes name.now) }
+    ensures { OnOk result (out.new.items ≡ out.old.items ++ sized_bytes name.now.bytes) }
 {
     put_sized(out, name.as_str().as_bytes())
 }

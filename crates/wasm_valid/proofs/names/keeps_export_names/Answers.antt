@@ -15,8 +15,8 @@ returns-then-not-branch c =
     let i = c.loop-export.export-index in
     let x = c.export-item.result in
     let at : slice_get es i ≡ Some x = slice_get_read es (length es) i x refl (omega arith) c.export-item.is in
-    let met : list_any (λ (e : Export). bytes_eq x.name e.name) (take i es) ≡ true =
-    ap (λ name. list_any (λ (e : Export). bytes_eq name e.name) (take i es)) (sym c.as_str.ensures) ∙ sym (c.loop-export.invariant.seen c.as_str.result.now)
+    let met : list_any (λ (e : Export). bytes_eq x.name.bytes e.name.bytes) (take i es) ≡ true =
+    ap (λ name. list_any (λ (e : Export). bytes_eq name e.name.bytes) (take i es)) (sym c.as_str.ensures) ∙ sym (c.loop-export.invariant.seen c.as_str.result.now)
     ∙ not-false _ (sym c.in_ok-insert.ensures.added ∙ c.if-not-branch.true) in
     (λ h. absurd (false≢true h), λ keeps. absurd (not_apart es i x at met (subst AreApart (sym c.as_slice-exports.ensures) keeps)))
 
@@ -26,8 +26,8 @@ loop-export-preserved c =
     let i = c.loop-export.export-index in
     let x = c.export-item.result in
     let at : slice_get es i ≡ Some x = slice_get_read es (length es) i x refl (omega arith) c.export-item.is in
-    let new : list_any (λ (e : Export). bytes_eq x.name e.name) (take i es) ≡ false =
-    ap (λ name. list_any (λ (e : Export). bytes_eq name e.name) (take i es)) (sym c.as_str.ensures) ∙ sym (c.loop-export.invariant.seen c.as_str.result.now)
+    let new : list_any (λ (e : Export). bytes_eq x.name.bytes e.name.bytes) (take i es) ≡ false =
+    ap (λ name. list_any (λ (e : Export). bytes_eq name e.name.bytes) (take i es)) (sym c.as_str.ensures) ∙ sym (c.loop-export.invariant.seen c.as_str.result.now)
     ∙ not-true _ (sym c.in_ok-insert.ensures.added ∙ c.if-not-branch.false) in
     record {
       seen = names_more c.loop-export.seen c.insert.new.self c.as_str.result.now es i x at c.as_str.ensures (λ q. c.in_ok-insert.ensures.updates.0 q) c.loop-export.invariant.seen;

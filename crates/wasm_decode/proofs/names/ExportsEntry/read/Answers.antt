@@ -1,4 +1,5 @@
 use Rattle.std.proofs.Common.{ℕ, List, refl, arith, rules}
+use Rattle.leb_binary.specs.Texts.{Text}
 use Rattle.leb_binary.specs.Leb.{IsName}
 use Rattle.leb_binary.proofs.Fronts.{one_name}
 use Rattle.module_ast.specs.declared.module.ExportKind.{ExportKind}
@@ -11,13 +12,13 @@ use Rattle.wasm_decode.proofs.names.ExportsEntry.read.Goals as goal
 abbrev Behind : List ℕ → ExportKind × ℕ → Type 0
 Behind rest p = Both IsExportKind IsU32 rest p.0 p.1
 
-abbrev name_of : Export → List ℕ
+abbrev name_of : Export → Text
 name_of e = e.name
 
 abbrev behind_of : Export → ExportKind × ℕ
 behind_of e = (e.kind, e.index)
 
-abbrev export_by : List ℕ → ExportKind → ℕ → Export
+abbrev export_by : Text → ExportKind → ℕ → Export
 export_by n k i = record { name = n; kind = k; index = i }
 
 pub returns-in_err-name-clause-malformed : goal.returns-in_err-name-clause-malformed
