@@ -15,7 +15,7 @@ use Rattle.code_decode.specs.Opened.{closed}
 use Rattle.code_decode.specs.Steps.{IsKind}
 use Rattle.code_decode.specs.declared.token.Kind.{Kind}
 use Rattle.code_decode.specs.declared.token.Kind.TheVariants as kinds
-use Rattle.code_decode.specs.declared.expr.Frame.{Frame}
+use Rattle.code_decode.proofs.Layers.{Layer}
 
 -- one sequence behind another
 abbrev join : grammar.Tree → grammar.Tree → grammar.Tree
@@ -132,22 +132,22 @@ closed_code (kinds.Else ty a) c y x (t, z, e, h, j) i =
     (y ++ (x ++ 0x0B ∷ []), [], sym (append-nil (y ++ (x ++ 0x0B ∷ []))), (t ++ ((z ++ 0x05 ∷ x) ++ 0x0B ∷ []), ap (λ l. l ++ (x ++ 0x0B ∷ [])) e ∙ simp append_assoc, (t, z ++ 0x05 ∷ x, sym (append_assoc t (z ++ 0x05 ∷ x) (0x0B ∷ [])), h, (z, x, refl, j, i))), refl)
 
 -- sequences that are open, the outermost first, with what stands before each
-Opened : List Frame → List ℕ → Type 0
+Opened : List Layer → List ℕ → Type 0
 Opened [] b = b ≡ []
-Opened (f ∷ fs) b = (x y z : List ℕ) × (b ≡ x ++ (y ++ z)) × AreInstrs x f.before.items × Begun y f.kind × Opened fs z
+Opened (f ∷ fs) b = (x y z : List ℕ) × (b ≡ x ++ (y ++ z)) × AreInstrs x f.before × Begun y f.kind × Opened fs z
 
 -- the innermost of them
-record Last (fs : List Frame) (f : Frame) (b : List ℕ) : Type 0 where
+record Last (fs : List Layer) (f : Layer) (b : List ℕ) : Type 0 where
   outer : List ℕ
   front : List ℕ
   begin : List ℕ
   split : b ≡ outer ++ (front ++ begin)
   is_outer : Opened fs outer
-  is_front : AreInstrs front f.before.items
+  is_front : AreInstrs front f.before
   is_begin : Begun begin f.kind
 
 -- one more
-opened_push : (fs : List Frame) (f : Frame) (b : List ℕ) → Last fs f b → Opened (fs ++ f ∷ []) b
+opened_push : (fs : List Layer) (f : Layer) (b : List ℕ) → Last fs f b → Opened (fs ++ f ∷ []) b
 unfolding Opened
 opened_push [] f b l = (l.front, l.begin, [], l.split ∙ ap (λ o. o ++ (l.front ++ l.begin)) l.is_outer ∙ ap (λ e. l.front ++ e) (sym (append-nil l.begin)), l.is_front, l.is_begin, refl)
 opened_push (g ∷ fs) f b l =
@@ -162,7 +162,7 @@ opened_push (g ∷ fs) f b l =
     )
 
 -- and one less
-opened_pop : (fs : List Frame) (f : Frame) (b : List ℕ) → Opened (fs ++ f ∷ []) b → Last fs f b
+opened_pop : (fs : List Layer) (f : Layer) (b : List ℕ) → Opened (fs ++ f ∷ []) b → Last fs f b
 unfolding Opened
 opened_pop [] f b (x, y, z, e, h, i, j) = record { outer = []; front = x; begin = y; split = e ∙ ap (λ l. x ++ (y ++ l)) j ∙ ap (λ l. x ++ l) (append-nil y); is_outer = refl; is_front = h; is_begin = i }
 opened_pop (g ∷ fs) f b (x, y, z, e, h, i, j) =
@@ -180,7 +180,7 @@ opened_pop (g ∷ fs) f b (x, y, z, e, h, i, j) =
 -- ---- what was read so far is what is open, and the instructions in it
 
 -- all bytes are what is open, the instructions in it, and what is left
-pub record Built (all : List ℕ) (fs : List Frame) (is : List Instr) (left : List ℕ) : Type 0 where
+pub record Built (all : List ℕ) (fs : List Layer) (is : List Instr) (left : List ℕ) : Type 0 where
   outer : List ℕ
   inner : List ℕ
   split : all ≡ outer ++ (inner ++ left)
@@ -192,7 +192,7 @@ pub built_nothing : (all : List ℕ) → Built all [] [] all
 unfolding Opened
 built_nothing all = record { outer = []; inner = []; split = refl; is_outer = refl; is_inner = refl }
 
-module _ (all left rest : List ℕ) (fs : List Frame) (is : List Instr) where
+module _ (all left rest : List ℕ) (fs : List Layer) (is : List Instr) where
   -- a plain instruction
   pub built_plain : (p : Plain) (i : Instr) → i ≡ instr_of p → IsFront IsToken left rest (plain_t p) → Built all fs is left → Built all fs (is ++ i ∷ []) rest
   built_plain p i e (t, q, h) b = record {
@@ -204,7 +204,7 @@ module _ (all left rest : List ℕ) (fs : List Frame) (is : List Instr) where
   }
 
   -- a sequence opens
-  pub built_open : (k : Kind) (t : Token) (f : Frame) → f.before.items ≡ is → f.kind ≡ k → IsKind k t → IsFront IsToken left rest t → Built all fs is left → Built all (fs ++ f ∷ []) [] rest
+  pub built_open : (k : Kind) (t : Token) (f : Layer) → f.before ≡ is → f.kind ≡ k → IsKind k t → IsFront IsToken left rest t → Built all fs is left → Built all (fs ++ f ∷ []) [] rest
   built_open k t f e d h (front, q, i) b = record {
     outer = b.outer ++ (b.inner ++ front);
     inner = [];
@@ -222,7 +222,7 @@ module _ (all left rest : List ℕ) (fs : List Frame) (is : List Instr) where
   }
 
   -- `end` closes one
-  pub built_end : (f : Frame) (i : Instr) → i ≡ closed f.kind (code_of is) → IsFront IsToken left rest end_t → Built all (fs ++ f ∷ []) is left → Built all fs (f.before.items ++ i ∷ []) rest
+  pub built_end : (f : Layer) (i : Instr) → i ≡ closed f.kind (code_of is) → IsFront IsToken left rest end_t → Built all (fs ++ f ∷ []) is left → Built all fs (f.before ++ i ∷ []) rest
   built_end f i e (t, q, h) b =
       let l = opened_pop fs f b.outer b.is_outer in
       let c = closed_code f.kind (code_of is) l.begin b.inner l.is_begin b.is_inner in
@@ -231,11 +231,11 @@ module _ (all left rest : List ℕ) (fs : List Frame) (is : List Instr) where
         inner = l.front ++ (l.begin ++ (b.inner ++ 0x0B ∷ []));
         split = b.split ∙ ap (λ o. o ++ (b.inner ++ left)) l.split ∙ ap (λ r. (l.outer ++ (l.front ++ l.begin)) ++ (b.inner ++ r)) (q ∙ ap (λ t. t ++ rest) h) ∙ simp append_assoc;
         is_outer = l.is_outer;
-        is_inner = instrs_push f.before.items i l.front (l.begin ++ (b.inner ++ 0x0B ∷ [])) l.is_front (subst (λ j. IsCode (l.begin ++ (b.inner ++ 0x0B ∷ [])) (code (before j done))) (sym e) c);
+        is_inner = instrs_push f.before i l.front (l.begin ++ (b.inner ++ 0x0B ∷ [])) l.is_front (subst (λ j. IsCode (l.begin ++ (b.inner ++ 0x0B ∷ [])) (code (before j done))) (sym e) c);
       }
 
   -- the first part of an `if` becomes a part of the open second one
-  pub built_else : (ty : BlockType) (f g : Frame) → f.kind ≡ kinds.Then ty → g.before.items ≡ f.before.items → g.kind ≡ kinds.Else ty (code_of is) → IsFront IsToken left rest else_t → Built all (fs ++ f ∷ []) is left → Built all (fs ++ g ∷ []) [] rest
+  pub built_else : (ty : BlockType) (f g : Layer) → f.kind ≡ kinds.Then ty → g.before ≡ f.before → g.kind ≡ kinds.Else ty (code_of is) → IsFront IsToken left rest else_t → Built all (fs ++ f ∷ []) is left → Built all (fs ++ g ∷ []) [] rest
   built_else ty f g d e k (t, q, h) b =
       let l = opened_pop fs f b.outer b.is_outer in
       let n : Begun l.begin (kinds.Then ty) = subst (Begun l.begin) d l.is_begin in

@@ -5,6 +5,7 @@ pub mod Classes
 pub mod Faults
 pub mod Items
 pub mod Known
+pub mod Layers
 pub mod Modules
 pub mod Operands
 pub mod Rest

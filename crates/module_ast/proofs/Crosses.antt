@@ -25,7 +25,7 @@ use Rattle.module_ast.specs.contracts.code.BlockType as BlockType
 use Rattle.module_ast.specs.contracts.ops.LoadOp as LoadOp
 use Rattle.module_ast.specs.contracts.ops.StoreOp as StoreOp
 use Rattle.module_ast.specs.contracts.ops.MemArg as MemArg
-use Rattle.module_ast.specs.contracts.seq.Seq as Seq
+use Rattle.module_ast.specs.contracts.labels.Labels as Labels
 use Rattle.module_ast.specs.contracts.module.Body as Body
 use Rattle.module_ast.specs.contracts.module.Module as Module
 
@@ -51,8 +51,8 @@ store_op_send = as_row_send (row_field (as_row StoreOp.the_field)) (search (send
 mem_arg_send : IsSend (as_row (row_field (as_row MemArg.the_field)))
 mem_arg_send = as_row_send (row_field (as_row MemArg.the_field)) (search (sendable, crosses) depth 100)
 
-labels_send : IsSend (as_row (row_field (as_row (Seq.the_field u32))))
-labels_send = as_row_send (row_field (as_row (Seq.the_field u32))) (search (sendable, crosses) depth 100)
+labels_send : IsSend (as_row (row_field (as_row (Labels.the_field))))
+labels_send = as_row_send (row_field (as_row (Labels.the_field))) (search (sendable, crosses) depth 100)
 
 num_op_send : IsSend (as_row (row_field (as_row NumOp.the_field)))
 num_op_send = as_row_send (row_field (as_row NumOp.the_field)) (variants_send NumOp.enum (search tt))
@@ -113,8 +113,8 @@ store_op_sync = as_row_sync (row_field (as_row StoreOp.the_field)) (search (send
 mem_arg_sync : IsSync (as_row (row_field (as_row MemArg.the_field)))
 mem_arg_sync = as_row_sync (row_field (as_row MemArg.the_field)) (search (sendable, crosses) depth 100)
 
-labels_sync : IsSync (as_row (row_field (as_row (Seq.the_field u32))))
-labels_sync = as_row_sync (row_field (as_row (Seq.the_field u32))) (search (sendable, crosses) depth 100)
+labels_sync : IsSync (as_row (row_field (as_row (Labels.the_field))))
+labels_sync = as_row_sync (row_field (as_row (Labels.the_field))) (search (sendable, crosses) depth 100)
 
 num_op_sync : IsSync (as_row (row_field (as_row NumOp.the_field)))
 num_op_sync = as_row_sync (row_field (as_row NumOp.the_field)) (variants_sync NumOp.enum (search tt))

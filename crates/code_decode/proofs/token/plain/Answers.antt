@@ -37,8 +37,8 @@ returns-in-Bare-clause-ok c = bare_ok _ _ (ap plain_shape c.in-Bare.is) _ _ c.in
 pub returns-in_ok-index-in-Index-clause-ok : goal.returns-in_ok-index-in-Index-clause-ok
 returns-in_ok-index-in-Index-clause-ok c = index_ok _ _ (ap plain_shape c.in-Index.is) _ _ _ c.in_ok-index-in-Index.ensures.ok.1 _ c.instr-in-Index.ensures
 
-pub returns-in_ok-labels-in-Table-clause-ok : goal.returns-in_ok-labels-in-Table-clause-ok
-returns-in_ok-labels-in-Table-clause-ok c = table_ok _ (ap plain_shape c.in-Table.is) _ _ _ c.in_ok-labels-in-Table.ensures.ok _ (ap (λ l. BrTable l c.in_ok-labels-in-Table.last) c.from_vec.ensures)
+pub returns-in_ok-from_vec-in-Table-clause-ok : goal.returns-in_ok-from_vec-in-Table-clause-ok
+returns-in_ok-from_vec-in-Table-clause-ok c = table_ok _ (ap plain_shape c.in-Table.is) _ _ _ c.in_ok-labels-in-Table.ensures.ok _ (ap (λ l. BrTable l c.in_ok-labels-in-Table.last) c.in_ok-from_vec-in-Table.ensures)
 
 pub returns-in_ok-zero-in-Indirect-clause-ok : goal.returns-in_ok-zero-in-Indirect-clause-ok
 returns-in_ok-zero-in-Indirect-clause-ok c = indirect_ok _ (ap plain_shape c.in-Indirect.is) _ _ _ _ 0 c.in_ok-ty-in-Indirect.ensures.ok.1 c.in_ok-zero-in-Indirect.ensures.ok

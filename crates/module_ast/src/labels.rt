@@ -1,0 +1,47 @@
+// The labels of a branch table.
+
+ghost use Rattle.std.specs.Prelude.{◌≡◌, IfOk};
+
+use std::alloc::{AllocError, Global};
+use std::marker::Model;
+use std::mem::size_of;
+
+/// Labels in order, which contracts see as a list. It is as large as a pointer, so that an instruction stays small.
+#[derive(Debug, Drop)]
+pub struct Labels {
+    items: Box<Vec<u32>>,
+}
+
+const _: () = prove!(size_of::<Labels>() == 8);
+
+impl Model for Labels {
+    ghost use Rattle.std.specs.Prelude.{List, ℕ};
+
+    ghost Value = { List ℕ };
+
+    ghost view = { λ a. a.items.value.items };
+}
+
+impl Labels {
+    /// These labels, in order. An `Err` comes where there is no memory.
+    pub fn from_vec(alloc: Global, items: Vec<u32>) -> Result<Labels, AllocError>
+        ensures { IfOk result (λ labels. labels ≡ items.items) }
+    {
+        let items = Box::new(alloc, items)?;
+        Ok(Labels { items })
+    }
+
+    /// The labels, in order, back as a `Vec`.
+    pub fn into_vec(self) -> Vec<u32>
+        ensures { result.items ≡ self }
+    {
+        Box::into_inner(self.items)
+    }
+
+    /// The labels, in order.
+    pub fn as_slice(&self) -> &[u32]
+        ensures { result.now ≡ self.now }
+    {
+        &self.items
+    }
+}
