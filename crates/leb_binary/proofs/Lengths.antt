@@ -4,7 +4,7 @@ use Rattle.std.specs.Prelude.{ℤ, pos, negsuc, ◌+ℤ◌, ◌-ℤ◌, ◌*ℤ�
 use Rattle.std.proofs.lemmas.Bool.{cases_lt}
 use Rattle.std.proofs.lemmas.Int.{ints}
 use Rattle.leb_binary.specs.Leb.{IsSigned}
-use Rattle.leb_binary.specs.Shortest.{unsigned_bytes, signed_bytes}
+use Rattle.leb_binary.specs.Shortest.{unsigned_bytes, signed_bytes, positive_within, negative_within}
 use Rattle.leb_binary.proofs.Written.{unsigned_last, unsigned_next, positive_last, positive_next, negative_last, negative_next}
 
 -- a spelling has a byte at least
@@ -76,3 +76,32 @@ shortest_signed size [] z p = absurd p
 shortest_signed size (b ∷ []) z (inl p) = positive_end b z p.0 p.2
 shortest_signed size (b ∷ []) z (inr p) = negative_end b z p.0 p.1 p.3
 shortest_signed size (b ∷ c ∷ bytes) z p = signed_step b (length (c ∷ bytes)) z p.3 (omega arith) p.0 p.1 p.5 (shortest_signed (size - 7) (c ∷ bytes) p.3 p.4)
+
+-- what fits into so many further bytes, where `last` fits into the last one
+abbrev pub reach : (last more : ℕ) → ℕ
+reach last zero = last
+reach last (suc more) = 128 * reach last more
+
+pub few_unsigned : (more n : ℕ) → n < reach 128 more → length (unsigned_bytes n) ≤ more + 1
+few_unsigned zero n h = let r = ap length (unsigned_last n h) in omega arith
+few_unsigned (suc more) n h =
+    elim (cases_lt n 128) [
+      | inl l ↦ let r = ap length (unsigned_last n l) in omega arith
+      | inr g ↦ let r = ap length (unsigned_next n g) in let k = few_unsigned more (n / 128) (omega arith) in omega arith
+    ]
+
+pub few_positive : (more n : ℕ) → n < reach 64 more → length (positive_within n n) ≤ more + 1
+few_positive zero n h = let r = ap length (positive_last n h) in omega arith
+few_positive (suc more) n h =
+    elim (cases_lt n 64) [
+      | inl l ↦ let r = ap length (positive_last n l) in omega arith
+      | inr g ↦ let r = ap length (positive_next n g) in let k = few_positive more (n / 128) (omega arith) in omega arith
+    ]
+
+pub few_negative : (more n : ℕ) → n < reach 64 more → length (negative_within n n) ≤ more + 1
+few_negative zero n h = let r = ap length (negative_last n h) in omega arith
+few_negative (suc more) n h =
+    elim (cases_lt n 64) [
+      | inl l ↦ let r = ap length (negative_last n l) in omega arith
+      | inr g ↦ let r = ap length (negative_next n g) in let k = few_negative more (n / 128) (omega arith) in omega arith
+    ]

@@ -9,6 +9,7 @@ ghost use Rattle.module_ast.specs.Shortest.{CanonicalBytesAreShortest};
 ghost use Rattle.module_ast.specs.Laws.{ModulesAreUnique, ModulesHaveNoFloat, TreesWithoutFloatAreModules};
 
 use crate::module::{Body, Module};
+use crate::spaces::Spaces;
 
 /// The canonical bytes of a module are in the grammar, and are that module without its custom sections.
 pub fn canonical_bytes_are_spelled()
@@ -31,6 +32,11 @@ pub fn modules_are_trees()
 pub fn modules_cross_threads(module: &Module, body: &Body) {
     is_send_and_sync(module);
     is_send_and_sync(body);
+}
+
+/// A table of index spaces may go to another thread, and several may read one at once.
+pub fn spaces_cross_threads(spaces: &Spaces) {
+    is_send_and_sync(spaces);
 }
 
 fn is_send_and_sync<T: Send + Sync>(_value: &T) {}

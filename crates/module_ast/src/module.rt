@@ -137,7 +137,8 @@ impl Module {
     }
 
     /// The type of a function by its index, imports counted first; none where there is no such function, or where its
-    /// type's index names no type. It goes over the imports. (Standard, 2.5.1)
+    /// type's index names no type. It walks the imports: where many are looked up, `Spaces::func_type` answers the same in
+    /// constant time. (Standard, 2.5.1)
     pub fn func_type(&self, func: u32) -> Option<&FuncType>
         ensures { MatchOption result (func_type self.now func ≡ None) (λ t. func_type self.now func ≡ Some t.now) }
     {

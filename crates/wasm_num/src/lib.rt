@@ -7,6 +7,9 @@ use smallvec::SmallVec;
 use std::alloc::{AllocError, Global};
 use std::marker::Model;
 
+/// Memory ran out.
+pub type NoMemory = AllocError;
+
 /// The type of a value: 32 or 64 bits. (Standard, 2.3.1)
 #[derive(Clone, Copy, Debug, PartialEq, Eq)]
 pub enum ValType {
@@ -91,19 +94,63 @@ pub enum NumOp {
 }
 
 impl NumOp {
-    ghost use Rattle.wasm_num.specs.Shapes.{num_operands};
+    ghost use Rattle.wasm_num.specs.Shapes.{num_operands, num_result};
     ghost use Rattle.wasm_num.specs.Names.{num_name};
 
     /// How many operands it takes: 1 for tests, counts and conversions, else 2.
     pub fn operands(&self) -> usize
         ensures { result ≡ length (num_operands self.now) }
     {
+        self.operand_types().len()
+    }
+
+    /// The types of its operands, the last one topmost. (Standard, 3.3.1)
+    pub fn operand_types(&self) -> &'static [ValType]
+        ensures { result.now ≡ num_operands self.now }
+    {
         match self {
-            NumOp::I32Eqz | NumOp::I64Eqz => 1,
-            NumOp::I32Clz | NumOp::I32Ctz | NumOp::I32Popcnt => 1,
-            NumOp::I64Clz | NumOp::I64Ctz | NumOp::I64Popcnt => 1,
-            NumOp::I32WrapI64 | NumOp::I64ExtendI32S | NumOp::I64ExtendI32U => 1,
-            _ => 2,
+            NumOp::I32Eqz | NumOp::I32Clz | NumOp::I32Ctz | NumOp::I32Popcnt => &[ValType::I32],
+            NumOp::I64ExtendI32S | NumOp::I64ExtendI32U => &[ValType::I32],
+            NumOp::I64Eqz | NumOp::I64Clz | NumOp::I64Ctz | NumOp::I64Popcnt => &[ValType::I64],
+            NumOp::I32WrapI64 => &[ValType::I64],
+            NumOp::I32Eq | NumOp::I32Ne | NumOp::I32LtS | NumOp::I32LtU => &[
+                ValType::I32,
+                ValType::I32,
+            ],
+            NumOp::I32GtS | NumOp::I32GtU | NumOp::I32LeS | NumOp::I32LeU => &[
+                ValType::I32,
+                ValType::I32,
+            ],
+            NumOp::I32GeS | NumOp::I32GeU | NumOp::I32Add | NumOp::I32Sub => &[
+                ValType::I32,
+                ValType::I32,
+            ],
+            NumOp::I32Mul | NumOp::I32DivS | NumOp::I32DivU | NumOp::I32RemS => &[
+                ValType::I32,
+                ValType::I32,
+            ],
+            NumOp::I32RemU | NumOp::I32And | NumOp::I32Or | NumOp::I32Xor => &[
+                ValType::I32,
+                ValType::I32,
+            ],
+            NumOp::I32Shl | NumOp::I32ShrS | NumOp::I32ShrU => &[ValType::I32, ValType::I32],
+            NumOp::I32Rotl | NumOp::I32Rotr => &[ValType::I32, ValType::I32],
+            _ => &[ValType::I64, ValType::I64],
+        }
+    }
+
+    /// The type of its result. (Standard, 3.3.1)
+    pub fn result_type(&self) -> ValType
+        ensures { result ≡ num_result self.now }
+    {
+        match self {
+            NumOp::I64Clz | NumOp::I64Ctz | NumOp::I64Popcnt | NumOp::I64Add => ValType::I64,
+            NumOp::I64Sub | NumOp::I64Mul | NumOp::I64DivS | NumOp::I64DivU => ValType::I64,
+            NumOp::I64RemS | NumOp::I64RemU | NumOp::I64And | NumOp::I64Or => ValType::I64,
+            NumOp::I64Xor | NumOp::I64Shl | NumOp::I64ShrS | NumOp::I64ShrU => ValType::I64,
+            NumOp::I64Rotl | NumOp::I64Rotr => ValType::I64,
+            NumOp::I64ExtendI32S | NumOp::I64ExtendI32U => ValType::I64,
+            _ => ValType::I32,
         }
     }
 
@@ -226,7 +273,7 @@ impl Values {
 
     /// Appends a value. It fails only where four or more stand already and there is no memory for one more, and changes
     /// nothing then.
-    pub fn push(&mut self, value: Value) -> Result<(), AllocError>
+    pub fn push(&mut self, value: Value) -> Result<(), NoMemory>
         ensures ok { OnOk result (self.new ≡ self.old ++ value ∷ []) }
         ensures succeeds { length self.old < 4 → IsOk result }
         ensures err { OnErr result (self.new ≡ self.old) }

@@ -1,0 +1,19 @@
+// Where code is live.
+
+ghost use Rattle.std.specs.Prelude.{◌≡◌};
+ghost use Rattle.module_ast.specs.Plains.{goes_on_by};
+
+use crate::code::Instr;
+
+impl Instr {
+    /// Whether the code behind it in its own sequence is live with it: not behind `unreachable`, `br`, `br_table` and
+    /// `return`. (Standard, 3.3.5)
+    pub fn goes_on(&self) -> bool
+        ensures { result ≡ goes_on_by self.now }
+    {
+        match self {
+            Instr::Unreachable | Instr::Br(_) | Instr::BrTable(_, _) | Instr::Return => false,
+            _ => true,
+        }
+    }
+}
