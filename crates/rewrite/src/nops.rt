@@ -41,5 +41,6 @@ pub fn nop_code(alloc: Global, count: u32, told: bool) -> Result<Code, AllocErro
     for place in 0..count {
         push_nop(&mut items, place, told)?;
     }
-    Ok(Code::from_vec(items))
+    let code = Code::from_vec(alloc, items)?;
+    Ok(code)
 }

@@ -8,4 +8,4 @@ loop-place-preserved c =
     ∙ c.loop-place.invariant
 
 pub returns : goal.returns
-returns c s h = c.from_vec.ensures ∙ all_added c.args.told c.loop-place.items.items c.loop-place.place c.args.count s c.loop-place.invariant c.loop-place-test.false h
+returns c s h = c.in_ok-code.ensures ∙ all_added c.args.told c.loop-place.items.items c.loop-place.place c.args.count s c.loop-place.invariant c.loop-place-test.false h
