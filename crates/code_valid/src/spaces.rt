@@ -176,7 +176,7 @@ mod tests {
             globals: Seq::from_vec(vec![in alloc;
                 GlobalDef {
                     ty: LIMIT,
-                    init: Code::new(alloc),
+                    init: Code::new(alloc)?,
                 },
             ]?),
             exports: Seq::from_vec(Vec::new(alloc)),

@@ -10,6 +10,7 @@ use crate::locals::Locals;
 use crate::marks::{Mark, Marks};
 use crate::spaces::Spaces;
 use module_ast::code::{BlockType, Code, Instr};
+use module_ast::labels::Labels;
 use module_ast::module::{FuncType, GlobalDef, GlobalType, Group, Import, Item, Module, Range};
 use module_ast::name::Name;
 use module_ast::ops::{LoadOp, MemArg, StoreOp};
@@ -81,7 +82,7 @@ fn plain(alloc: Global, word: Word) -> Result<Instr, AllocError> {
         Br(label) => Instr::Br(label),
         BrIf(label) => Instr::BrIf(label),
         BrTable(first, other) => {
-            Instr::BrTable(Seq::from_vec(Vec::from_slice(alloc, &[first])?), other)
+            Instr::BrTable(Labels::from_vec(alloc, Vec::from_slice(alloc, &[first])?)?, other)
         }
         Return => Instr::Return,
         Call(func) => Instr::Call(func),
@@ -135,21 +136,22 @@ fn code_of(alloc: Global, words: &[Word]) -> Result<Code, AllocError> {
             Else => {
                 if let Some(block) = open.pop() {
                     let Open { word, before, .. } = block;
-                    let then = Some(Code::from_vec(mem::replace(&mut items, Vec::new(alloc))));
+                    let first = mem::replace(&mut items, Vec::new(alloc));
+                    let then = Some(Code::from_vec(alloc, first)?);
                     open.push(Open { word, before, then })?;
                 }
             }
             End => {
                 if let Some(block) = open.pop() {
                     let Open { word, before, then } = block;
-                    let body = Code::from_vec(mem::replace(&mut items, before));
+                    let body = Code::from_vec(alloc, mem::replace(&mut items, before))?;
                     items.push(closed(word, then, body))?;
                 }
             }
             word => items.push(plain(alloc, word)?)?,
         }
     }
-    Ok(Code::from_vec(items))
+    Ok(Code::from_vec(alloc, items)?)
 }
 
 // How many opcodes it has, where a u32 holds the number.
@@ -230,7 +232,7 @@ fn rich(alloc: Global) -> Result<Module, AllocError> {
             ty: ValType::I64,
             mutable: true,
         },
-        init: Code::new(alloc),
+        init: Code::new(alloc)?,
     };
     let one = Range { min: 1, max: None };
     let imports = vec![in alloc;

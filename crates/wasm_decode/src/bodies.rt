@@ -21,22 +21,26 @@ use leb_binary::Cursor;
 use module_ast::code::Code;
 use module_ast::module::{Body, Group};
 use module_ast::seq::Seq;
-use std::alloc::Global;
+use std::alloc::{AllocError, Global};
 
 // A body of its parts.
-fn make_body(alloc: Global, groups: Option<Vec<Group>>, code: Expr) -> Piece<Body>
-    ensures { (bound : ℕ) (gs : List grammar.Group) (t : grammar.Tree) → MatchOption groups (some_in group_floats gs ≡ true) (λ v. gs ≡ map profile.group v.items) → IsBuilt bound code t → IsPiece body_form bound result (body_by gs t) }
+fn make_body(
+    alloc: Global,
+    groups: Option<Vec<Group>>,
+    code: Expr,
+) -> Result<Piece<Body>, AllocError>
+    ensures { (bound : ℕ) (gs : List grammar.Group) (t : grammar.Tree) → MatchOption groups (some_in group_floats gs ≡ true) (λ v. gs ≡ map profile.group v.items) → IsBuilt bound code t → IfOk result (λ p. IsPiece body_form bound p (body_by gs t)) }
 {
     let Some(groups) = groups else {
-        return Piece::Floats;
+        return Ok(Piece::Floats);
     };
     let groups = Seq::from_vec(groups);
     match code {
-        Expr::Built(code) => Piece::Whole(Body { groups, code }),
-        Expr::Floats => Piece::Floats,
+        Expr::Built(code) => Ok(Piece::Whole(Body { groups, code })),
+        Expr::Floats => Ok(Piece::Floats),
         Expr::Deep { found } => {
-            let code = Code::new(alloc);
-            Piece::Deep(Body { groups, code }, found)
+            let code = Code::new(alloc)?;
+            Ok(Piece::Deep(Body { groups, code }, found))
         }
     }
 }
@@ -54,7 +58,8 @@ pub fn read_body(alloc: Global, content: &[u8], nesting: u32) -> Result<Piece<Bo
     if cursor.left() != 0 {
         return Err(Fault::Malformed);
     }
-    Ok(make_body(alloc, groups, code))
+    let body = make_body(alloc, groups, code)?;
+    Ok(body)
 }
 
 /// Bodies, each behind its size (5.5.13).

@@ -24,18 +24,18 @@ use module_ast::seq::Seq;
 use std::alloc::{AllocError, Global};
 
 // A global of its parts.
-fn global(alloc: Global, ty: Option<GlobalType>, init: Expr) -> Piece<GlobalDef>
-    ensures { (bound : ℕ) (g : grammar.GlobalType) (t : grammar.Tree) → MatchOption ty (is_floating g.ty ≡ true) (λ x. g ≡ profile.global_type x) → IsBuilt bound init t → IsPiece global_form bound result (global_by g t) }
+fn global(alloc: Global, ty: Option<GlobalType>, init: Expr) -> Result<Piece<GlobalDef>, AllocError>
+    ensures { (bound : ℕ) (g : grammar.GlobalType) (t : grammar.Tree) → MatchOption ty (is_floating g.ty ≡ true) (λ x. g ≡ profile.global_type x) → IsBuilt bound init t → IfOk result (λ p. IsPiece global_form bound p (global_by g t)) }
 {
     let Some(ty) = ty else {
-        return Piece::Floats;
+        return Ok(Piece::Floats);
     };
     match init {
-        Expr::Built(init) => Piece::Whole(GlobalDef { ty, init }),
-        Expr::Floats => Piece::Floats,
+        Expr::Built(init) => Ok(Piece::Whole(GlobalDef { ty, init })),
+        Expr::Floats => Ok(Piece::Floats),
         Expr::Deep { found } => {
-            let init = Code::new(alloc);
-            Piece::Deep(GlobalDef { ty, init }, found)
+            let init = Code::new(alloc)?;
+            Ok(Piece::Deep(GlobalDef { ty, init }, found))
         }
     }
 }
@@ -55,33 +55,39 @@ impl Entry for Globals {
     fn read(alloc: Global, cursor: &mut Cursor, nesting: u32) -> Result<Piece<GlobalDef>, Fault> {
         let ty = global_type(cursor)?;
         let init = read_expr(alloc, cursor, nesting)?;
-        Ok(global(alloc, ty, init))
+        let global = global(alloc, ty, init)?;
+        Ok(global)
     }
 
     ghost one = { one_global };
 }
 
 // An element segment of its parts.
-fn element(alloc: Global, table: u32, offset: Expr, funcs: Seq<u32>) -> Piece<Element>
-    ensures { (bound : ℕ) (t : grammar.Tree) → IsBuilt bound offset t → IsPiece element_form bound result (element_by table t funcs) }
+fn element(
+    alloc: Global,
+    table: u32,
+    offset: Expr,
+    funcs: Seq<u32>,
+) -> Result<Piece<Element>, AllocError>
+    ensures { (bound : ℕ) (t : grammar.Tree) → IsBuilt bound offset t → IfOk result (λ p. IsPiece element_form bound p (element_by table t funcs)) }
 {
     match offset {
-        Expr::Built(offset) => Piece::Whole(Element {
+        Expr::Built(offset) => Ok(Piece::Whole(Element {
             table,
             offset,
             funcs,
-        }),
-        Expr::Floats => Piece::Floats,
+        })),
+        Expr::Floats => Ok(Piece::Floats),
         Expr::Deep { found } => {
-            let offset = Code::new(alloc);
-            Piece::Deep(
+            let offset = Code::new(alloc)?;
+            Ok(Piece::Deep(
                 Element {
                     table,
                     offset,
                     funcs,
                 },
                 found,
-            )
+            ))
         }
     }
 }
@@ -103,7 +109,8 @@ impl Entry for Elements {
         let offset = read_expr(alloc, cursor, nesting)?;
         let funcs = read_indices(alloc, cursor)?;
         let funcs = Seq::from_vec(funcs);
-        Ok(element(alloc, table, offset, funcs))
+        let element = element(alloc, table, offset, funcs)?;
+        Ok(element)
     }
 
     ghost one = { one_element };
@@ -129,26 +136,31 @@ fn byte_vec(alloc: Global, cursor: &mut Cursor) -> Result<Vec<u8>, Fault>
 }
 
 // A data segment of its parts.
-fn segment(alloc: Global, memory: u32, offset: Expr, bytes: Seq<u8>) -> Piece<Segment>
-    ensures { (bound : ℕ) (t : grammar.Tree) → IsBuilt bound offset t → IsPiece segment_form bound result (segment_by memory t bytes) }
+fn segment(
+    alloc: Global,
+    memory: u32,
+    offset: Expr,
+    bytes: Seq<u8>,
+) -> Result<Piece<Segment>, AllocError>
+    ensures { (bound : ℕ) (t : grammar.Tree) → IsBuilt bound offset t → IfOk result (λ p. IsPiece segment_form bound p (segment_by memory t bytes)) }
 {
     match offset {
-        Expr::Built(offset) => Piece::Whole(Segment {
+        Expr::Built(offset) => Ok(Piece::Whole(Segment {
             memory,
             offset,
             bytes,
-        }),
-        Expr::Floats => Piece::Floats,
+        })),
+        Expr::Floats => Ok(Piece::Floats),
         Expr::Deep { found } => {
-            let offset = Code::new(alloc);
-            Piece::Deep(
+            let offset = Code::new(alloc)?;
+            Ok(Piece::Deep(
                 Segment {
                     memory,
                     offset,
                     bytes,
                 },
                 found,
-            )
+            ))
         }
     }
 }
@@ -170,7 +182,8 @@ impl Entry for Segments {
         let offset = read_expr(alloc, cursor, nesting)?;
         let bytes = byte_vec(alloc, cursor)?;
         let bytes = Seq::from_vec(bytes);
-        Ok(segment(alloc, memory, offset, bytes))
+        let segment = segment(alloc, memory, offset, bytes)?;
+        Ok(segment)
     }
 
     ghost one = { one_segment };

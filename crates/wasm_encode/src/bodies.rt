@@ -3,10 +3,10 @@
 ghost use Rattle.std.specs.Prelude.{◌≡◌, ◌++◌, ◌<◌, ◌^◌, OnOk, length};
 ghost use Rattle.module_ast.specs.Canonical.{body_bytes, sized_bytes, vec_bytes, vec_section};
 
-use crate::numbers::{put_size, unsigned_length};
+use crate::numbers::{put_size, put_sized, unsigned_length};
 use crate::vectors::Encode;
 use module_ast::module::Body;
-use std::alloc::AllocError;
+use std::alloc::{AllocError, Global};
 
 // How many bytes a body has, its size included.
 fn body_length(body: &Body) -> u64
@@ -17,17 +17,8 @@ fn body_length(body: &Body) -> u64
     unsigned_length(size) + size
 }
 
-// Adds the size of a body, and the body.
-fn put_body(out: &mut Vec<u8>, body: &Body) -> Result<(), AllocError>
-    requires { length (sized_bytes (body_bytes body.now)) < 2 ^ 63 }
-    ensures { OnOk result (out.new.items ≡ out.old.items ++ sized_bytes (body_bytes body.now)) }
-{
-    put_size(out, body.spelled_length())?;
-    body.put(out)
-}
-
-// How many bytes the bodies have, with their number in front.
-fn bodies_length(bodies: &[Body]) -> u64
+/// How many bytes the bodies have, with their number in front. It is the one call that counts them.
+pub fn bodies_length(bodies: &[Body]) -> u64
     requires { length (vec_bytes (λ b. sized_bytes (body_bytes b)) bodies.now) < 2 ^ 63 }
     ensures { result ≡ length (vec_bytes (λ b. sized_bytes (body_bytes b)) bodies.now) }
 {
@@ -38,31 +29,40 @@ fn bodies_length(bodies: &[Body]) -> u64
     total
 }
 
-/// How many bytes the section has.
-pub fn code_section_length(bodies: &[Body]) -> u64
-    requires { length (vec_section 10 (λ b. sized_bytes (body_bytes b)) bodies.now) < 2 ^ 63 }
+/// How many bytes the section has, whose bodies have this many with their number in front.
+pub fn code_section_length(bodies: &[Body], size: u64) -> u64
+    requires size { size ≡ length (vec_bytes (λ b. sized_bytes (body_bytes b)) bodies.now) }
+    requires room { length (vec_section 10 (λ b. sized_bytes (body_bytes b)) bodies.now) < 2 ^ 63 }
     ensures { result ≡ length (vec_section 10 (λ b. sized_bytes (body_bytes b)) bodies.now) }
 {
     if bodies.is_empty() {
         return 0;
     }
-    let size = bodies_length(bodies);
     1 + unsigned_length(size) + size
 }
 
-/// Adds the section, and nothing where there is no body.
-pub fn put_code_section(out: &mut Vec<u8>, bodies: &[Body]) -> Result<(), AllocError>
-    requires { length (vec_section 10 (λ b. sized_bytes (body_bytes b)) bodies.now) < 2 ^ 63 }
+/// Adds the section, and nothing where there is no body. The bodies have this many bytes with their number in front; the
+/// size of each is that of its bytes, which are written apart.
+pub fn put_code_section(
+    alloc: Global,
+    out: &mut Vec<u8>,
+    bodies: &[Body],
+    size: u64,
+) -> Result<(), AllocError>
+    requires { size ≡ length (vec_bytes (λ b. sized_bytes (body_bytes b)) bodies.now) }
     ensures { OnOk result (out.new.items ≡ out.old.items ++ vec_section 10 (λ b. sized_bytes (body_bytes b)) bodies.now) }
 {
     if bodies.is_empty() {
         return Ok(());
     }
     out.push(10)?;
-    put_size(out, bodies_length(bodies))?;
+    put_size(out, size)?;
     put_size(out, bodies.len() as u64)?;
+    let mut content = Vec::new(alloc);
     for body in bodies {
-        put_body(out, body)?;
+        content.clear();
+        body.put(&mut content)?;
+        put_sized(out, &content)?;
     }
     Ok(())
 }

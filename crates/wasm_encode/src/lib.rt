@@ -1,4 +1,4 @@
-// The canonical bytes of modules (5). They are counted first, and then written.
+// The canonical bytes of modules (5). They are counted first, each body once, and then written.
 #![tactic(auto)]
 
 ghost use Rattle.std.specs.Prelude.{◌≡◌, ◌<◌, ◌≤◌, ◌^◌, ℕ, length, All, IfOk, IsErrOf};
@@ -21,6 +21,7 @@ mod types;
 mod vectors;
 mod whole;
 
+use crate::bodies::bodies_length;
 use crate::whole::{module_length, spell_module};
 use module_ast::module::Module;
 use std::alloc::{AllocError, Global};
@@ -57,9 +58,10 @@ pub fn encode(alloc: Global, m: &Module, max: u64) -> Result<Vec<u8>, EncodeFaul
     ensures large { (n : ℕ) → IsErrOf result (TooLarge n) → (n ≡ length (module_bytes m.now)) × (max < n) }
     ensures memory { IsErrOf result NoMemory → length (module_bytes m.now) ≤ max }
 {
-    let length = module_length(m);
+    let bodies = bodies_length(m.bodies.as_slice());
+    let length = module_length(m, bodies);
     if length > max {
         return Err(EncodeFault::TooLarge { length });
     }
-    Ok(spell_module(alloc, m, length)?)
+    Ok(spell_module(alloc, m, length, bodies)?)
 }

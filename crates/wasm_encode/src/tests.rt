@@ -35,7 +35,7 @@ fn one_function(rt: HostRuntime) -> Result<(), Fail> {
         bodies: Seq::from_vec(vec![in alloc;
             Body {
                 groups: Seq::from_vec(Vec::new(alloc)),
-                code: Code::from_vec(vec![in alloc; Instr::Nop]?),
+                code: Code::from_vec(alloc, vec![in alloc; Instr::Nop]?)?,
             },
         ]?),
         segments: Seq::from_vec(Vec::new(alloc)),

@@ -1,7 +1,7 @@
 // Whole modules (5.5.16).
 
 ghost use Rattle.std.specs.Prelude.{◌≡◌, ◌<◌, ◌^◌, IfOk, length};
-ghost use Rattle.module_ast.specs.Canonical.{module_bytes};
+ghost use Rattle.module_ast.specs.Canonical.{body_bytes, sized_bytes, vec_bytes, module_bytes};
 
 use crate::bodies::{code_section_length, put_code_section};
 use crate::sections::{put_start, start_length};
@@ -10,9 +10,10 @@ use crate::vectors::{put_section, section_length};
 use module_ast::module::Module;
 use std::alloc::{AllocError, Global};
 
-/// How many canonical bytes the module has.
-pub fn module_length(m: &Module) -> u64
-    requires { length (module_bytes m.now) < 2 ^ 63 }
+/// How many canonical bytes the module has, whose bodies have this many with their number in front.
+pub fn module_length(m: &Module, bodies: u64) -> u64
+    requires bodies { bodies ≡ length (vec_bytes (λ b. sized_bytes (body_bytes b)) m.now.bodies) }
+    requires room { length (module_bytes m.now) < 2 ^ 63 }
     ensures { result ≡ length (module_bytes m.now) }
 {
     8 + section_length(1, m.types.as_slice())
@@ -24,13 +25,20 @@ pub fn module_length(m: &Module) -> u64
         + section_length(7, m.exports.as_slice())
         + start_length(m.start)
         + section_length(9, m.elements.as_slice())
-        + code_section_length(m.bodies.as_slice())
+        + code_section_length(m.bodies.as_slice(), bodies)
         + section_length(11, m.segments.as_slice())
 }
 
-/// The canonical bytes of the module, with room for `capacity` bytes from the start.
-pub fn spell_module(alloc: Global, m: &Module, capacity: u64) -> Result<Vec<u8>, AllocError>
-    requires { length (module_bytes m.now) < 2 ^ 63 }
+/// The canonical bytes of the module, with room for `capacity` bytes from the start. Its bodies have so many with their
+/// number in front.
+pub fn spell_module(
+    alloc: Global,
+    m: &Module,
+    capacity: u64,
+    bodies: u64,
+) -> Result<Vec<u8>, AllocError>
+    requires bodies { bodies ≡ length (vec_bytes (λ b. sized_bytes (body_bytes b)) m.now.bodies) }
+    requires room { length (module_bytes m.now) < 2 ^ 63 }
     ensures { IfOk result (λ bytes. bytes.items ≡ module_bytes m.now) }
 {
     let mut out = Vec::with_capacity(alloc, capacity as usize)?;
@@ -44,7 +52,7 @@ pub fn spell_module(alloc: Global, m: &Module, capacity: u64) -> Result<Vec<u8>,
     put_section(&mut out, 7, m.exports.as_slice())?;
     put_start(&mut out, m.start)?;
     put_section(&mut out, 9, m.elements.as_slice())?;
-    put_code_section(&mut out, m.bodies.as_slice())?;
+    put_code_section(alloc, &mut out, m.bodies.as_slice(), bodies)?;
     put_section(&mut out, 11, m.segments.as_slice())?;
     Ok(out)
 }

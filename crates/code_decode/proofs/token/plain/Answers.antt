@@ -1,4 +1,4 @@
-use Rattle.std.proofs.Common.{◌≡◌, refl, ap, arith, w32, w64, to_z, of_z}
+use Rattle.std.proofs.Common.{◌≡◌, refl, ap, ◌∙◌, arith, w32, w64, to_z, of_z}
 use Rattle.std.proofs.lemmas.Int.{ints}
 use Rattle.leb_binary.proofs.Numbers.{within_signed}
 use Rattle.module_ast.specs.declared.code.Instr.TheVariants.{BrTable}
@@ -38,7 +38,7 @@ pub returns-in_ok-index-in-Index-clause-ok : goal.returns-in_ok-index-in-Index-c
 returns-in_ok-index-in-Index-clause-ok c = index_ok _ _ (ap plain_shape c.in-Index.is) _ _ _ c.in_ok-index-in-Index.ensures.ok.1 _ c.instr-in-Index.ensures
 
 pub returns-in_ok-from_vec-in-Table-clause-ok : goal.returns-in_ok-from_vec-in-Table-clause-ok
-returns-in_ok-from_vec-in-Table-clause-ok c = table_ok _ (ap plain_shape c.in-Table.is) _ _ _ c.in_ok-labels-in-Table.ensures.ok _ (ap (λ l. BrTable l c.in_ok-labels-in-Table.last) c.in_ok-from_vec-in-Table.ensures)
+returns-in_ok-from_vec-in-Table-clause-ok c = table_ok _ (ap plain_shape c.in-Table.is) _ _ _ c.in_ok-labels-in-Table.ensures.ok _ (ap (λ l. BrTable l c.in_ok-labels-in-Table.last) (c.in_ok-from_vec-in-Table.ensures ∙ c.shrink_to_fit.ensures.items))
 
 pub returns-in_ok-zero-in-Indirect-clause-ok : goal.returns-in_ok-zero-in-Indirect-clause-ok
 returns-in_ok-zero-in-Indirect-clause-ok c = indirect_ok _ (ap plain_shape c.in-Indirect.is) _ _ _ _ 0 c.in_ok-ty-in-Indirect.ensures.ok.1 c.in_ok-zero-in-Indirect.ensures.ok

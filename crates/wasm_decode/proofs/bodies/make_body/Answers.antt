@@ -23,8 +23,8 @@ returns-in-Built c = λ bound gs t p q.
 pub returns-in-Floats : goal.returns-in-Floats
 returns-in-Floats c = λ bound gs t p q. let r = rw c.in-Floats.is at q in or_right _ _ r
 
-pub returns-in-Deep : goal.returns-in-Deep
-returns-in-Deep c = λ bound gs t p q.
+pub returns-in_ok-code-in-Deep : goal.returns-in_ok-code-in-Deep
+returns-in_ok-code-in-Deep c = λ bound gs t p q.
     let e = rw c.in-Some.is at p in
     let r = rw c.in-Deep.is at q in
-    rw c.from_vec-groups.ensures (body_of c.in-Some.groups.items r.0, ap (λ g. body_by g t) e ∙ ap (λ v. body_by (map group c.in-Some.groups.items) v) r.1, ap (λ v. body_of c.in-Some.groups.items v) c.new-code.ensures, r.2, r.3)
+    rw c.from_vec-groups.ensures (body_of c.in-Some.groups.items r.0, ap (λ g. body_by g t) e ∙ ap (λ v. body_by (map group c.in-Some.groups.items) v) r.1, ap (λ v. body_of c.in-Some.groups.items v) c.in_ok-code-in-Deep.ensures, r.2, r.3)

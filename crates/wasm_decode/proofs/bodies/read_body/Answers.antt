@@ -30,4 +30,4 @@ returns-clause-ok c =
     let l = rw c.new-cursor.ensures.left at c.in_ok-groups.ensures.ok in
     let t = expr_front c.args.nesting _ _ _ c.in_ok-code.ensures.ok in
     let n = nil_from_length c.read_expr.new.cursor.left (omega (arith, c.left.ensures, c.if-left-ne0.false)) in
-    (body_by l.0 t.0, body_some _ _ _ l.0 t.0 l.1 t.1 n, c.make_body.ensures c.args.nesting l.0 t.0 l.2 t.2)
+    (body_by l.0 t.0, body_some _ _ _ l.0 t.0 l.1 t.1 n, c.in_ok-body.ensures c.args.nesting l.0 t.0 l.2 t.2)

@@ -7,7 +7,7 @@ use Rattle.wasm_decode.proofs.codes.segment.Goals as goal
 abbrev segment_of : ℕ → Tree → List ℕ → Segment
 segment_of n c xs = record { memory = n; offset = c; bytes = xs }
 
-pub returns-in-Deep : goal.returns-in-Deep
-returns-in-Deep c = λ bound t q.
+pub returns-in_ok-offset-in-Deep : goal.returns-in_ok-offset-in-Deep
+returns-in_ok-offset-in-Deep c = λ bound t q.
     let r = rw c.in-Deep.is at q in
-    (segment_of c.args.memory r.0 c.args.bytes, ap (λ u. segment_by c.args.memory u c.args.bytes) r.1, ap (λ u. segment_of c.args.memory u c.args.bytes) c.new-offset.ensures, r.2, r.3)
+    (segment_of c.args.memory r.0 c.args.bytes, ap (λ u. segment_by c.args.memory u c.args.bytes) r.1, ap (λ u. segment_of c.args.memory u c.args.bytes) c.in_ok-offset-in-Deep.ensures, r.2, r.3)

@@ -41,7 +41,7 @@ returns-clause-ok c =
     let n = c.in_ok-table.table in
     let t = expr_front c.args.nesting _ _ _ c.in_ok-offset.ensures.ok in
     let fs = c.in_ok-funcs.funcs.items in
-    (element_by n t.0 fs, both_some IsU32 Behind _ _ _ n (t.0, fs) c.in_ok-table.ensures.ok.1 (both_some IsExpr (IsVec IsU32) _ _ _ t.0 fs t.1 c.in_ok-funcs.ensures.ok), subst (λ l. IsPiece element_form c.args.nesting c.element.result (element_by n t.0 l)) c.from_vec-funcs.ensures (c.element.ensures c.args.nesting t.0 t.2))
+    (element_by n t.0 fs, both_some IsU32 Behind _ _ _ n (t.0, fs) c.in_ok-table.ensures.ok.1 (both_some IsExpr (IsVec IsU32) _ _ _ t.0 fs t.1 c.in_ok-funcs.ensures.ok), subst (λ l. IsPiece element_form c.args.nesting c.in_ok-element.element (element_by n t.0 l)) c.from_vec-funcs.ensures (c.in_ok-element.ensures c.args.nesting t.0 t.2))
 
 pub read_expr-requires-clause-bytes : goal.read_expr-requires-clause-bytes
 read_expr-requires-clause-bytes c = omega (arith, front_shorter IsU32 _ _ _ c.in_ok-table.ensures.ok.1)

@@ -23,7 +23,7 @@ pub returns-clause-ok : goal.returns-clause-ok
 returns-clause-ok c =
     let t = c.in_ok-ty.ensures.ok in
     let i = expr_front c.args.nesting _ _ _ c.in_ok-init.ensures.ok in
-    (global_by t.0 i.0, both_some IsGlobalType IsExpr _ _ _ t.0 i.0 t.1 i.1, c.global.ensures c.args.nesting t.0 i.0 t.2 i.2)
+    (global_by t.0 i.0, both_some IsGlobalType IsExpr _ _ _ t.0 i.0 t.1 i.1, c.in_ok-global.ensures c.args.nesting t.0 i.0 t.2 i.2)
 
 pub read_expr-requires-clause-bytes : goal.read_expr-requires-clause-bytes
 read_expr-requires-clause-bytes c = omega (arith, front_shorter IsGlobalType _ _ _ c.in_ok-ty.ensures.ok.1)

@@ -41,7 +41,7 @@ returns-clause-ok c =
     let n = c.in_ok-memory.memory in
     let t = expr_front c.args.nesting _ _ _ c.in_ok-offset.ensures.ok in
     let bs = c.in_ok-bytes.bytes.items in
-    (segment_by n t.0 bs, both_some IsU32 Behind _ _ _ n (t.0, bs) c.in_ok-memory.ensures.ok.1 (both_some IsExpr (IsVec IsByte) _ _ _ t.0 bs t.1 c.in_ok-bytes.ensures.ok), subst (λ l. IsPiece segment_form c.args.nesting c.segment.result (segment_by n t.0 l)) c.from_vec-bytes.ensures (c.segment.ensures c.args.nesting t.0 t.2))
+    (segment_by n t.0 bs, both_some IsU32 Behind _ _ _ n (t.0, bs) c.in_ok-memory.ensures.ok.1 (both_some IsExpr (IsVec IsByte) _ _ _ t.0 bs t.1 c.in_ok-bytes.ensures.ok), subst (λ l. IsPiece segment_form c.args.nesting c.in_ok-segment.segment (segment_by n t.0 l)) c.from_vec-bytes.ensures (c.in_ok-segment.ensures c.args.nesting t.0 t.2))
 
 pub read_expr-requires-clause-bytes : goal.read_expr-requires-clause-bytes
 read_expr-requires-clause-bytes c = omega (arith, front_shorter IsU32 _ _ _ c.in_ok-memory.ensures.ok.1)
