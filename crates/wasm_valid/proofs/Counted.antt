@@ -1,5 +1,5 @@
 -- No more functions are imported than there are imports, and what the table of spaces has of globals.
-use Rattle.std.proofs.Common.{◌≡◌, ◌+◌, ◌≤◌, List, [], ◌∷◌, take, length, ap, ◌∙◌, arith}
+use Rattle.std.proofs.Common.{◌≡◌, ◌≤◌, List, [], ◌∷◌, take, length, ap, ◌∙◌, arith}
 use Rattle.std.proofs.Math.Seq.{take-append_seam}
 use Rattle.module_ast.specs.declared.module.Item.{Item}
 use Rattle.module_ast.specs.declared.module.Item.TheVariants as items
