@@ -8,8 +8,7 @@ ghost use Rattle.code_valid.specs.Answers.{OnRefusal, OnlyMemory, Pops, Moves, E
 ghost use Rattle.ctrl_stack.specs.Stack.{started};
 
 use crate::invalid::BodyInvalid;
-use ctrl_stack::frame::Types;
-use ctrl_stack::stack::CtrlStack;
+use ctrl_stack::{CtrlStack, Types};
 use std::alloc::Global;
 use std::marker::Model;
 use wasm_num::{BlockKind, NoMemory, ValType};

@@ -15,7 +15,7 @@ use crate::locals::Locals;
 use crate::marks::Marks;
 use crate::surveying::survey_code;
 use crate::walk::Walk;
-use ctrl_stack::frame::Types;
+use ctrl_stack::Types;
 use module_ast::code::Code;
 use module_ast::module::Module;
 use module_ast::seq::Seq;

@@ -18,7 +18,7 @@ use crate::env::Env;
 use crate::invalid::BodyInvalid;
 use crate::plain::act;
 use crate::walk::Walk;
-use ctrl_stack::frame::Types;
+use ctrl_stack::Types;
 use module_ast::code::{BlockType, Code, Instr};
 use std::alloc::Global;
 use wasm_num::BlockKind;
