@@ -12,7 +12,8 @@ use Rattle.module_ast.specs.Typing.{Context}
 use Rattle.code_valid.specs.Checking.{Stack, apply, effect, with_some, marked, or_else}
 use Rattle.code_valid.specs.Control.{Control, here, with_here, context_in}
 use Rattle.code_valid.specs.Survey.{Notes, see, note, on_one, survey}
-use Rattle.code_valid.specs.Acting.{plain_of, IsPlain, effect_of, marked_by, goes_on_by, pass}
+use Rattle.module_ast.specs.Plains.{plain_of, IsPlain, goes_on_by}
+use Rattle.code_valid.specs.Acting.{effect_of, marked_by, pass}
 
 -- ---- places in a sequence
 

@@ -6,5 +6,4 @@ pub mod Control
 pub mod Instance
 pub mod Laws
 pub mod Locals
-pub mod Spaces
 pub mod Survey

@@ -8,11 +8,10 @@ ghost use Rattle.code_valid.specs.Answers.{OnRefusal, OnlyMemory, Pops, Moves, E
 ghost use Rattle.ctrl_stack.specs.Stack.{started};
 
 use crate::invalid::BodyInvalid;
-use ctrl_stack::frame::Types;
-use ctrl_stack::stack::CtrlStack;
-use std::alloc::{AllocError, Global};
+use ctrl_stack::{CtrlStack, Types};
+use std::alloc::Global;
 use std::marker::Model;
-use wasm_num::{BlockKind, ValType};
+use wasm_num::{BlockKind, NoMemory, ValType};
 
 /// The open blocks of a body, of which contracts see the innermost one with its operands apart.
 #[derive(Debug, Drop)]
@@ -32,7 +31,7 @@ impl Model for Blocks {
 
 impl Blocks {
     /// A function with these results, before its first instruction.
-    pub fn new(alloc: Global, results: Types) -> Result<Blocks, AllocError>
+    pub fn new(alloc: Global, results: Types) -> Result<Blocks, NoMemory>
         ensures { IfOk result (λ s. s ≡ parted (started results)) }
     {
         Ok(Blocks {

@@ -3,9 +3,9 @@
 ghost use Rattle.std.specs.Prelude.{◌≡◌, ◌<◌, ◌^◌, length, IfOk, IsErrOf};
 ghost use Rattle.module_ast.specs.Limits.{IsWhole};
 ghost use Rattle.module_ast.specs.Positions.{code_size};
+ghost use Rattle.module_ast.specs.Spaces.{spaces_of};
 ghost use Rattle.module_ast.specs.Validity.{KeepsRules, TypesBody, HasBodyMarks};
 ghost use Rattle.code_valid.specs.Bodies.{TypesIn, HasMarksIn};
-ghost use Rattle.code_valid.specs.Spaces.{IsSpaces};
 ghost use Rattle.code_valid.specs.declared.invalid.BodyInvalid.{BodyInvalid};
 
 use crate::blocks::Blocks;
@@ -13,15 +13,15 @@ use crate::env::Env;
 use crate::invalid::BodyInvalid;
 use crate::locals::Locals;
 use crate::marks::Marks;
-use crate::spaces::Spaces;
 use crate::surveying::survey_code;
 use crate::walk::Walk;
-use ctrl_stack::frame::Types;
+use ctrl_stack::Types;
 use module_ast::code::Code;
 use module_ast::module::Module;
 use module_ast::seq::Seq;
-use std::alloc::{AllocError, Global};
-use wasm_num::ValType;
+use module_ast::spaces::Spaces;
+use std::alloc::Global;
+use wasm_num::{NoMemory, ValType};
 
 /// Checks the body of a defined function by the rules of typing, and answers its marks and its height. `Invalid` says that
 /// the rules do not type it. It takes time linear in the module's imports, functions and globals and in the body; for many
@@ -51,7 +51,7 @@ pub fn check_body_in(
     requires func { defined < length m.now.funcs }
     requires whole { IsWhole m.now }
     requires rules { KeepsRules m.now }
-    requires spaces { IsSpaces m.now spaces.now }
+    requires spaces { spaces.now ≡ spaces_of m.now }
     ensures typed { IfOk result (λ _. TypesBody m.now defined) }
     ensures marks { IfOk result (λ found. HasBodyMarks m.now defined found.types found.height) }
     ensures invalid { IsErrOf result BodyInvalid.Invalid → ¬ TypesBody m.now defined }
@@ -83,7 +83,7 @@ pub(crate) fn survey_body(alloc: Global, env: &Env, code: &Code) -> Result<Marks
     })
 }
 
-fn copied(alloc: Global, types: &[ValType]) -> Result<Types, AllocError>
+fn copied(alloc: Global, types: &[ValType]) -> Result<Types, NoMemory>
     ensures { IfOk result (λ copy. copy ≡ types.now) }
 {
     Ok(Types::from_vec(types.to_vec(alloc)?))

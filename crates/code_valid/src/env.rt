@@ -1,13 +1,12 @@
 // What the instructions of a body can name.
 
 ghost use Rattle.std.specs.Prelude.{◌≡◌, [], slice_get, Some, None, MatchOption};
-ghost use Rattle.module_ast.specs.Spaces.{funcs_of, tables_of, memories_of, globals_of};
+ghost use Rattle.module_ast.specs.Spaces.{funcs_of, tables_of, memories_of, globals_of, spaces_of};
 ghost use Rattle.code_valid.specs.Checking.{is_some_list};
-ghost use Rattle.code_valid.specs.Spaces.{IsSpaces};
 
 use crate::locals::Locals;
-use crate::spaces::Spaces;
 use module_ast::module::{FuncType, GlobalType, Module};
+use module_ast::spaces::Spaces;
 use std::marker::Model;
 use wasm_num::ValType;
 
@@ -21,10 +20,9 @@ pub(crate) struct Env<'m> {
 }
 
 impl<'m> Model for Env<'m> {
-    ghost use Rattle.std.specs.Prelude.{[]};
-    ghost use Rattle.module_ast.specs.Spaces.{funcs_of, tables_of, memories_of, globals_of};
+    ghost use Rattle.std.specs.Prelude.{◌≡◌, []};
+    ghost use Rattle.module_ast.specs.Spaces.{funcs_of, tables_of, memories_of, globals_of, spaces_of};
     ghost use Rattle.module_ast.specs.Typing.{Context};
-    ghost use Rattle.code_valid.specs.Spaces.{IsSpaces};
 
     ghost Value = { Context };
 
@@ -40,13 +38,13 @@ impl<'m> Model for Env<'m> {
           results = a.results.now;
         } };
 
-    ghost invariant = { λ a. IsSpaces a.m.now a.spaces.now };
+    ghost invariant = { λ a. a.spaces.now ≡ spaces_of a.m.now };
 }
 
 impl<'m> Env<'m> {
     /// Of a body of this module, whose spaces these are, with these locals and results.
     pub fn new(m: &'m Module, spaces: &'m Spaces, locals: Locals, results: &'m [ValType]) -> Env<'m>
-        requires { IsSpaces m.now spaces.now }
+        requires { spaces.now ≡ spaces_of m.now }
         ensures { result ≡ record { types = m.now.types; funcs = funcs_of m.now; tables = tables_of m.now; memories = memories_of m.now; globals = globals_of m.now; locals = locals; labels = []; results = results.now } }
     {
         Env {
@@ -97,7 +95,7 @@ impl<'m> Env<'m> {
     pub fn has_table(&self) -> bool
         ensures { result ≡ is_some_list self.now.tables }
     {
-        self.spaces.has_table()
+        self.spaces.counts().tables > 0
     }
 
     /// Whether there is a memory.
@@ -105,6 +103,6 @@ impl<'m> Env<'m> {
     pub fn has_memory(&self) -> bool
         ensures { result ≡ is_some_list self.now.memories }
     {
-        self.spaces.has_memory()
+        self.spaces.counts().memories > 0
     }
 }

@@ -1,6 +1,6 @@
 // Why a body is refused.
 
-use ctrl_stack::stack::StackFault;
+use ctrl_stack::StackFault;
 use std::alloc::{AllocError, AllocFailed};
 
 /// Why the check of a body has no good end.

@@ -2,17 +2,20 @@
 #![tactic(auto)]
 
 mod blocks;
-pub mod body;
+mod body;
 mod env;
-pub mod invalid;
+mod invalid;
 pub mod laws;
-pub mod locals;
-pub mod marks;
+mod locals;
+mod marks;
 mod plain;
-mod shapes;
-pub mod spaces;
 mod surveying;
 #[cfg(test)]
 mod tests;
-pub mod typed_body;
+mod typed_body;
 mod walk;
+
+pub use body::{check_body, check_body_in};
+pub use invalid::BodyInvalid;
+pub use marks::{Mark, Marks};
+pub use typed_body::TypedBody;

@@ -3,9 +3,9 @@
 ghost use Rattle.std.specs.Prelude.{◌≡◌};
 
 use module_ast::module::Group;
-use std::alloc::{AllocError, Global};
+use std::alloc::Global;
 use std::marker::Model;
-use wasm_num::ValType;
+use wasm_num::{NoMemory, ValType};
 
 // Locals of one type in a row, and how many there are up to the last of them.
 #[derive(Clone, Copy, Debug, PartialEq, Eq)]
@@ -40,7 +40,7 @@ impl Locals {
     ghost use Rattle.module_ast.specs.Validity.{declared_locals};
 
     /// The locals of a function with these parameters whose body lists these groups.
-    pub fn new(alloc: Global, params: &[ValType], groups: &[Group]) -> Result<Locals, AllocError>
+    pub fn new(alloc: Global, params: &[ValType], groups: &[Group]) -> Result<Locals, NoMemory>
         requires { locals_of groups.now < 2 ^ 32 }
         ensures { IfOk result (λ l. l ≡ params.now ++ declared_locals groups.now) }
     {

@@ -5,16 +5,15 @@ ghost use Rattle.module_ast.specs.Tree as tree;
 ghost use Rattle.code_valid.specs.Checking.{apply, effect, same_types, takes_these, all_take, is_some_list};
 ghost use Rattle.code_valid.specs.Control.{here, labels_of, context_in};
 ghost use Rattle.code_valid.specs.Answers.{Moves};
-ghost use Rattle.code_valid.specs.Acting.{effect_of, marked_by, goes_on_by};
+ghost use Rattle.code_valid.specs.Acting.{effect_of, marked_by};
 
 use crate::blocks::Blocks;
 use crate::env::Env;
 use crate::invalid::BodyInvalid;
-use crate::shapes::{load_shape, num_leaves, num_takes, store_shape};
 use module_ast::code::Instr;
 use module_ast::ops::{LoadOp, MemArg, StoreOp};
 use std::alloc::Global;
-use wasm_num::{NumOp, ValType};
+use wasm_num::ValType;
 
 /// Does what an instruction with no sequence in it does to the operands, and answers the type that a `drop` drops or a
 /// `select` leaves, where it is known; of a block `Invalid`. (Standard, 3.3)
@@ -34,16 +33,6 @@ pub(crate) fn act(
             turn(alloc, env, instr, blocks)?;
             Ok(None)
         }
-    }
-}
-
-/// Whether the code behind an instruction of its own sequence is live with it.
-pub(crate) fn goes_on(instr: &Instr) -> bool
-    ensures { result ≡ goes_on_by instr.now }
-{
-    match instr {
-        Instr::Unreachable | Instr::Br(_) | Instr::BrTable(_, _) | Instr::Return => false,
-        _ => true,
     }
 }
 
@@ -74,7 +63,7 @@ fn turn(alloc: Global, env: &Env, instr: &Instr, blocks: &mut Blocks) -> Result<
         Instr::MemoryGrow => memory_grow(env, blocks),
         Instr::I32Const(_) => blocks.turn(&[], &[ValType::I32]),
         Instr::I64Const(_) => blocks.turn(&[], &[ValType::I64]),
-        Instr::Num(op) => number(env, *op, blocks),
+        Instr::Num(op) => blocks.turn(op.operand_types(), &[op.result_type()]),
     }
 }
 
@@ -241,9 +230,8 @@ fn is_aligned(env: &Env, align: u32, width: u32) -> bool
 fn load(env: &Env, op: LoadOp, at: MemArg, blocks: &mut Blocks) -> Result<(), BodyInvalid>
     ensures { Moves result (apply (effect (context_in env.now blocks.old) (tree.load op at)) (here blocks.old)) blocks.old blocks.new }
 {
-    let (ty, width) = load_shape(op);
-    if is_aligned(env, at.align, width) {
-        blocks.turn(&[ValType::I32], &[ty])
+    if is_aligned(env, at.align, op.width()) {
+        blocks.turn(&[ValType::I32], &[op.ty()])
     } else {
         Err(BodyInvalid::Invalid)
     }
@@ -252,9 +240,8 @@ fn load(env: &Env, op: LoadOp, at: MemArg, blocks: &mut Blocks) -> Result<(), Bo
 fn store(env: &Env, op: StoreOp, at: MemArg, blocks: &mut Blocks) -> Result<(), BodyInvalid>
     ensures { Moves result (apply (effect (context_in env.now blocks.old) (tree.store op at)) (here blocks.old)) blocks.old blocks.new }
 {
-    let (ty, width) = store_shape(op);
-    if is_aligned(env, at.align, width) {
-        blocks.turn(&[ValType::I32, ty], &[])
+    if is_aligned(env, at.align, op.width()) {
+        blocks.turn(&[ValType::I32, op.ty()], &[])
     } else {
         Err(BodyInvalid::Invalid)
     }
@@ -277,16 +264,5 @@ fn memory_grow(env: &Env, blocks: &mut Blocks) -> Result<(), BodyInvalid>
         blocks.turn(&[ValType::I32], &[ValType::I32])
     } else {
         Err(BodyInvalid::Invalid)
-    }
-}
-
-fn number(env: &Env, op: NumOp, blocks: &mut Blocks) -> Result<(), BodyInvalid>
-    ensures { Moves result (apply (effect (context_in env.now blocks.old) (tree.num op)) (here blocks.old)) blocks.old blocks.new }
-{
-    let (ty, two) = num_takes(op);
-    if two {
-        blocks.turn(&[ty, ty], &[num_leaves(op)])
-    } else {
-        blocks.turn(&[ty], &[num_leaves(op)])
     }
 }

@@ -10,15 +10,15 @@ ghost use Rattle.ctrl_stack.specs.Stack.{types_by};
 ghost use Rattle.code_valid.specs.Checking.{fresh, push_all};
 ghost use Rattle.code_valid.specs.Control.{here, with_here, height_here, context_in};
 ghost use Rattle.code_valid.specs.Survey.{survey};
-ghost use Rattle.code_valid.specs.Acting.{IsPlain};
+ghost use Rattle.module_ast.specs.Plains.{IsPlain};
 ghost use Rattle.code_valid.specs.Answers.{OnlyMemory, Surveyed, Steps, Passes};
 
 use crate::blocks::Blocks;
 use crate::env::Env;
 use crate::invalid::BodyInvalid;
-use crate::plain::{act, goes_on};
+use crate::plain::act;
 use crate::walk::Walk;
-use ctrl_stack::frame::Types;
+use ctrl_stack::Types;
 use module_ast::code::{BlockType, Code, Instr};
 use std::alloc::Global;
 use wasm_num::BlockKind;
@@ -151,7 +151,7 @@ fn survey_plain(
 {
     walk.see(blocks.height());
     let ty = act(alloc, env, instr, blocks)?;
-    walk.pass(ty, goes_on(instr))?;
+    walk.pass(ty, instr.goes_on())?;
     Ok(())
 }
 

@@ -5,9 +5,9 @@ ghost use Rattle.code_valid.specs.Survey.{see, over, out_to, at_start};
 ghost use Rattle.code_valid.specs.Acting.{pass};
 
 use crate::marks::Mark;
-use std::alloc::{AllocError, Global};
+use std::alloc::Global;
 use std::marker::Model;
-use wasm_num::ValType;
+use wasm_num::{NoMemory, ValType};
 
 /// The marks and the greatest height so far, whether code is live here, and the position.
 #[derive(Debug, Drop)]
@@ -74,7 +74,7 @@ impl Walk {
     }
 
     /// Goes over an instruction with no sequence in it, which marks this type, if any. An unknown type is never marked.
-    pub fn pass(&mut self, ty: Option<ValType>, goes_on: bool) -> Result<(), AllocError>
+    pub fn pass(&mut self, ty: Option<ValType>, goes_on: bool) -> Result<(), NoMemory>
         requires { self.old.position + 1 < 2 ^ 32 }
         ensures { IfOk result (λ _. self.new ≡ pass ty goes_on self.old) }
     {

@@ -1,7 +1,10 @@
 // The open blocks of a body and the types of its operands, as the check of a body keeps them.
 #![tactic(auto)]
 
-pub mod frame;
-pub mod stack;
+mod frame;
+mod stack;
 #[cfg(test)]
 mod tests;
+
+pub use frame::{Frame, Types};
+pub use stack::{CtrlStack, StackFault};

@@ -7,7 +7,7 @@ ghost use Rattle.ctrl_stack.specs.Faults.{OnFault, IsMismatch};
 use crate::frame::{Frame, Types};
 use std::alloc::{AllocError, AllocFailed, Global};
 use std::marker::Model;
-use wasm_num::{BlockKind, ValType};
+use wasm_num::{BlockKind, NoMemory, ValType};
 
 /// Why a call on a `CtrlStack` is refused.
 #[derive(Debug, Drop)]
@@ -61,7 +61,7 @@ impl Model for CtrlStack {
 
 impl CtrlStack {
     /// A function with these results, before its first instruction.
-    pub fn new(alloc: Global, results: Types) -> Result<CtrlStack, AllocError>
+    pub fn new(alloc: Global, results: Types) -> Result<CtrlStack, NoMemory>
         ensures { IfOk result (λ s. s ≡ started results) }
     {
         let mut frames = Vec::new(alloc);
@@ -94,7 +94,7 @@ impl CtrlStack {
     }
 
     /// Puts an operand of this type, or of an unknown one, on top.
-    pub fn push(&mut self, ty: Option<ValType>) -> Result<(), AllocError>
+    pub fn push(&mut self, ty: Option<ValType>) -> Result<(), NoMemory>
         ensures ok { OnOk result (self.new ≡ push ty self.old) }
         ensures err { OnErr result (self.new ≡ self.old) }
     {
@@ -229,7 +229,7 @@ fn put_above(
     operands: &mut Vec<Option<ValType>>,
     height: usize,
     types: &[ValType],
-) -> Result<(), AllocError>
+) -> Result<(), NoMemory>
     requires { height ≤ length operands.old.items }
     ensures ok { OnOk result (operands.new.items ≡ take height operands.old.items ++ map Some types.now) }
     ensures err { OnErr result (operands.new.items ≡ operands.old.items) }

@@ -2,34 +2,13 @@
 
 ghost use Rattle.std.specs.Prelude.{◌≡◌, ◌<◌, ◌≤◌, ◌^◌, ◌++◌, ℕ, List, length, map, MatchOption};
 ghost use Rattle.module_ast.specs.Profile.{AreWithin, IsFirstAbove, IsFirstExceeded, bound_of, counts_of, order_of, locals_of};
-ghost use Rattle.module_ast.specs.Spaces.{imported_funcs};
 ghost use Rattle.module_ast.specs.declared.module.FuncType.{FuncType};
 ghost use Rattle.module_ast.specs.declared.module.Body.{Body};
 ghost use Rattle.module_ast.specs.declared.module.Which.{Which};
 ghost use Rattle.wasm_decode.specs.Counts.{AreFew};
 
-use module_ast::module::{Body, FuncType, Group, Import, Item, Limits, Module, Which};
-
-// How many functions are imported.
-fn imported(imports: &[Import]) -> usize
-    ensures is { result ≡ length (imported_funcs imports.now) }
-    ensures at_most { result ≤ length imports.now }
-{
-    let mut count = 0;
-    for import in imports {
-        if let Item::Func(_) = import.item {
-            count += 1;
-        }
-    }
-    count
-}
-
-// How many functions there are, imported ones included.
-fn functions(imports: &[Import], funcs: &[u32]) -> u64
-    ensures { result ≡ length (imported_funcs imports.now ++ funcs.now) }
-{
-    imported(imports) as u64 + funcs.len() as u64
-}
+use module_ast::module::{Body, FuncType, Group, Limits, Module, Which};
+use module_ast::spaces::Counts;
 
 // The first number of parameters above the bound.
 fn first_parameters(types: &[FuncType], bound: u32) -> Option<u64>
@@ -75,7 +54,7 @@ pub fn first_exceeded(kept: &Module, limits: &Limits) -> Option<(Which, u64)>
     requires few { AreFew kept.now.bodies }
     ensures { MatchOption result ((w : Which) → order_of w < 4 → AreWithin (bound_of limits.now w) (counts_of kept.now w)) (λ p. (order_of p.0 < 4) × IsFirstExceeded limits.now kept.now p.0 p.1) }
 {
-    let functions = functions(kept.imports.as_slice(), kept.funcs.as_slice());
+    let functions = Counts::of(kept).funcs as u64;
     if functions > limits.functions as u64 {
         return Some((Which::Functions, functions));
     }

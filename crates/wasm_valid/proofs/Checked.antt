@@ -1,15 +1,12 @@
 -- Bodies that have been checked, one after another.
 use Rattle.std.proofs.Common.{◌≡◌, ℕ, zero, suc, ◌+◌, ◌<◌, ◌≤◌, ◌⊎◌, inl, inr, List, [], ◌∷◌, ◌++◌, length, slice_get, refl, sym, ap, ◌∙◌, subst, length-append, arith}
-use Rattle.std.specs.Prelude.{Option, Some, None}
+use Rattle.std.specs.Prelude.{Some}
 use Rattle.std.proofs.lemmas.Bool.{cases_lt}
-use Rattle.std.proofs.lemmas.Option.{slice_get_within, slice_get_past}
-use Rattle.module_ast.specs.declared.module.Body.{Body}
-use Rattle.module_ast.specs.declared.module.FuncType.{FuncType}
+use Rattle.std.proofs.lemmas.Option.{slice_get_within}
 use Rattle.module_ast.specs.declared.module.Module.{Module}
 use Rattle.module_ast.specs.Limits.{IsWhole}
 use Rattle.module_ast.specs.Spaces.{imported_funcs}
-use Rattle.module_ast.specs.Typing.{push, TypesCode}
-use Rattle.module_ast.specs.Validity.{KeepsRules, TypesBody, IsFirstInvalid, IsValid, HasBodyMarks, body_context}
+use Rattle.module_ast.specs.Validity.{KeepsRules, TypesBody, IsFirstInvalid, HasBodyMarks}
 use Rattle.code_valid.specs.declared.marks.Marks.{Marks}
 use Rattle.wasm_valid.specs.Validated.{MarkFirst, IsValidated}
 

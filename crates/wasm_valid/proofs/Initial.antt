@@ -1,18 +1,10 @@
--- Constant expressions, and the types of globals.
-use Rattle.std.proofs.Common.{◌≡◌, ℕ, ◌+◌, ◌<◌, ◌≤◌, List, [], ◌∷◌, ◌++◌, length, take, get_or, Some, None, refl, sym, ap, ◌∙◌, arith, append_assoc}
-use Rattle.std.specs.List.{filter_map}
-use Rattle.std.proofs.lemmas.List.{take_more}
-use Rattle.module_ast.specs.declared.module.GlobalDef.{GlobalDef}
-use Rattle.module_ast.specs.declared.module.GlobalType.{GlobalType}
-use Rattle.module_ast.specs.declared.module.Import.{Import}
-use Rattle.module_ast.specs.declared.module.Item.{Item}
-use Rattle.module_ast.specs.declared.module.Item.TheVariants as items
+-- Constant expressions.
+use Rattle.std.proofs.Common.{◌≡◌, ◌≤◌, List, [], ◌∷◌, length, Some, None, refl, arith}
 use Rattle.module_ast.specs.declared.code.Instr.{Instr}
 use Rattle.module_ast.specs.declared.code.Instr.TheVariants.{Block, Loop, If, Unreachable, Nop, Br, BrIf, BrTable, Return, Call, CallIndirect, Drop, Select, LocalGet, LocalSet, LocalTee, GlobalGet, GlobalSet, Load, Store, MemorySize, MemoryGrow, I32Const, I64Const, Num}
 use Rattle.module_ast.specs.Tree.{Tree, Plain, plain, unreachable, nop, br, br_if, br_table, return_, call, call_indirect, drop_, select, local_get, local_set, local_tee, global_get, global_set, load, store, memory_size, memory_grow, i32_const, i64_const, num}
 use Rattle.module_ast.specs.Seen.{before, code_of}
-use Rattle.module_ast.specs.Spaces.{imported_globals, global_types}
-use Rattle.wasm_valid.specs.Constants.{constant_of, global_in}
+use Rattle.wasm_valid.specs.Constants.{constant_of}
 
 -- an instruction before another one
 not_alone : (p : Plain) (i : Instr) (t : Tree) → constant_of (plain p (before i t)) ≡ None
@@ -54,22 +46,3 @@ pub constant_of-many : (is : List Instr) → 2 ≤ length is → constant_of (co
 constant_of-many [] h = refl
 constant_of-many (i ∷ []) h = absurd (omega arith)
 constant_of-many (i ∷ j ∷ is) h = long i j (code_of is)
-
-global_first : (i : Import) (item : Item) (is : List Import) → filter_map global_in is ≡ imported_globals is → (let j = record i { item = item } in filter_map global_in (j ∷ is) ≡ imported_globals (j ∷ is))
-global_first i (items.Global g) is h = ap (λ gs. g ∷ gs) h
-global_first i (items.Func _) is h = h
-global_first i (items.Table _) is h = h
-global_first i (items.Memory _) is h = h
-
-pub filter_map-globals : (is : List Import) → filter_map global_in is ≡ imported_globals is
-filter_map-globals [] = refl
-filter_map-globals (i ∷ is) = global_first i i.item is (filter_map-globals is)
-
-global_types-push : (gs : List GlobalDef) (g : GlobalDef) → global_types (gs ++ g ∷ []) ≡ global_types gs ++ g.ty ∷ []
-global_types-push [] g = refl
-global_types-push (x ∷ gs) g = ap (λ ts. x.ty ∷ ts) (global_types-push gs g)
-
-pub global_types-more : (gs : List GlobalDef) (n : ℕ) (d : GlobalDef) (ts : List GlobalType) → n < length gs → (ts ++ global_types (take n gs)) ++ (get_or gs n d).ty ∷ [] ≡ ts ++ global_types (take (n + 1) gs)
-global_types-more gs n d ts h =
-    append_assoc ts (global_types (take n gs)) ((get_or gs n d).ty ∷ [])
-    ∙ ap (λ xs. ts ++ xs) (sym (ap global_types (take_more gs n d h) ∙ global_types-push (take n gs) (get_or gs n d)))

@@ -1,9 +1,5 @@
 -- Constant expressions. 3.3.7
 use Rattle.std.specs.Prelude.{Option, Some, None}
-use Rattle.module_ast.specs.declared.module.GlobalType.{GlobalType}
-use Rattle.module_ast.specs.declared.module.Item.{Item}
-use Rattle.module_ast.specs.declared.module.Item.TheVariants as items
-use Rattle.module_ast.specs.declared.module.Import.{Import}
 use Rattle.module_ast.specs.Tree.{Tree, done, plain, Plain, i32_const, i64_const, global_get}
 use Rattle.wasm_valid.specs.declared.constants.Constant.{Constant}
 use Rattle.wasm_valid.specs.declared.constants.Constant.TheVariants.{I32, I64, Global}
@@ -18,10 +14,3 @@ constant_by _ = None
 abbrev pub constant_of : Tree → Option Constant
 constant_of (plain p done) = constant_by p
 constant_of _ = None
-
-abbrev pub global_by : Item → Option GlobalType
-global_by (items.Global g) = Some g
-global_by _ = None
-
-abbrev pub global_in : Import → Option GlobalType
-global_in i = global_by i.item

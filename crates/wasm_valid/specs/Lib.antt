@@ -1,5 +1,4 @@
 pub mod Broken
 pub mod Constants
-pub mod Counts
 pub mod Imported
 pub mod Validated

@@ -1,17 +1,15 @@
 // The first rule that is broken.
 
-ghost use Rattle.std.specs.Prelude.{◌≡◌, ◌+◌, ◌≤◌, length, not, MatchOption, IfOk, OnErr};
+ghost use Rattle.std.specs.Prelude.{◌≡◌, ◌+◌, ◌≤◌, length, not, MatchOption, IfOk};
 ghost use Rattle.std.specs.List.{position_from};
-ghost use Rattle.module_ast.specs.Limits.{IsWhole};
 ghost use Rattle.module_ast.specs.Validity.{KeepsRules};
-ghost use Rattle.wasm_valid.specs.Counts.{AreCounts};
+ghost use Rattle.module_ast.specs.Spaces.{spaces_of};
 ghost use Rattle.wasm_valid.specs.Broken.{KeepsBelow, BreaksFirst};
 
 use crate::constants::{
-    globals_of, imported_globals, keeps_element_offsets, keeps_init_constant, keeps_init_global,
-    keeps_init_type, keeps_segment_offsets,
+    keeps_element_offsets, keeps_init_constant, keeps_init_global, keeps_init_type,
+    keeps_segment_offsets,
 };
-use crate::counts::{Counts, counts_of};
 use crate::limits::{
     keeps_memory_limits, keeps_memory_pages, keeps_one_memory, keeps_one_table, keeps_table_limits,
 };
@@ -22,7 +20,9 @@ use crate::rules::{
     keeps_start_type,
 };
 use module_ast::module::Module;
-use std::alloc::{AllocError, Global};
+use module_ast::spaces::{Counts, Spaces};
+use std::alloc::Global;
+use wasm_num::NoMemory;
 
 // The number of the first of these rules that is not kept, where they are numbered from `first` on.
 fn first_not_kept(kept: &[bool], first: u8) -> Option<u8>
@@ -39,17 +39,18 @@ fn first_not_kept(kept: &[bool], first: u8) -> Option<u8>
     None
 }
 
-// The first rule of 1 to 9 that is broken. It takes no memory.
-fn first_of_nine(m: &Module, counts: &Counts) -> Option<u8>
-    requires { AreCounts m.now counts.now }
+/// The number of the first rule of 1 to 9, in their order, that a module breaks; none where it keeps these. It takes no
+/// memory.
+pub(crate) fn first_of_nine(m: &Module) -> Option<u8>
     ensures { MatchOption result (KeepsBelow m.now 10) (BreaksFirst m.now) }
 {
+    let counts = Counts::of(m);
     let kept = [
         keeps_one_result(m),
         keeps_import_types(m),
         keeps_function_types(m),
-        keeps_one_table(m, counts),
-        keeps_one_memory(m, counts),
+        keeps_one_table(m, &counts),
+        keeps_one_memory(m, &counts),
         keeps_table_limits(m),
         keeps_memory_pages(m),
         keeps_memory_limits(m),
@@ -58,40 +59,31 @@ fn first_of_nine(m: &Module, counts: &Counts) -> Option<u8>
     first_not_kept(&kept, 1)
 }
 
-// The first rule that is broken, where rules 1 to 9 are kept.
-fn first_of_others(alloc: Global, m: &Module, counts: &Counts) -> Result<Option<u8>, AllocError>
-    requires counts { AreCounts m.now counts.now }
+/// The number of the first of the other rules that is broken, where rules 1 to 9 are kept; none where all are.
+pub(crate) fn first_of_others(
+    alloc: Global,
+    m: &Module,
+    spaces: &Spaces,
+) -> Result<Option<u8>, NoMemory>
+    requires spaces { spaces.now ≡ spaces_of m.now }
     requires nine { KeepsBelow m.now 10 }
     ensures { IfOk result (λ o. MatchOption o (KeepsRules m.now) (BreaksFirst m.now)) }
 {
-    let imported = imported_globals(alloc, m)?;
-    let globals = globals_of(alloc, m)?;
+    let counts = spaces.counts();
+    let imported = spaces.imported_globals();
+    let globals = spaces.globals();
     let kept = [
-        keeps_init_global(m, &imported),
-        keeps_init_type(m, &imported),
-        keeps_export_indices(m, counts),
+        keeps_init_global(m, imported),
+        keeps_init_type(m, imported),
+        keeps_export_indices(m, &counts),
         keeps_export_names(alloc, m)?,
-        keeps_start_index(m, counts),
-        keeps_start_type(m),
-        keeps_element_tables(m, counts),
-        keeps_element_offsets(m, &globals),
-        keeps_element_funcs(m, counts),
-        keeps_segment_memories(m, counts),
-        keeps_segment_offsets(m, &globals),
+        keeps_start_index(m, &counts),
+        keeps_start_type(m, spaces),
+        keeps_element_tables(m, &counts),
+        keeps_element_offsets(m, globals),
+        keeps_element_funcs(m, &counts),
+        keeps_segment_memories(m, &counts),
+        keeps_segment_offsets(m, globals),
     ];
     Ok(first_not_kept(&kept, 10))
-}
-
-/// The number of the first rule, in their order, that a module breaks; none where it keeps all. Want of memory comes only
-/// where rules 1 to 9 are kept.
-pub fn first_broken(alloc: Global, m: &Module) -> Result<Option<u8>, AllocError>
-    requires { IsWhole m.now }
-    ensures ok { IfOk result (λ o. MatchOption o (KeepsRules m.now) (BreaksFirst m.now)) }
-    ensures memory { OnErr result (KeepsBelow m.now 10) }
-{
-    let counts = counts_of(m);
-    match first_of_nine(m, &counts) {
-        Some(rule) => Ok(Some(rule)),
-        None => first_of_others(alloc, m, &counts),
-    }
 }

@@ -1,15 +1,14 @@
 // The rules on initialisers of globals and offsets of segments. Each function decides one rule exactly.
 
-ghost use Rattle.std.specs.Prelude.{◌≡◌, ◌↔◌, IsTrue, IfOk, slice_get};
+ghost use Rattle.std.specs.Prelude.{◌≡◌, ◌↔◌, IsTrue, slice_get};
 ghost use Rattle.module_ast.specs.Seen.{before};
 ghost use Rattle.module_ast.specs.Tree.{done};
 ghost use Rattle.module_ast.specs.Spaces.{imported_globals, globals_of};
 ghost use Rattle.module_ast.specs.Validity.{IsConstant, ReadsImported, HasInitType, IsOffset, Keeps, init_constant, init_global, init_type, element_offsets, segment_offsets};
-ghost use Rattle.wasm_valid.specs.Constants.{constant_of, global_in};
+ghost use Rattle.wasm_valid.specs.Constants.{constant_of};
 
 use module_ast::code::{Code, Instr};
-use module_ast::module::{GlobalDef, GlobalType, Import, Item, Module};
-use std::alloc::{AllocError, Global};
+use module_ast::module::{GlobalDef, GlobalType, Module};
 use wasm_num::ValType;
 
 // What a constant expression gives: a number of its type, or what the global of this index holds.
@@ -96,14 +95,14 @@ fn is_offset(globals: &[GlobalType], code: &Code) -> bool
 }
 
 /// Each initialiser of a global is exactly one constant or one `global.get`. (Standard, 3.3.7)
-pub fn keeps_init_constant(m: &Module) -> bool
+pub(crate) fn keeps_init_constant(m: &Module) -> bool
     ensures { IsTrue result ↔ Keeps m.now init_constant }
 {
     m.globals.as_slice().iter().all(|g| is_constant(&g.init))
 }
 
 /// A global that an initialiser reads is an imported one that is not mutable. (Standard, 3.3.7)
-pub fn keeps_init_global(m: &Module, imported: &[GlobalType]) -> bool
+pub(crate) fn keeps_init_global(m: &Module, imported: &[GlobalType]) -> bool
     requires { imported.now ≡ imported_globals m.now.imports }
     ensures { IsTrue result ↔ Keeps m.now init_global }
 {
@@ -112,7 +111,7 @@ pub fn keeps_init_global(m: &Module, imported: &[GlobalType]) -> bool
 }
 
 /// Each initialiser has its global's type. (Standard, 3.4.4)
-pub fn keeps_init_type(m: &Module, imported: &[GlobalType]) -> bool
+pub(crate) fn keeps_init_type(m: &Module, imported: &[GlobalType]) -> bool
     requires { imported.now ≡ imported_globals m.now.imports }
     ensures { IsTrue result ↔ Keeps m.now init_type }
 {
@@ -122,7 +121,7 @@ pub fn keeps_init_type(m: &Module, imported: &[GlobalType]) -> bool
 
 /// The offset of each element segment is exactly one `i32.const`, or one `global.get` of a global of type i32 that is
 /// not mutable, imported or defined. (Standard, 3.4.5)
-pub fn keeps_element_offsets(m: &Module, globals: &[GlobalType]) -> bool
+pub(crate) fn keeps_element_offsets(m: &Module, globals: &[GlobalType]) -> bool
     requires { globals.now ≡ globals_of m.now }
     ensures { IsTrue result ↔ Keeps m.now element_offsets }
 {
@@ -131,40 +130,10 @@ pub fn keeps_element_offsets(m: &Module, globals: &[GlobalType]) -> bool
 }
 
 /// The same of each data segment. (Standard, 3.4.6)
-pub fn keeps_segment_offsets(m: &Module, globals: &[GlobalType]) -> bool
+pub(crate) fn keeps_segment_offsets(m: &Module, globals: &[GlobalType]) -> bool
     requires { globals.now ≡ globals_of m.now }
     ensures { IsTrue result ↔ Keeps m.now segment_offsets }
 {
     let segments = m.segments.as_slice();
     segments.iter().all(|d| is_offset(globals, &d.offset))
-}
-
-// The type of the global that is imported, if one is.
-fn global_in(import: &Import) -> Option<GlobalType>
-    ensures { result ≡ global_in import.now }
-{
-    match import.item {
-        Item::Global(ty) => Some(ty),
-        _ => None,
-    }
-}
-
-/// The types of the imported globals, in order. (Standard, 2.5.1)
-pub fn imported_globals(alloc: Global, m: &Module) -> Result<Vec<GlobalType>, AllocError>
-    ensures { IfOk result (λ v. v.items ≡ imported_globals m.now.imports) }
-{
-    let imports = m.imports.as_slice();
-    imports.iter().filter_map(global_in).collect(alloc)
-}
-
-/// The types of all globals, imported ones first. (Standard, 2.5.1)
-pub fn globals_of(alloc: Global, m: &Module) -> Result<Vec<GlobalType>, AllocError>
-    ensures { IfOk result (λ v. v.items ≡ globals_of m.now) }
-{
-    let mut types = imported_globals(alloc, m)?;
-    let globals = m.globals.as_slice();
-    for global in globals {
-        types.push(global.ty)?;
-    }
-    Ok(types)
 }

@@ -7,21 +7,21 @@ ghost use Rattle.module_ast.specs.Validity.{IsValid, IsFirstInvalid};
 ghost use Rattle.wasm_valid.specs.Broken.{KeepsBelow, BreaksFirst};
 ghost use Rattle.wasm_valid.specs.declared.invalid.Invalid.{Invalid};
 
-pub mod bodies;
-pub mod broken;
-pub mod constants;
-pub mod counts;
-pub mod invalid;
+mod bodies;
+mod broken;
+mod constants;
+mod invalid;
 pub mod laws;
-pub mod limits;
-pub mod names;
-pub mod rules;
-pub mod valid_module;
+mod limits;
+mod names;
+mod rules;
+mod valid_module;
 
 use crate::bodies::check_bodies;
-use crate::broken::first_broken;
+use crate::broken::{first_of_nine, first_of_others};
 pub use invalid::Invalid;
 use module_ast::module::Module;
+use module_ast::spaces::Spaces;
 use std::alloc::Global;
 use std::thread::Threads;
 pub use valid_module::ValidModule;
@@ -46,9 +46,13 @@ pub fn validate<R: Threads + Sync>(
     ensures body { (func : ℕ) → IsErrOf result (Invalid.Body func) → IsFirstInvalid m func }
     ensures memory { IsErrOf result Invalid.NoMemory → KeepsBelow m 10 }
 {
-    if let Some(rule) = first_broken(alloc, &m)? {
+    if let Some(rule) = first_of_nine(&m) {
         return Err(Invalid::Module { rule });
     }
-    let marks = check_bodies(alloc, &m)?;
+    let spaces = Spaces::new(alloc, &m)?;
+    if let Some(rule) = first_of_others(alloc, &m, &spaces)? {
+        return Err(Invalid::Module { rule });
+    }
+    let marks = check_bodies(alloc, &m, &spaces)?;
     Ok(ValidModule::new(m, marks))
 }

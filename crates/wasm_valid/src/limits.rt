@@ -1,24 +1,24 @@
 // The rules on tables and memories. Each function decides one rule exactly.
 
-ghost use Rattle.std.specs.Prelude.{◌↔◌, IsTrue, All};
+ghost use Rattle.std.specs.Prelude.{◌≡◌, ◌↔◌, IsTrue, All};
 ghost use Rattle.module_ast.specs.Validity.{IsOrdered, HasPagesWithin, Keeps, one_table, one_memory, table_limits, memory_pages, memory_limits};
-ghost use Rattle.wasm_valid.specs.Counts.{AreCounts};
+ghost use Rattle.module_ast.specs.Spaces.{space_counts};
 ghost use Rattle.wasm_valid.specs.Imported.{IfTable, IfMemory};
 
-use crate::counts::Counts;
 use module_ast::module::{Import, Item, Module, Range};
+use module_ast::spaces::Counts;
 
 /// There is at most one table, imports counted. (Standard, 3.4.10)
-pub fn keeps_one_table(m: &Module, counts: &Counts) -> bool
-    requires { AreCounts m.now counts.now }
+pub(crate) fn keeps_one_table(m: &Module, counts: &Counts) -> bool
+    requires { counts.now ≡ space_counts m.now }
     ensures { IsTrue result ↔ Keeps m.now one_table }
 {
     counts.tables <= 1
 }
 
 /// There is at most one memory, imports counted. (Standard, 3.4.10)
-pub fn keeps_one_memory(m: &Module, counts: &Counts) -> bool
-    requires { AreCounts m.now counts.now }
+pub(crate) fn keeps_one_memory(m: &Module, counts: &Counts) -> bool
+    requires { counts.now ≡ space_counts m.now }
     ensures { IsTrue result ↔ Keeps m.now one_memory }
 {
     counts.memories <= 1
@@ -103,21 +103,21 @@ fn have_few_pages(ranges: &[Range]) -> bool
 }
 
 /// No table's maximum is below its minimum. (Standard, 3.2.4)
-pub fn keeps_table_limits(m: &Module) -> bool
+pub(crate) fn keeps_table_limits(m: &Module) -> bool
     ensures { IsTrue result ↔ Keeps m.now table_limits }
 {
     imports_ordered_tables(m.imports.as_slice()) && are_ordered(m.tables.as_slice())
 }
 
 /// No memory's minimum or maximum is above 65,536 pages. (Standard, 3.2.5)
-pub fn keeps_memory_pages(m: &Module) -> bool
+pub(crate) fn keeps_memory_pages(m: &Module) -> bool
     ensures { IsTrue result ↔ Keeps m.now memory_pages }
 {
     imports_few_pages(m.imports.as_slice()) && have_few_pages(m.memories.as_slice())
 }
 
 /// No memory's maximum is below its minimum. (Standard, 3.2.5)
-pub fn keeps_memory_limits(m: &Module) -> bool
+pub(crate) fn keeps_memory_limits(m: &Module) -> bool
     ensures { IsTrue result ↔ Keeps m.now memory_limits }
 {
     imports_ordered_memories(m.imports.as_slice()) && are_ordered(m.memories.as_slice())

@@ -4,11 +4,12 @@ ghost use Rattle.std.specs.Prelude.{◌↔◌, IsTrue, IfOk};
 ghost use Rattle.module_ast.specs.Validity.{Keeps, export_names};
 
 use module_ast::module::Module;
-use std::alloc::{AllocError, Global};
+use std::alloc::Global;
 use std::collections::BTreeSet;
+use wasm_num::NoMemory;
 
 /// No two exports have the same name. (Standard, 3.4.10)
-pub fn keeps_export_names(alloc: Global, m: &Module) -> Result<bool, AllocError>
+pub(crate) fn keeps_export_names(alloc: Global, m: &Module) -> Result<bool, NoMemory>
     ensures { IfOk result (λ b. IsTrue b ↔ Keeps m.now export_names) }
 {
     // In an ordered set, names cannot be chosen so that they collide.

@@ -2,14 +2,14 @@
 
 ghost use Rattle.std.specs.Prelude.{◌≡◌, ◌↔◌, ◌<◌, [], IsTrue, All};
 ghost use Rattle.module_ast.specs.Validity.{Keeps, one_result, import_types, function_types, export_indices, start_index, start_type, element_tables, element_funcs, segment_memories};
-ghost use Rattle.wasm_valid.specs.Counts.{AreCounts};
+ghost use Rattle.module_ast.specs.Spaces.{space_counts, spaces_of};
 ghost use Rattle.wasm_valid.specs.Imported.{IfFunc};
 
-use crate::counts::{Counts, count_in};
 use module_ast::module::{Element, FuncType, Import, Item, Module};
+use module_ast::spaces::{Counts, Spaces};
 
 /// Each function type has at most one result. (Standard, 3.2.3)
-pub fn keeps_one_result(m: &Module) -> bool
+pub(crate) fn keeps_one_result(m: &Module) -> bool
     ensures { IsTrue result ↔ Keeps m.now one_result }
 {
     let types = m.types.as_slice();
@@ -34,14 +34,14 @@ fn name_types(imports: &[Import], types: usize) -> bool
 }
 
 /// Each imported function names a type. (Standard, 3.4.9)
-pub fn keeps_import_types(m: &Module) -> bool
+pub(crate) fn keeps_import_types(m: &Module) -> bool
     ensures { IsTrue result ↔ Keeps m.now import_types }
 {
     name_types(m.imports.as_slice(), m.types.as_slice().len())
 }
 
 /// Each defined function names a type. (Standard, 3.4.1)
-pub fn keeps_function_types(m: &Module) -> bool
+pub(crate) fn keeps_function_types(m: &Module) -> bool
     ensures { IsTrue result ↔ Keeps m.now function_types }
 {
     let types = m.types.as_slice().len();
@@ -49,21 +49,23 @@ pub fn keeps_function_types(m: &Module) -> bool
 }
 
 /// Each export names an entry of its index space. (Standard, 3.4.8)
-pub fn keeps_export_indices(m: &Module, counts: &Counts) -> bool
-    requires { AreCounts m.now counts.now }
+pub(crate) fn keeps_export_indices(m: &Module, counts: &Counts) -> bool
+    requires { counts.now ≡ space_counts m.now }
     ensures { IsTrue result ↔ Keeps m.now export_indices }
 {
     let exports = m.exports.as_slice();
-    exports.iter().all(|e| e.index < count_in(counts, e.kind))
+    exports
+        .iter()
+        .all(|e| (e.index as usize) < counts.of_kind(e.kind))
 }
 
 /// The start function, where there is one, exists. (Standard, 3.4.7)
-pub fn keeps_start_index(m: &Module, counts: &Counts) -> bool
-    requires { AreCounts m.now counts.now }
+pub(crate) fn keeps_start_index(m: &Module, counts: &Counts) -> bool
+    requires { counts.now ≡ space_counts m.now }
     ensures { IsTrue result ↔ Keeps m.now start_index }
 {
     match m.start {
-        Some(func) => func < counts.funcs,
+        Some(func) => (func as usize) < counts.funcs,
         None => true,
     }
 }
@@ -76,37 +78,42 @@ fn is_bare(ty: &FuncType) -> bool
 }
 
 /// The start function, where there is one, has neither parameters nor results. (Standard, 3.4.7)
-pub fn keeps_start_type(m: &Module) -> bool
+pub(crate) fn keeps_start_type(m: &Module, spaces: &Spaces) -> bool
+    requires { spaces.now ≡ spaces_of m.now }
     ensures { IsTrue result ↔ Keeps m.now start_type }
 {
     let Some(func) = m.start else {
         return true;
     };
-    match m.func_type(func) {
+    match spaces.func_type(m, func) {
         Some(ty) => is_bare(ty),
         None => false,
     }
 }
 
 /// The table of each element segment exists. (Standard, 3.4.5)
-pub fn keeps_element_tables(m: &Module, counts: &Counts) -> bool
-    requires { AreCounts m.now counts.now }
+pub(crate) fn keeps_element_tables(m: &Module, counts: &Counts) -> bool
+    requires { counts.now ≡ space_counts m.now }
     ensures { IsTrue result ↔ Keeps m.now element_tables }
 {
     let elements = m.elements.as_slice();
-    elements.iter().all(|e| e.table < counts.tables)
+    elements.iter().all(|e| (e.table as usize) < counts.tables)
 }
 
 // Each function of the segment is one of so many.
-fn name_funcs(element: &Element, funcs: u32) -> bool
+fn name_funcs(element: &Element, funcs: usize) -> bool
     ensures { IsTrue result ↔ All (λ f. f < funcs) element.now.funcs }
 {
-    element.funcs.as_slice().iter().all(|f| *f < funcs)
+    element
+        .funcs
+        .as_slice()
+        .iter()
+        .all(|f| (*f as usize) < funcs)
 }
 
 /// Each function of each element segment exists. (Standard, 3.4.5)
-pub fn keeps_element_funcs(m: &Module, counts: &Counts) -> bool
-    requires { AreCounts m.now counts.now }
+pub(crate) fn keeps_element_funcs(m: &Module, counts: &Counts) -> bool
+    requires { counts.now ≡ space_counts m.now }
     ensures { IsTrue result ↔ Keeps m.now element_funcs }
 {
     let elements = m.elements.as_slice();
@@ -114,10 +121,12 @@ pub fn keeps_element_funcs(m: &Module, counts: &Counts) -> bool
 }
 
 /// The memory of each data segment exists. (Standard, 3.4.6)
-pub fn keeps_segment_memories(m: &Module, counts: &Counts) -> bool
-    requires { AreCounts m.now counts.now }
+pub(crate) fn keeps_segment_memories(m: &Module, counts: &Counts) -> bool
+    requires { counts.now ≡ space_counts m.now }
     ensures { IsTrue result ↔ Keeps m.now segment_memories }
 {
     let segments = m.segments.as_slice();
-    segments.iter().all(|d| d.memory < counts.memories)
+    segments
+        .iter()
+        .all(|d| (d.memory as usize) < counts.memories)
 }

@@ -1,7 +1,6 @@
 // Valid modules.
 
-use code_valid::marks::Marks;
-use code_valid::typed_body::TypedBody;
+use code_valid::{Marks, TypedBody};
 use module_ast::module::Module;
 use module_ast::seq::Seq;
 use std::marker::Model;

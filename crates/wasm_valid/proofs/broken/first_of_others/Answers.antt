@@ -1,8 +1,5 @@
 use Rattle.std.proofs.Common.{List, [], ◌∷◌, Bool, refl}
-use Rattle.std.specs.Prelude.{MatchOption}
-use Rattle.module_ast.specs.Validity.{KeepsRules}
-use Rattle.wasm_valid.specs.Broken.{BreaksFirst}
-use Rattle.wasm_valid.proofs.Firsts.{AreTests, others, first_found, keeps_all, keeps_whole}
+use Rattle.wasm_valid.proofs.Firsts.{AreTests, others, first_found, keeps_whole}
 use Rattle.wasm_valid.proofs.broken.first_of_others.Goals as goal
 
 pub returns : goal.returns

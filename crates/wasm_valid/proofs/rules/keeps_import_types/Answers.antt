@@ -1,4 +1,4 @@
-use Rattle.std.proofs.Common.{◌<◌, ℕ, length}
+use Rattle.std.proofs.Common.{◌<◌, length}
 use Rattle.wasm_valid.proofs.Each.{each_func}
 use Rattle.wasm_valid.proofs.rules.keeps_import_types.Goals as goal
 

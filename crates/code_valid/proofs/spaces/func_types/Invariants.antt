@@ -1,6 +1,0 @@
-use Rattle.std.proofs.Common.{◌≡◌, ◌++◌, drop}
-use Rattle.module_ast.specs.Spaces.{imported_funcs}
-use Rattle.code_valid.proofs.spaces.func_types.Given as goal
-
-abbrev pub invariant-loop-import : goal.invariant-loop-import
-invariant-loop-import l = l.types.items ++ imported_funcs (drop l.import-index l.import-items) ≡ imported_funcs l.m.imports
