@@ -1,11 +1,16 @@
 -- The calls that were made of an outside in memory, and the next.
-use Rattle.std.specs.Prelude.{◌≡◌, ◌+◌, ◌^◌, ◌<◌, ℕ, Option, Some, None, SomeIff}
+use Rattle.std.specs.Prelude.{◌≡◌, ◌+◌, ◌^◌, ◌<◌, ℕ, List, Option, Some, None, SomeIff}
 use Rattle.outside_io.specs.Failing.{kept_at, listed_below}
-use Rattle.outside_io.specs.declared.calls.Calls.{Calls}
+use Rattle.outside_io.specs.declared.calls.Fail.{Fail}
+
+-- which calls are to fail, and the number of the next one
+pub record Calling : Type 0 where
+  pub fails : List Fail
+  pub next : Option ℕ
 
 -- how many bytes the next call keeps, where it is to fail
-abbrev pub failing : Calls → Option ℕ
-failing calls = elim (calls.next) [ None ↦ None | Some number ↦ kept_at calls.fails.items number ]
+abbrev pub failing : Calling → Option ℕ
+failing calls = elim (calls.next) [ None ↦ None | Some number ↦ kept_at calls.fails number ]
 
 -- how many calls were made that are counted
 abbrev pub made : Option ℕ → ℕ
@@ -13,8 +18,8 @@ made None = 2 ^ 64
 made (Some number) = number
 
 -- how many of the calls that were made are listed
-abbrev pub listed_made : Calls → ℕ
-listed_made calls = listed_below calls.fails.items (made calls.next)
+abbrev pub listed_made : Calling → ℕ
+listed_made calls = listed_below calls.fails (made calls.next)
 
 -- the number of the next call, after a call of this number
 abbrev pub IsNext : (old new : Option ℕ) → Type 0
@@ -22,5 +27,5 @@ IsNext None new = new ≡ None
 IsNext (Some number) new = SomeIff new (number + 1 < 2 ^ 64) (number + 1)
 
 -- one call was made
-abbrev pub Counted : (old new : Calls) → Type 0
+abbrev pub Counted : (old new : Calling) → Type 0
 Counted old new = (new.fails ≡ old.fails) × IsNext old.next new.next

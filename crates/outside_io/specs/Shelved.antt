@@ -1,17 +1,36 @@
 -- What a shelf in memory holds, and how it answers.
-use Rattle.std.specs.Prelude.{◌≡◌, ◌<◌, ◌≤◌, ◌⊎◌, ℕ, List, length, Option, Some, None, option_map, Result, Err, String, Vec}
+use Rattle.std.specs.Prelude.{◌≡◌, ◌<◌, ◌≤◌, ◌⊎◌, ℕ, List, length, Option, Some, None, option_map, Result, Err, String, string_bytes, Vec}
 use Rattle.std.specs.Result.{IsOkAnd}
-use Rattle.std.specs.BTreeMap.{BTreeMap, get_by_text}
+use Rattle.std.specs.BTreeMap.{is_at}
+use Rattle.std.specs.Map.{lookup}
+use Rattle.std.specs.Ordering.{nat_cmp}
+use Rattle.std.specs.Cmp.Lexicographic.{slice_cmp}
+use Rattle.std.specs.declared.alloc.Global.{Global}
+use Rattle.outside_io.specs.Calls.{Calling}
 use Rattle.outside_io.specs.Outside.{Contents}
 use Rattle.outside_io.specs.declared.outside.ReadFault.{ReadFault}
 use Rattle.outside_io.specs.declared.outside.ReadFault.TheVariants.{Missing, TooLong, NoMemory}
 
--- the bytes under each name of a map
-abbrev pub shelved : {A Z : Type 0} → BTreeMap (String A) (Vec ℕ Z) → Contents
-shelved held name = option_map (λ bytes. bytes.items) (get_by_text held name)
+-- a shelf in memory: its names with their bytes, its calls, and its counts of faults
+pub record ShelfInMemory : Type 0 where
+  pub held : List (String Global × Vec ℕ Global)
+  pub calls : Calling
+  pub read_faults : ℕ
+  pub write_faults : ℕ
+
+-- a sink in memory: what was printed, its calls, and its count of faults
+pub record SinkInMemory : Type 0 where
+  pub printed : List ℕ
+  pub calls : Calling
+  pub faults : ℕ
+
+-- the bytes under each name
+abbrev pub shelved : List (String Global × Vec ℕ Global) → Contents
+shelved held name =
+    option_map (λ bytes. bytes.items) (lookup (is_at (λ key. slice_cmp nat_cmp name (string_bytes key))) held)
 
 -- a shelf in memory tells what is under each name
-abbrev pub told : {A Z : Type 0} → BTreeMap (String A) (Vec ℕ Z) → Option Contents
+abbrev pub told : List (String Global × Vec ℕ Global) → Option Contents
 told held = Some (shelved held)
 
 -- the answer of a read that does not fail: by what is under the name, and by the cap

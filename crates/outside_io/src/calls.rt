@@ -3,6 +3,8 @@
 ghost use Rattle.std.specs.Prelude.{◌≡◌, ◌+◌, ◌^◌, ◌<◌, if◌then◌else◌, is_some, take};
 ghost use Rattle.outside_io.specs.Failing.{kept_at};
 
+use std::marker::Model;
+
 /// A call that is to fail, and what it still keeps.
 #[derive(Clone, Copy, Debug, PartialEq, Eq)]
 pub struct Fail {
@@ -15,8 +17,16 @@ pub struct Fail {
 /// The calls that are to fail, and the number of the next call: none, once call 2^64 - 1 was made.
 #[derive(Drop)]
 pub struct Calls {
-    pub(crate) fails: Vec<Fail>,
-    pub(crate) next: Option<u64>,
+    fails: Vec<Fail>,
+    next: Option<u64>,
+}
+
+impl Model for Calls {
+    ghost use Rattle.outside_io.specs.Calls.{Calling};
+
+    ghost Value = { Calling };
+
+    ghost view = { λ calls. record { fails = calls.fails.items; next = calls.next } };
 }
 
 impl Calls {
@@ -24,7 +34,7 @@ impl Calls {
 
     /// No call was made yet.
     pub(crate) fn new(fails: Vec<Fail>) -> Calls
-        ensures fails { result.fails ≡ fails }
+        ensures fails { result.fails ≡ fails.items }
         ensures next { result.next ≡ Some 0 }
         ensures made { listed_made result ≡ 0 }
     {

@@ -15,7 +15,7 @@ pub use host_shelf::HostShelf;
 pub use host_sink::HostSink;
 pub use memory_shelf::MemoryShelf;
 pub use memory_sink::MemorySink;
-pub use outside::{ReadFault, Shelf, Sink, SinkFault, WriteFault};
+pub use outside::{NoMemory, ReadFault, Shelf, Sink, SinkFault, WriteFault};
 
 #[cfg(test)]
 mod tests;

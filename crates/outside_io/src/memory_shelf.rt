@@ -1,14 +1,14 @@
 // A shelf in memory, whose calls fail where they are told to.
 
-ghost use Rattle.std.specs.Prelude.{◌≡◌, ◌+◌, Option, Some, None, OnOk, OnErr};
-ghost use Rattle.outside_io.specs.Calls.{listed_made};
+ghost use Rattle.std.specs.Prelude.{◌≡◌, Some, None, OnOk, OnErr};
 ghost use Rattle.outside_io.specs.Outside.{Wrote, Unchanged};
 ghost use Rattle.outside_io.specs.Shelved.{shelved, told, Answers};
 
 use crate::calls::{Calls, Fail, front};
-use crate::{ReadFault, Shelf, WriteFault};
-use std::alloc::{AllocError, Global};
+use crate::{NoMemory, ReadFault, Shelf, WriteFault};
+use std::alloc::Global;
 use std::collections::BTreeMap;
+use std::marker::Model;
 
 /// Bytes under names, in memory. It tells its contents. Reads and writes are counted together, from 0, and a call
 /// fails where its number is listed; past number 2^64 - 1 no call is counted, and none fails.
@@ -19,21 +19,39 @@ pub struct MemoryShelf {
     calls: Calls,
     read_faults: u64,
     write_faults: u64,
-    pub ghost counted: { read_faults + write_faults ≡ listed_made calls },
+}
+
+impl Model for MemoryShelf {
+    ghost use Rattle.std.specs.Prelude.{◌≡◌, ◌+◌};
+    ghost use Rattle.outside_io.specs.Calls.{listed_made};
+    ghost use Rattle.outside_io.specs.Shelved.{ShelfInMemory};
+
+    ghost Value = { ShelfInMemory };
+
+    ghost view = { λ s. record {
+      held = s.held.entries;
+      calls = s.calls;
+      read_faults = s.read_faults;
+      write_faults = s.write_faults;
+    } };
+
+    ghost invariant = { λ s. s.read_faults + s.write_faults ≡ listed_made s.calls };
 }
 
 impl MemoryShelf {
-    ghost use Rattle.std.specs.Prelude.{option_map, OnOk, OnErr, List, ℕ};
+    ghost use Rattle.std.specs.Prelude.{option_map, OnOk, OnErr, List, ℕ, ◌+◌};
+    ghost use Rattle.outside_io.specs.Calls.{listed_made};
     ghost use Rattle.outside_io.specs.Outside.{Wrote, Unchanged};
     ghost use Rattle.outside_io.specs.Shelved.{shelved, told};
 
     /// An empty shelf, of which these calls fail.
     pub fn new(alloc: Global, fails: Vec<Fail>) -> MemoryShelf
         ensures empty { (name : List ℕ) → shelved result.held name ≡ None }
-        ensures fails { result.calls.fails ≡ fails }
+        ensures fails { result.calls.fails ≡ fails.items }
         ensures next { result.calls.next ≡ Some 0 }
         ensures read_count { result.read_faults ≡ 0 }
         ensures write_count { result.write_faults ≡ 0 }
+        ensures counts { result.read_faults + result.write_faults ≡ listed_made result.calls }
     {
         MemoryShelf {
             alloc,
@@ -45,12 +63,13 @@ impl MemoryShelf {
     }
 
     /// Puts bytes under a name, and counts no call. Where memory ends, all is as before.
-    pub fn add(&mut self, name: &str, bytes: &[u8]) -> Result<(), AllocError>
+    pub fn add(&mut self, name: &str, bytes: &[u8]) -> Result<(), NoMemory>
         ensures added { OnOk result (Wrote name.now bytes.now (told self.old.held) (told self.new.held)) }
         ensures unchanged { OnErr result (Unchanged (told self.old.held) (told self.new.held)) }
         ensures calls { self.new.calls ≡ self.old.calls }
         ensures read_count { self.new.read_faults ≡ self.old.read_faults }
         ensures write_count { self.new.write_faults ≡ self.old.write_faults }
+        ensures counts { self.new.read_faults + self.new.write_faults ≡ listed_made self.new.calls }
     {
         put_under(&mut self.held, self.alloc, name, bytes)
     }
@@ -67,9 +86,9 @@ impl MemoryShelf {
 }
 
 impl Shelf for MemoryShelf {
-    ghost use Rattle.std.specs.Prelude.{ℕ, ◌≤◌, if◌then◌else◌, IfOk, OnOk, OnErr, IsErrOf, IsSome, vec_len, is_some, take, ◌⊎◌};
+    ghost use Rattle.std.specs.Prelude.{ℕ, ◌+◌, ◌≤◌, if◌then◌else◌, IfOk, OnOk, OnErr, IsErrOf, IsSome, vec_len, is_some, take, ◌⊎◌};
     ghost use Rattle.outside_io.specs.Outside.{Holds, IsMissing, IsTooLong, Rose, Unchanged, Wrote, WrotePart};
-    ghost use Rattle.outside_io.specs.Calls.{failing, Counted};
+    ghost use Rattle.outside_io.specs.Calls.{failing, listed_made, Counted};
     ghost use Rattle.outside_io.specs.Shelved.{shelved, told, Answers};
 
     ghost contents = { λ s. told s.held };
@@ -93,6 +112,7 @@ impl Shelf for MemoryShelf {
         ensures write_count { self.new.write_faults ≡ self.old.write_faults }
 
         ensures counted { Counted self.old.calls self.new.calls }
+        ensures counts { self.new.read_faults + self.new.write_faults ≡ listed_made self.new.calls }
         ensures faults { self.new.read_faults ≡ self.old.read_faults + (if is_some (failing self.old.calls) then 1 else 0) }
         ensures listed { IsSome (failing self.old.calls) → IsErrOf result ReadFault.Failed }
         ensures unlisted { failing self.old.calls ≡ None → Answers (shelved self.old.held name.now) cap result }
@@ -114,6 +134,7 @@ impl Shelf for MemoryShelf {
         ensures write_count { self.old.write_faults ≤ self.new.write_faults }
 
         ensures counted { Counted self.old.calls self.new.calls }
+        ensures counts { self.new.read_faults + self.new.write_faults ≡ listed_made self.new.calls }
         ensures faults { self.new.write_faults ≡ self.old.write_faults + (if is_some (failing self.old.calls) then 1 else 0) }
         ensures listed { IsSome (failing self.old.calls) → IsErrOf result WriteFault.Failed ⊎ IsErrOf result WriteFault.NoMemory }
         ensures unlisted { IsErrOf result WriteFault.Failed → IsSome (failing self.old.calls) }
@@ -138,9 +159,9 @@ fn put_under(
     alloc: Global,
     name: &str,
     bytes: &[u8],
-) -> Result<(), AllocError>
-    ensures written { OnOk result (Wrote name.now bytes.now (told held.old) (told held.new)) }
-    ensures unchanged { OnErr result (Unchanged (told held.old) (told held.new)) }
+) -> Result<(), NoMemory>
+    ensures written { OnOk result (Wrote name.now bytes.now (told held.old.entries) (told held.new.entries)) }
+    ensures unchanged { OnErr result (Unchanged (told held.old.entries) (told held.new.entries)) }
 {
     let key = String::from_str(alloc, name)?;
     let value = Vec::from_slice(alloc, bytes)?;
@@ -155,7 +176,7 @@ fn read_under(
     name: &str,
     cap: u64,
 ) -> Result<Vec<u8>, ReadFault>
-    ensures { Answers (shelved held.now name.now) cap result }
+    ensures { Answers (shelved held.now.entries name.now) cap result }
 {
     let Some(bytes) = held.get(name) else {
         return Err(ReadFault::Missing);

@@ -1,11 +1,11 @@
 // A sink in memory, whose calls fail where they are told to.
 
 ghost use Rattle.std.specs.Prelude.{◌≡◌, Some};
-ghost use Rattle.outside_io.specs.Calls.{listed_made};
 
 use crate::calls::{Calls, Fail, front};
 use crate::{Sink, SinkFault};
 use std::alloc::Global;
+use std::marker::Model;
 
 /// Printed bytes, in memory. It tells what was written. Its calls are counted from 0, and a call fails where its
 /// number is listed; past number 2^64 - 1 no call is counted, and none fails.
@@ -14,18 +14,31 @@ pub struct MemorySink {
     printed: Vec<u8>,
     calls: Calls,
     faults: u64,
-    pub ghost counted: { faults ≡ listed_made calls },
+}
+
+impl Model for MemorySink {
+    ghost use Rattle.std.specs.Prelude.{◌≡◌};
+    ghost use Rattle.outside_io.specs.Calls.{listed_made};
+    ghost use Rattle.outside_io.specs.Shelved.{SinkInMemory};
+
+    ghost Value = { SinkInMemory };
+
+    ghost view = { λ s. record { printed = s.printed.items; calls = s.calls; faults = s.faults } };
+
+    ghost invariant = { λ s. s.faults ≡ listed_made s.calls };
 }
 
 impl MemorySink {
     ghost use Rattle.std.specs.Prelude.{[]};
+    ghost use Rattle.outside_io.specs.Calls.{listed_made};
 
     /// A sink to which nothing was printed, and of which these calls fail.
     pub fn new(alloc: Global, fails: Vec<Fail>) -> MemorySink
-        ensures empty { result.printed.items ≡ [] }
-        ensures fails { result.calls.fails ≡ fails }
+        ensures empty { result.printed ≡ [] }
+        ensures fails { result.calls.fails ≡ fails.items }
         ensures next { result.calls.next ≡ Some 0 }
         ensures count { result.faults ≡ 0 }
+        ensures counts { result.faults ≡ listed_made result.calls }
     {
         MemorySink {
             printed: Vec::new(alloc),
@@ -36,7 +49,7 @@ impl MemorySink {
 
     /// The bytes that were printed. It counts no call.
     pub fn bytes(&self) -> &[u8]
-        ensures { result.now ≡ self.now.printed.items }
+        ensures { result.now ≡ self.now.printed }
     {
         self.printed.as_slice()
     }
@@ -45,27 +58,28 @@ impl MemorySink {
 impl Sink for MemorySink {
     ghost use Rattle.std.specs.Prelude.{ℕ, ◌+◌, ◌≤◌, ◌⊎◌, ◌++◌, if◌then◌else◌, OnOk, OnErr, IsErrOf, IsSome, is_some, take};
     ghost use Rattle.outside_io.specs.Outside.{Rose, Printed, PrintedPart};
-    ghost use Rattle.outside_io.specs.Calls.{failing, Counted};
+    ghost use Rattle.outside_io.specs.Calls.{failing, listed_made, Counted};
 
-    ghost written = { λ s. Some s.printed.items };
+    ghost written = { λ s. Some s.printed };
 
     ghost faults = { λ s. s.faults };
 
     /// Prints bytes. A call that is listed keeps the first bytes, as many as are listed, and answers `Failed`; where
     /// memory ends, nothing is printed.
     fn put(&mut self, bytes: &[u8]) -> Result<(), SinkFault>
-        ensures printed { OnOk result (Printed bytes.now (Some self.old.printed.items) (Some self.new.printed.items)) }
-        ensures part { OnErr result (PrintedPart bytes.now (Some self.old.printed.items) (Some self.new.printed.items)) }
+        ensures printed { OnOk result (Printed bytes.now (Some self.old.printed) (Some self.new.printed)) }
+        ensures part { OnErr result (PrintedPart bytes.now (Some self.old.printed) (Some self.new.printed)) }
         ensures failed { IsErrOf result SinkFault.Failed → Rose self.old.faults self.new.faults }
         ensures count { self.old.faults ≤ self.new.faults }
 
         ensures counted { Counted self.old.calls self.new.calls }
+        ensures counts { self.new.faults ≡ listed_made self.new.calls }
         ensures faults { self.new.faults ≡ self.old.faults + (if is_some (failing self.old.calls) then 1 else 0) }
         ensures listed { IsSome (failing self.old.calls) → IsErrOf result SinkFault.Failed ⊎ IsErrOf result SinkFault.NoMemory }
         ensures unlisted { IsErrOf result SinkFault.Failed → IsSome (failing self.old.calls) }
         ensures front { (kept : ℕ) → failing self.old.calls ≡ Some kept → IsErrOf result SinkFault.Failed →
-            self.new.printed.items ≡ self.old.printed.items ++ take kept bytes.now }
-        ensures no_memory { IsErrOf result SinkFault.NoMemory → self.new.printed.items ≡ self.old.printed.items }
+            self.new.printed ≡ self.old.printed ++ take kept bytes.now }
+        ensures no_memory { IsErrOf result SinkFault.NoMemory → self.new.printed ≡ self.old.printed }
     {
         match self.calls.count() {
             Some(kept) => {

@@ -3,7 +3,10 @@
 ghost use Rattle.std.specs.Prelude.{◌≡◌, ℕ, ◌≤◌, List, Option, IfOk, OnOk, OnErr, IfErr, IsErrOf, length, vec_len};
 ghost use Rattle.outside_io.specs.Outside.{Contents, Rose, Unchanged, Wrote, WrotePart, Holds, IsMissing, IsTooLong, Printed, PrintedPart};
 
-use std::alloc::Global;
+use std::alloc::{AllocError, Global};
+
+/// Want of memory.
+pub type NoMemory = AllocError;
 
 /// Why a name could not be read.
 #[derive(Clone, Copy, Debug, PartialEq, Eq)]

@@ -34,17 +34,3 @@ part_after name bytes None (Some b) c p q = absurd p
 part_after name bytes (Some a) None c p q = absurd p
 part_after name bytes None None (Some c) p q = absurd q
 part_after name bytes (Some a) (Some b) None p q = absurd q
-
--- where contents are told
-pub holds_told : (held : Option Contents) (told : Contents) (name bytes : List ℕ) → held ≡ Some told → Holds held name bytes → told name ≡ Some bytes
-holds_told held told name bytes e h = subst (λ c. Holds c name bytes) e h
-
--- a name that is missing there
-pub missing_told : (held : Option Contents) (told : Contents) (name : List ℕ) (old new : ℕ) → held ≡ Some told
-    → IsMissing held name old new → told name ≡ None
-missing_told held told name old new e h = subst (λ c. IsMissing c name old new) e h
-
--- a name that has too many bytes there
-pub too_long_told : (held : Option Contents) (told : Contents) (name : List ℕ) (cap long old new : ℕ) → held ≡ Some told
-    → IsTooLong held name cap long old new → IsTooLong (Some told) name cap long old new
-too_long_told held told name cap long old new e h = subst (λ c. IsTooLong c name cap long old new) e h

@@ -13,7 +13,7 @@ use Rattle.code_decode.proofs.Modules.{trees_one, faults_have_no_tree}
 use Rattle.module_ast.specs.declared.module.Limits.{Limits}
 use Rattle.module_ast.specs.Validity.{IsValid, IsFirstBroken, IsFirstInvalid, Rule}
 use Rattle.instrument.specs.Nops.{IsNops, nop_module, narrow_file}
-use Rattle.wasabi_app.specs.Files.{IsFit, IsNoModule, IsUnfit, IsInvalid, IsOther, IsNopFile}
+use Rattle.wasabi_app.specs.Files.{IsFit, IsNoModule, IsUnfit, IsInvalid}
 
 -- bytes with a fault are no module
 pub fault_no_module : (bytes : List ℕ) (section : ℕ) → IsFault bytes section → IsNoModule bytes
@@ -42,13 +42,13 @@ fit_not_unfit limits bytes m fit (inr (which, value, (o, is, first))) =
     (subst (λ x. IsFirstAbove (bound_of limits which) (counts_of x which) value) same first.0)
 
 -- an unfit module is a module
-pub unfit_module : (limits : Limits) (bytes : List ℕ) → IsUnfit limits bytes → IsNoModule bytes → ⊥
-unfit_module limits bytes (inl (section, (m, kind, is, first, e))) none = none m is
-unfit_module limits bytes (inr (which, value, (m, is, first))) none = none (tree_of m) is
+pub unfit_not_malformed : (limits : Limits) (bytes : List ℕ) → IsUnfit limits bytes → IsNoModule bytes → ⊥
+unfit_not_malformed limits bytes (inl (section, (m, kind, is, first, e))) none = none m is
+unfit_not_malformed limits bytes (inr (which, value, (m, is, first))) none = none (tree_of m) is
 
 -- so is one that is fit
-pub fit_module : (limits : Limits) (bytes : List ℕ) (m : Module) → IsFit limits bytes m → IsNoModule bytes → ⊥
-fit_module limits bytes m fit none = none (tree_of m) fit.spelled
+pub fit_not_malformed : (limits : Limits) (bytes : List ℕ) (m : Module) → IsFit limits bytes m → IsNoModule bytes → ⊥
+fit_not_malformed limits bytes m fit none = none (tree_of m) fit.spelled
 
 -- a valid module is not invalid
 pub valid_not_invalid : (limits : Limits) (bytes : List ℕ) (m : Module) → IsFit limits bytes m → IsValid m → IsInvalid limits bytes → ⊥
@@ -61,11 +61,6 @@ broken_invalid m rule broken valid = broken.0 (valid.rules rule)
 
 pub body_invalid : (m : Module) (func : ℕ) → IsFirstInvalid m func → IsValid m → ⊥
 body_invalid m func first valid = first.4 (valid.bodies first.0)
-
--- no file of nops is of another form
-pub nops_not_other : (bytes name : List ℕ) (count : ℕ) → IsNopFile bytes name count → IsOther bytes → ⊥
-nops_not_other bytes name count n o =
-    o.3 name count (subst (λ x. IsNops x name count) (one_module bytes n.0 o.0 n.1.spelled o.1.spelled) n.2)
 
 -- the canonical bytes of a file's module are as few as the narrow limits want
 pub canonical_short : (bytes : List ℕ) (m : Module) → length bytes ≤ narrow_file → Gram bytes m → length (module_bytes m) ≤ narrow_file

@@ -4,7 +4,6 @@ pub mod Positions
 pub mod Files
 pub mod Contents
 pub mod HookCounts
-pub mod Clauses
-pub mod Standing
-pub mod Kept
+pub mod Causes
+pub mod Told
 pub mod Outputs

@@ -5,7 +5,7 @@ use Rattle.std.specs.declared.alloc.Global.{Global}
 use Rattle.hook_select.specs.declared.Hooks.{Hooks}
 use Rattle.hook_select.specs.Groups.{reads, read_list}
 use Rattle.instrument.specs.Nops.{IsNopChoice, nop_group, no_groups}
-use Rattle.wasabi_app.specs.Words.{Options, Line, IsList, Adds, AreOptions, Asks, IsCheck, IsLine, IsRefused, IsValue, no_options, texts}
+use Rattle.wasabi_app.specs.Words.{Options, Line, IsList, Adds, AreOptions, Asks, IsCheck, IsLine, IsRefused, to_check, to_instrument, IsValue, no_options, texts}
 use Rattle.wasabi_app.specs.declared.words.Options.{Options as ReadOptions}
 use Rattle.wasabi_app.specs.declared.words.Command.{Command}
 use Rattle.wasabi_app.specs.declared.words.Command.TheVariants.{Check, Instrument}
@@ -57,17 +57,20 @@ options_behind None name value rest old mid a none =
     λ new (other, b, r). none new (subst (λ x. AreOptions rest x new) (one_added name value old other mid b a) r)
 options_behind (Some all) name value rest old mid a are = (mid, a, are)
 
+-- words whose mode does not go with their options
+refused_behind : (program mode subject : List ℕ) (rest : List (List ℕ)) (options : Options) → AreOptions rest no_options options → IsNoMode mode options
+    → IsRefused (program ∷ mode ∷ subject ∷ rest)
+refused_behind program mode subject rest options are none (to_check s) (o, a) = none.no_check (let e = a.order in cc)
+refused_behind program mode subject rest options are none (to_instrument line) a =
+    let e = a.order in
+    let same : a.rest ≡ rest = cc in
+    none.no_line line.target line.hooks (cc) (one_options rest no_options _ _ are (subst (λ x. AreOptions x no_options _) same a.given))
+
 -- the command of words with this mode, subject and options
 pub command_behind : (result : Option Command) (program mode subject : List ℕ) (rest : List (List ℕ)) (options : Options) → IsValue subject
     → AreOptions rest no_options options → MatchOption result (IsNoMode mode options) (IsModeOf mode subject options)
     → MatchOption result (IsRefused (program ∷ mode ∷ subject ∷ rest)) (IsCommand (program ∷ mode ∷ subject ∷ rest))
-command_behind None program mode subject rest options v are none = record {
-  no_check = λ s (o, a). none.no_check (let e = a.order in cc);
-  no_line = λ line a.
-      let e = a.order in
-      let same : a.rest ≡ rest = cc in
-      none.no_line line.target line.hooks (cc) (one_options rest no_options _ _ are (subst (λ x. AreOptions x no_options _) same a.given));
-}
+command_behind None program mode subject rest options v are none = refused_behind program mode subject rest options are none
 command_behind (Some (Check s)) program mode subject rest options v are is =
     (options, record { program = program; rest = rest; order = let e = is.0 in let f = is.1 in cc; named = subst IsValue (sym is.1) v; given = are })
 command_behind (Some (Instrument line)) program mode subject rest options v are is = record {

@@ -59,7 +59,15 @@ pub record Line : Type 0 where
 abbrev pub IsLine : List (List ℕ) → Line → Type 0
 IsLine words line = Asks words (codes "instrument") line.subject (record { target = Some line.target; hooks = Some line.hooks })
 
--- no command has these words
-pub record IsRefused (words : List (List ℕ)) : Type 0 where
-  pub no_check : (subject : List ℕ) → IsCheck words subject → ⊥
-  pub no_line : (line : Line) → IsLine words line → ⊥
+-- what the words ask for
+pub data Task : Type 0 where
+  to_check : (subject : List ℕ) → Task
+  to_instrument : Line → Task
+
+abbrev pub AsksFor : List (List ℕ) → Task → Type 0
+AsksFor words (to_check subject) = IsCheck words subject
+AsksFor words (to_instrument line) = IsLine words line
+
+-- they ask for nothing
+abbrev pub IsRefused : List (List ℕ) → Type 0
+IsRefused words = (task : Task) → AsksFor words task → ⊥

@@ -1,11 +1,11 @@
 // A command, from its words to its status.
 
-ghost use Rattle.std.specs.Prelude.{◌≡◌, ◌≢◌, ◌≤◌, ◌⊎◌, ℕ, List, IfErr, IfOk, MatchResult, string_bytes};
+ghost use Rattle.std.specs.Prelude.{◌≡◌, ◌≢◌, ◌≤◌, ◌⊎◌, ℕ, List, None};
 ghost use Rattle.outside_io.specs.Outside.{Rose, Unchanged};
 ghost use Rattle.wasabi_app.specs.Words.{Line, IsCheck, IsLine, IsRefused, texts};
-ghost use Rattle.wasabi_app.specs.Ends.{Answers, Refuses, Ends, Status, IsDone, IsWritten, IsWrittenPart, IsUnread, IsMalformed, IsUnfitModule, IsInvalidModule, IsOtherForm, DecidesMissing, DecidesTooLong, DecidesMalformed, DecidesUnfit, DecidesInvalid, DecidesOtherForm, ChecksAll, Completes};
+ghost use Rattle.wasabi_app.specs.Files.{IsNoModule, IsUnfit, IsInvalid};
+ghost use Rattle.wasabi_app.specs.Ends.{ComesTo, Ends, Status, IsDone, IsWritten, IsWrittenPart, IsOf, IsUnread, IsOtherForm, Decides, IsOver, IsFile, DecidesOtherForm, ChecksAll, Completes};
 ghost use Rattle.wasabi_app.specs.Printing.{Seen, seen, printing};
-ghost use Rattle.wasabi_app.specs.Refusals.{status_of, text_of};
 
 use crate::check_mode::check;
 use crate::instrument_mode::instrument;
@@ -47,9 +47,9 @@ pub fn run_app<R: Threads + Sync, S: Shelf, K: Sink>(
     ensures unread { result ≡ 3 →
         IsUnread (texts words.now) (S.contents shelf.old) (S.read_faults shelf.old) (S.read_faults shelf.new) }
     ensures read_failed { result ≡ 4 → Rose (S.read_faults shelf.old) (S.read_faults shelf.new) }
-    ensures malformed { result ≡ 6 → IsMalformed (texts words.now) (S.contents shelf.old) }
-    ensures unfit { result ≡ 7 → IsUnfitModule (texts words.now) (S.contents shelf.old) }
-    ensures invalid { result ≡ 8 → IsInvalidModule (texts words.now) (S.contents shelf.old) }
+    ensures malformed { result ≡ 6 → IsOf (texts words.now) (S.contents shelf.old) (λ limits bytes. IsNoModule bytes) }
+    ensures unfit { result ≡ 7 → IsOf (texts words.now) (S.contents shelf.old) IsUnfit }
+    ensures invalid { result ≡ 8 → IsOf (texts words.now) (S.contents shelf.old) IsInvalid }
     ensures other_form { result ≡ 17 → IsOtherForm (texts words.now) (S.contents shelf.old) }
     ensures write_failed { result ≡ 5 → Rose (S.write_faults shelf.old) (S.write_faults shelf.new) }
     ensures print_failed { result ≡ 15 → Rose (K.faults out.old) (K.faults out.new) }
@@ -70,11 +70,11 @@ pub fn run_app<R: Threads + Sync, S: Shelf, K: Sink>(
     ensures print_count { K.faults out.old ≤ K.faults out.new }
 
     // Which status comes where contents are told.
-    ensures missing { DecidesMissing (texts words.now) (S.contents shelf.old) result }
-    ensures too_long { DecidesTooLong (texts words.now) (S.contents shelf.old) result }
-    ensures malformed_file { DecidesMalformed (texts words.now) (S.contents shelf.old) result }
-    ensures unfit_file { DecidesUnfit (texts words.now) (S.contents shelf.old) result }
-    ensures invalid_file { DecidesInvalid (texts words.now) (S.contents shelf.old) result }
+    ensures missing { Decides (texts words.now) (S.contents shelf.old) (λ read found. found ≡ None) result 3 }
+    ensures too_long { Decides (texts words.now) (S.contents shelf.old) IsOver result 3 }
+    ensures malformed_file { Decides (texts words.now) (S.contents shelf.old) (IsFile (λ limits bytes. IsNoModule bytes)) result 6 }
+    ensures unfit_file { Decides (texts words.now) (S.contents shelf.old) (IsFile IsUnfit) result 7 }
+    ensures invalid_file { Decides (texts words.now) (S.contents shelf.old) (IsFile IsInvalid) result 8 }
     ensures another_form { DecidesOtherForm (texts words.now) (S.contents shelf.old) result }
     ensures checks { ChecksAll (texts words.now) (S.contents shelf.old) result }
     ensures complete { Completes (texts words.now) (S.contents shelf.old) result }
@@ -90,12 +90,9 @@ fn answer<'w, R: Threads + Sync, S: Shelf>(
     words: &'w [String],
     shelf: &mut S,
 ) -> Result<String, Refusal<'w>>
-    ensures answered { IfOk result (λ line. Answers (texts words.now)
+    ensures ended { ComesTo (texts words.now)
         (seen (S.contents shelf.old) (S.read_faults shelf.old) (S.write_faults shelf.old))
-        (seen (S.contents shelf.new) (S.read_faults shelf.new) (S.write_faults shelf.new)) (string_bytes line)) }
-    ensures refused { IfErr result (λ r. Refuses (texts words.now)
-        (seen (S.contents shelf.old) (S.read_faults shelf.old) (S.write_faults shelf.old))
-        (seen (S.contents shelf.new) (S.read_faults shelf.new) (S.write_faults shelf.new)) (status_of r) (text_of r)) }
+        (seen (S.contents shelf.new) (S.read_faults shelf.new) (S.write_faults shelf.new)) result }
     ensures read_count { S.read_faults shelf.old ≤ S.read_faults shelf.new }
     ensures write_count { S.write_faults shelf.old ≤ S.write_faults shelf.new }
 {
@@ -108,9 +105,7 @@ fn answer<'w, R: Threads + Sync, S: Shelf>(
 
 // Prints the line of an answer or of a refusal, and answers the status.
 fn tell<K: Sink>(alloc: Global, out: &mut K, ending: Result<String, Refusal<'_>>) -> u8
-    ensures ended { (words : List (List ℕ)) (old new : Seen)
-        → IfOk ending.entry (λ line. Answers words old new (string_bytes line))
-        → IfErr ending.entry (λ r. Refuses words old new (status_of r) (text_of r))
+    ensures ended { (words : List (List ℕ)) (old new : Seen) → ComesTo words old new ending.entry
         → Ends words old new (printing (K.written out.old) (K.faults out.old)) (printing (K.written out.new) (K.faults out.new)) result }
     ensures print_count { K.faults out.old ≤ K.faults out.new }
 {

@@ -1,9 +1,8 @@
 // The mode `check`.
 
-ghost use Rattle.std.specs.Prelude.{◌≡◌, ◌≤◌, ℕ, List, IfErr, IfOk, string_bytes};
-ghost use Rattle.wasabi_app.specs.Ends.{Answers, Refuses};
+ghost use Rattle.std.specs.Prelude.{◌≡◌, ◌≤◌, ℕ, List};
+ghost use Rattle.wasabi_app.specs.Ends.{ComesTo};
 ghost use Rattle.wasabi_app.specs.Printing.{seen};
-ghost use Rattle.wasabi_app.specs.Refusals.{status_of, text_of};
 ghost use Rattle.wasabi_app.specs.Words.{IsCheck};
 
 use crate::counts::count;
@@ -24,12 +23,9 @@ pub(crate) fn check<'w, R: Threads + Sync, S: Shelf>(
     subject: &'w str,
     shelf: &mut S,
 ) -> Result<String, Refusal<'w>>
-    ensures answered { (words : List (List ℕ)) → IsCheck words subject.now → IfOk result (λ line. Answers words
+    ensures ended { (words : List (List ℕ)) → IsCheck words subject.now → ComesTo words
         (seen (S.contents shelf.old) (S.read_faults shelf.old) (S.write_faults shelf.old))
-        (seen (S.contents shelf.new) (S.read_faults shelf.new) (S.write_faults shelf.new)) (string_bytes line)) }
-    ensures refused { (words : List (List ℕ)) → IsCheck words subject.now → IfErr result (λ r. Refuses words
-        (seen (S.contents shelf.old) (S.read_faults shelf.old) (S.write_faults shelf.old))
-        (seen (S.contents shelf.new) (S.read_faults shelf.new) (S.write_faults shelf.new)) (status_of r) (text_of r)) }
+        (seen (S.contents shelf.new) (S.read_faults shelf.new) (S.write_faults shelf.new)) result }
     ensures read_count { S.read_faults shelf.old ≤ S.read_faults shelf.new }
     ensures write_count { S.write_faults shelf.old ≤ S.write_faults shelf.new }
 {

@@ -8,7 +8,7 @@ ghost use Rattle.module_ast.specs.Profile.{IsWithin};
 ghost use Rattle.module_ast.specs.Limits.{narrow};
 ghost use Rattle.instrument.specs.Nops.{IsNopChoice, IsNops, narrow_file, nop_module};
 ghost use Rattle.instrument.specs.Accepted.{IsInstrumented};
-ghost use Rattle.wasabi_app.specs.Ends.{Answers, Refuses};
+ghost use Rattle.wasabi_app.specs.Ends.{ComesTo};
 ghost use Rattle.wasabi_app.specs.Making.{hook_count, IsMade, Unmade};
 ghost use Rattle.wasabi_app.specs.Printing.{seen};
 ghost use Rattle.wasabi_app.specs.Reading.{line_of};
@@ -37,12 +37,9 @@ pub(crate) fn instrument<'w, R: Threads + Sync, S: Shelf>(
     shelf: &mut S,
 ) -> Result<String, Refusal<'w>>
     requires choice { IsNopChoice line.now.hooks }
-    ensures answered { (words : List (List ℕ)) → IsLine words (line_of line.now) → IfOk result (λ text. Answers words
+    ensures ended { (words : List (List ℕ)) → IsLine words (line_of line.now) → ComesTo words
         (seen (S.contents shelf.old) (S.read_faults shelf.old) (S.write_faults shelf.old))
-        (seen (S.contents shelf.new) (S.read_faults shelf.new) (S.write_faults shelf.new)) (string_bytes text)) }
-    ensures refused { (words : List (List ℕ)) → IsLine words (line_of line.now) → IfErr result (λ r. Refuses words
-        (seen (S.contents shelf.old) (S.read_faults shelf.old) (S.write_faults shelf.old))
-        (seen (S.contents shelf.new) (S.read_faults shelf.new) (S.write_faults shelf.new)) (status_of r) (text_of r)) }
+        (seen (S.contents shelf.new) (S.read_faults shelf.new) (S.write_faults shelf.new)) result }
     ensures read_count { S.read_faults shelf.old ≤ S.read_faults shelf.new }
     ensures write_count { S.write_faults shelf.old ≤ S.write_faults shelf.new }
 {

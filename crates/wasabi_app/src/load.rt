@@ -4,8 +4,9 @@ ghost use Rattle.std.specs.Prelude.{◌≡◌, ◌≤◌, IfOk, IfErr, length};
 ghost use Rattle.outside_io.specs.Outside.{Unchanged};
 ghost use Rattle.module_ast.specs.Validity.{IsValid};
 ghost use Rattle.wasabi_app.specs.Files.{IsFit, wide_file};
-ghost use Rattle.wasabi_app.specs.Loading.{IsLoaded, Refutes, Unloaded};
+ghost use Rattle.wasabi_app.specs.Loading.{Refutes, Unloaded};
 ghost use Rattle.wasabi_app.specs.Printing.{seen};
+ghost use Rattle.wasabi_app.specs.Reads.{IsLoaded, module_read};
 ghost use Rattle.wasabi_app.specs.Refusals.{status_of, text_of};
 
 use crate::lines::Refusal;
@@ -30,7 +31,7 @@ pub(crate) fn load<'w, R: Threads + Sync, S: Shelf>(
     requires nesting { limits.now.nesting ≤ 1002 }
     requires locals { limits.now.locals ≤ 60000 }
     ensures ok { IfOk result (λ v. IsLoaded (S.contents shelf.old) name.now cap limits.now v) }
-    ensures refused { IfErr result (λ r. Unloaded name.now cap limits.now
+    ensures refused { IfErr result (λ r. Unloaded (module_read name.now cap limits.now)
         (seen (S.contents shelf.old) (S.read_faults shelf.old) (S.write_faults shelf.old))
         (seen (S.contents shelf.new) (S.read_faults shelf.new) (S.write_faults shelf.new)) (status_of r) (text_of r)) }
     ensures kept { Unchanged (S.contents shelf.old) (S.contents shelf.new) }

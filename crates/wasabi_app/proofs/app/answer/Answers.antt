@@ -11,5 +11,9 @@ instrument-requires-clause-choice g c =
     λ _ _. line_choice (texts c.args.words.now) (line_of c.in-Some-Instrument.line)
     (rw c.in-Some-Instrument.field-0-is at c.in-Some-Instrument.ensures)
 
-pub returns-in-None-clause-refused : goal.returns-in-None-clause-refused
-returns-in-None-clause-refused g c = no_command c.in-None.ensures (unchanged_same _)
+pub returns-in-None-clause-ended : goal.returns-in-None-clause-ended
+returns-in-None-clause-ended g c = no_command c.in-None.ensures (unchanged_same _)
+
+pub returns-in-Some-Check-clause-ended : goal.returns-in-Some-Check-clause-ended
+returns-in-Some-Check-clause-ended g c =
+    c.check.ensures.ended (texts c.args.words.now) (rw c.in-Some-Check.field-0-is at c.in-Some-Check.ensures)

@@ -5,42 +5,42 @@ use Rattle.outside_io.specs.Outside.{Rose}
 use Rattle.module_ast.specs.Canonical.{module_bytes}
 use Rattle.instrument.specs.Nops.{narrow_file}
 use Rattle.wasabi_app.specs.Reading.{line_of}
-use Rattle.wasabi_app.specs.Ends.{to_instrument, unloaded}
+use Rattle.wasabi_app.specs.Ends.{unloaded}
 use Rattle.wasabi_app.proofs.Contents.{wrote_after, part_after}
 use Rattle.wasabi_app.proofs.Files.{canonical_short}
-use Rattle.wasabi_app.proofs.Outputs.{refuses_unmade, answers_written, refuses_unwritten, refuses_written}
+use Rattle.wasabi_app.proofs.Outputs.{line_reads, refuses_unmade, answers_written, refuses_unwritten, refuses_written}
 use Rattle.wasabi_app.proofs.instrument_mode.instrument.Goals as goal
 
-pub returns-in_err-valid-clause-refused : goal.returns-in_err-valid-clause-refused
-returns-in_err-valid-clause-refused g c = λ words k.
+pub returns-in_err-valid-clause-ended : goal.returns-in_err-valid-clause-ended
+returns-in_err-valid-clause-ended g c = λ words k.
     let p = err_from_is_err_and c.from_residual.result c.from_residual.ensures.1 in
-    rw (p.1, p.2) (unloaded _ _ _ _ _ (to_instrument (line_of c.args.line.now) k) (rw c.narrow.ensures at c.in_err-valid.ensures.refused) c.in_err-valid.ensures.kept)
+    rw (p.1, p.2) (unloaded _ _ _ (line_reads k) (rw c.narrow.ensures at c.in_err-valid.ensures.refused) c.in_err-valid.ensures.kept)
 
 pub make-requires-clause-short : goal.make-requires-clause-short
 make-requires-clause-short g c =
     let is = rw c.narrow.ensures at c.in_ok-valid.ensures.ok in
     subst (λ m. length (module_bytes m) ≤ narrow_file) (sym c.module.ensures.module) (canonical_short is.bytes c.in_ok-valid.valid is.read.short is.fit.spelled)
 
-pub returns-in_err-output-clause-refused : goal.returns-in_err-output-clause-refused
-returns-in_err-output-clause-refused g c = λ words k.
+pub returns-in_err-output-clause-ended : goal.returns-in_err-output-clause-ended
+returns-in_err-output-clause-ended g c = λ words k.
     let p = err_from_is_err_and c.from_residual-in_err-output.result c.from_residual-in_err-output.ensures.1 in
     rw (p.1, p.2) (refuses_unmade words _ _ (line_of c.args.line.now) c.in_ok-valid.valid _ _ k (rw c.narrow.ensures at c.in_ok-valid.ensures.ok) c.load.ensures.kept
     (rw c.module.ensures.module at c.in_err-output.ensures.refused))
 
-pub returns-in-Ok-clause-answered : goal.returns-in-Ok-clause-answered
-returns-in-Ok-clause-answered g c = λ words k.
+pub returns-in-Ok-clause-ended : goal.returns-in-Ok-clause-ended
+returns-in-Ok-clause-ended g c = λ words k.
     answers_written words _ _ (line_of c.args.line.now) c.in_ok-valid.valid _ _ k (rw c.narrow.ensures at c.in_ok-valid.ensures.ok)
     (rw c.module.ensures.module at c.in_ok-output.ensures.ok)
     (wrote_after _ _ _ _ _ c.load.ensures.kept (rw c.as_slice.ensures.value at c.in-Ok.ensures.written))
 
-pub returns-in-Err-Failed-clause-refused : goal.returns-in-Err-Failed-clause-refused
-returns-in-Err-Failed-clause-refused g c = λ words k.
+pub returns-in-Err-Failed-clause-ended : goal.returns-in-Err-Failed-clause-ended
+returns-in-Err-Failed-clause-ended g c = λ words k.
     refuses_unwritten words _ _ (line_of c.args.line.now) c.in_ok-valid.valid _ _ k (rw c.narrow.ensures at c.in_ok-valid.ensures.ok)
     (rw c.module.ensures.module at c.in_ok-output.ensures.ok) (rw (← c.load.ensures.write_count) (search rules))
     (part_after _ _ _ _ _ c.load.ensures.kept (rw c.as_slice.ensures.value at c.in-Err-Failed.ensures.part))
 
-pub returns-clause-refused : goal.returns-clause-refused
-returns-clause-refused g c = λ words k.
+pub returns-clause-ended : goal.returns-clause-ended
+returns-clause-ended g c = λ words k.
     refuses_written words _ _ (line_of c.args.line.now) c.in_ok-valid.valid _ _ k (rw c.narrow.ensures at c.in_ok-valid.ensures.ok)
     (rw c.module.ensures.module at c.in_ok-output.ensures.ok)
     (part_after _ _ _ _ _ c.load.ensures.kept (rw c.as_slice.ensures.value at c.in-Err-NoMemory.ensures.part))

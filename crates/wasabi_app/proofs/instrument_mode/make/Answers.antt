@@ -5,7 +5,7 @@ use Rattle.wasabi_app.specs.Texts.{wrote_text}
 use Rattle.wasabi_app.proofs.instrument_mode.make.Goals as goal
 
 pub returns-in_default-clause-refused : goal.returns-in_default-clause-refused
-returns-in_default-clause-refused c = form c.in_default.ensures
+returns-in_default-clause-refused c = form (λ t. c.in_default.ensures t.0 t.1 t.2)
 
 pub returns-in_default-write-clause-refused : goal.returns-in_default-write-clause-refused
 returns-in_default-write-clause-refused c = unmade_no_memory

@@ -5,5 +5,5 @@ use Rattle.outside_io.proofs.memory_shelf.MemoryShelfShelf.write.Goals as goal
 -- what a failing write keeps is a front of the bytes
 pub returns-in_ok-put_under-in-Some-clause-part : goal.returns-in_ok-put_under-in-Some-clause-part
 returns-in_ok-put_under-in-Some-clause-part c =
-    wrote_front c.args.name.now c.front.result.now c.args.bytes.now c.in-Some.kept (shelved c.args.self.now.held) (shelved c.put_under.new.held)
-    c.front.ensures c.in_ok-put_under-in-Some.ensures.written
+    rw (← c.self.view_is) (wrote_front c.args.name.now c.front.result.now c.args.bytes.now c.in-Some.kept (shelved c.self.inside.held.entries) (shelved c.put_under.new.held.entries)
+    c.front.ensures c.in_ok-put_under-in-Some.ensures.written)

@@ -1,0 +1,287 @@
+-- Where contents are told, what stands there decides the status.
+use Rattle.std.proofs.Common.{◌≡◌, ◌≢◌, ℕ, ◌<◌, ◌≤◌, ◌⊎◌, inl, inr, List, [], ◌∷◌, length, refl, sym, ◌∙◌, ap, subst, arith, Option, Some, None}
+use Rattle.outside_io.specs.Outside.{Contents}
+use Rattle.module_ast.specs.declared.module.Limits.{Limits}
+use Rattle.module_ast.specs.declared.module.Module.{Module}
+use Rattle.module_ast.specs.Decoding.{Gram}
+use Rattle.module_ast.specs.Validity.{IsValid}
+use Rattle.module_ast.specs.Limits.{narrow, wide}
+use Rattle.instrument.specs.Nops.{narrow_file}
+use Rattle.instrument.proofs.NopValid.{dressed_valid}
+use Rattle.wasabi_app.specs.Words.{Line, IsLine, IsCheck, IsRefused, Task, to_check, to_instrument, AsksFor}
+use Rattle.wasabi_app.specs.Files.{IsFit, IsValidFile, IsNoModule, IsUnfit, IsInvalid, wide_file}
+use Rattle.wasabi_app.specs.Taken.{IsTaken}
+use Rattle.wasabi_app.specs.Reads.{Want, valid_module, Read, module_read, reads_of, IsRead, OfModule, IsGood, IsReached, Reads, IsLoaded}
+use Rattle.wasabi_app.specs.Printing.{Seen, seen, Printing}
+use Rattle.wasabi_app.specs.Ends as ends
+use Rattle.wasabi_app.specs.Ends.{Status, HasOutput, Answers, checked, instrumented, Ends, IsKept, Decides, IsOver, IsFile, DecidesOtherForm, ChecksAll, Completes}
+use Rattle.wasabi_app.proofs.Files.{one_module, unfit_not_malformed, fit_not_malformed, fit_not_unfit, valid_not_invalid}
+use Rattle.wasabi_app.proofs.Causes.{Why, Inverted, ends_inverted, check_no_line}
+
+-- what bytes are for a read of a module, by the status
+pub data Judged (limits : Limits) (bytes : List ℕ) : ℕ → Type 0 where
+  valid : IsValidFile limits bytes → Judged limits bytes 0
+  malformed : IsNoModule bytes → Judged limits bytes 6
+  unfit : IsUnfit limits bytes → Judged limits bytes 7
+  invalid : IsInvalid limits bytes → Judged limits bytes 8
+
+judged_once : (limits : Limits) (bytes : List ℕ) (a b : ℕ) → Judged limits bytes a → Judged limits bytes b → a ≡ b
+judged_once limits bytes _ _ (valid p) (valid q) = refl
+judged_once limits bytes _ _ (valid p) (malformed q) = absurd (fit_not_malformed limits bytes p.0 p.1 q)
+judged_once limits bytes _ _ (valid p) (unfit q) = absurd (fit_not_unfit limits bytes p.0 p.1 q)
+judged_once limits bytes _ _ (valid p) (invalid q) = absurd (valid_not_invalid limits bytes p.0 p.1 p.2 q)
+judged_once limits bytes _ _ (malformed p) (valid q) = absurd (fit_not_malformed limits bytes q.0 q.1 p)
+judged_once limits bytes _ _ (malformed p) (malformed q) = refl
+judged_once limits bytes _ _ (malformed p) (unfit q) = absurd (unfit_not_malformed limits bytes q p)
+judged_once limits bytes _ _ (malformed p) (invalid q) = absurd (fit_not_malformed limits bytes q.0 q.1 p)
+judged_once limits bytes _ _ (unfit p) (valid q) = absurd (fit_not_unfit limits bytes q.0 q.1 p)
+judged_once limits bytes _ _ (unfit p) (malformed q) = absurd (unfit_not_malformed limits bytes p q)
+judged_once limits bytes _ _ (unfit p) (unfit q) = refl
+judged_once limits bytes _ _ (unfit p) (invalid q) = absurd (fit_not_unfit limits bytes q.0 q.1 p)
+judged_once limits bytes _ _ (invalid p) (valid q) = absurd (valid_not_invalid limits bytes q.0 q.1 q.2 p)
+judged_once limits bytes _ _ (invalid p) (malformed q) = absurd (fit_not_malformed limits bytes p.0 p.1 q)
+judged_once limits bytes _ _ (invalid p) (unfit q) = absurd (fit_not_unfit limits bytes p.0 p.1 q)
+judged_once limits bytes _ _ (invalid p) (invalid q) = refl
+
+-- bytes are so by what they must be
+abbrev pub WantJudged : Want → (bytes : List ℕ) → ℕ → Type 0
+WantJudged want bytes status = OfModule (λ limits b. Judged limits b status) want bytes
+
+wanted_once : (want : Want) (bytes : List ℕ) (a b : ℕ) → WantJudged want bytes a → WantJudged want bytes b → a ≡ b
+wanted_once (valid_module limits) bytes a b p q = judged_once limits bytes a b p q
+
+judged_by : (P : Limits → (bytes : List ℕ) → Type 0) (status : ℕ) → ((limits : Limits) (bytes : List ℕ) → P limits bytes → Judged limits bytes status)
+    → (want : Want) (bytes : List ℕ) → OfModule P want bytes → WantJudged want bytes status
+judged_by P status f (valid_module limits) bytes p = f limits bytes p
+
+-- what stands under the name of a read, by the status: 0 where it is good
+pub data Found (contents : Contents) (read : Read) : ℕ → Type 0 where
+  none : contents read.name ≡ None → Found contents read 3
+  over : IsOver read (contents read.name) → Found contents read 3
+  file : (bytes : List ℕ) (status : ℕ) → contents read.name ≡ Some bytes → length bytes ≤ read.cap → WantJudged read.want bytes status
+      → Found contents read status
+
+found_once : (contents : Contents) (read : Read) (a b : ℕ) → Found contents read a → Found contents read b → a ≡ b
+found_once contents read _ _ (none p) (none q) = refl
+found_once contents read _ _ (none p) (over q) = refl
+found_once contents read _ _ (none p) (file bytes b q s j) = cc
+found_once contents read _ _ (over p) (none q) = refl
+found_once contents read _ _ (over p) (over q) = refl
+found_once contents read _ _ (over p) (file bytes b q s j) =
+    let f = p.1 in
+    let e : p.0 ≡ bytes = cc in
+    absurd (omega (arith, ap length e, p.2))
+found_once contents read _ _ (file bytes a p s j) (none q) = cc
+found_once contents read _ _ (file bytes a p s j) (over q) =
+    let f = q.1 in
+    let e : q.0 ≡ bytes = cc in
+    absurd (omega (arith, ap length e, q.2))
+found_once contents read _ _ (file bytes a p s j) (file other b q t k) =
+    let e : bytes ≡ other = cc in
+    wanted_once read.want other a b (subst (λ x. WantJudged read.want x a) e j) k
+
+good_found : (contents : Contents) (read : Read) → IsGood (Some contents) read → Found contents read 0
+good_found contents read (bytes, i, v) = file bytes 0 i.there i.short (judged_by IsValidFile 0 (λ limits b p. valid p) read.want bytes v)
+
+-- all of these reads are good
+abbrev AreGood : Option Contents → List Read → Type 0
+AreGood held [] = Unit {0}
+AreGood held (read ∷ reads) = IsGood held read × AreGood held reads
+
+-- of reads that are come to, one decides
+reached_once : (contents : Contents) (reads : List Read) (x y : Read) (a b : ℕ) → IsReached (Some contents) reads x → Found contents x a → a ≢ 0
+    → IsReached (Some contents) reads y → Found contents y b → b ≢ 0 → a ≡ b
+reached_once contents [] x y a b p f s q g t = absurd p
+reached_once contents (first ∷ reads) x y a b (inl e) f s (inl h) g t =
+    found_once contents first a b (subst (λ r. Found contents r a) (sym e) f) (subst (λ r. Found contents r b) (sym h) g)
+reached_once contents (first ∷ reads) x y a b (inl e) f s (inr (good, q)) g t =
+    absurd (s (found_once contents first a 0 (subst (λ r. Found contents r a) (sym e) f) (good_found contents first good)))
+reached_once contents (first ∷ reads) x y a b (inr (good, p)) f s (inl h) g t =
+    absurd (t (found_once contents first b 0 (subst (λ r. Found contents r b) (sym h) g) (good_found contents first good)))
+reached_once contents (first ∷ reads) x y a b (inr (_, p)) f s (inr (_, q)) g t = reached_once contents reads x y a b p f s q g t
+
+reached_good : (contents : Contents) (reads : List Read) (x : Read) (a : ℕ) → IsReached (Some contents) reads x → Found contents x a → a ≢ 0
+    → AreGood (Some contents) reads → ⊥
+reached_good contents [] x a p f s all = p
+reached_good contents (first ∷ reads) x a (inl e) f s all =
+    s (found_once contents first a 0 (subst (λ r. Found contents r a) (sym e) f) (good_found contents first all.0))
+reached_good contents (first ∷ reads) x a (inr (_, p)) f s all = reached_good contents reads x a p f s all.1
+
+-- words have one subject, and read it in one way
+same_reads : (words : List (List ℕ)) (a b : Task) → AsksFor words a → AsksFor words b → reads_of a ≡ reads_of b
+same_reads words (to_check a) (to_check b) (o, p) (r, q) =
+    let e = p.order in
+    let f = q.order in
+    let same : a ≡ b = cc in
+    ap (λ s. reads_of (to_check s)) same
+same_reads words (to_check a) (to_instrument b) p q = absurd (check_no_line words a b p q)
+same_reads words (to_instrument a) (to_check b) p q = absurd (check_no_line words b a q p)
+same_reads words (to_instrument a) (to_instrument b) p q =
+    let e = p.order in
+    let f = q.order in
+    let same : a.subject ≡ b.subject = cc in
+    ap (λ s. module_read s narrow_file narrow ∷ []) same
+
+-- the one read of a task
+loaded_good : (held : Option Contents) (name : List ℕ) (cap : ℕ) (limits : Limits) (m : Module) → IsLoaded held name cap limits m
+    → AreGood held (module_read name cap limits ∷ [])
+loaded_good held name cap limits m is = ((is.bytes, is.read, (m, is.fit, is.valid)), tt)
+
+-- and its one module
+same_loaded : (words : List (List ℕ)) (contents : Contents) (a b : Line) (m n : Module) → IsLine words a → IsLine words b
+    → IsLoaded (Some contents) a.subject narrow_file narrow m → IsLoaded (Some contents) b.subject narrow_file narrow n → m ≡ n
+same_loaded words contents a b m n p q is has =
+    let e = p.order in
+    let f = q.order in
+    let same : a.subject ≡ b.subject = cc in
+    let g : contents b.subject ≡ Some is.bytes = subst (λ s. contents s ≡ Some is.bytes) same is.read.there in
+    let h = has.read.there in
+    let one : is.bytes ≡ has.bytes = cc in
+    one_module has.bytes m n (subst (λ x. Gram x m) one is.fit.spelled) has.fit.spelled
+
+-- what came of a command
+data Fate (words : List (List ℕ)) (contents : Contents) (status : ℕ) : Type 0 where
+  not_asked : IsRefused words → Fate words contents status
+  faulty : (status ≡ 4) ⊎ (status ≡ 14) → Fate words contents status
+  bad : (read : Read) → Reads words (Some contents) read → Found contents read status → status ≢ 0 → Fate words contents status
+  checked_well : (subject : List ℕ) (m : Module) → IsCheck words subject → IsLoaded (Some contents) subject wide_file wide m
+      → (status ≡ 15) ⊎ (status ≡ 0) → Fate words contents status
+  not_taken : (line : Line) (m : Module) → IsLine words line → IsLoaded (Some contents) line.subject narrow_file narrow m → ¬ IsTaken m
+      → status ≡ 17 → Fate words contents status
+  made : (line : Line) (m : Module) → IsLine words line → IsLoaded (Some contents) line.subject narrow_file narrow m → IsTaken m
+      → (status ≡ 5) ⊎ ((status ≡ 15) ⊎ (status ≡ 0)) → Fate words contents status
+
+output_loaded : (words : List (List ℕ)) (held : Option Contents) (line : Line) (written : List ℕ) (h : HasOutput words held line written)
+    → IsLoaded held line.subject narrow_file narrow h.instrumented.original
+output_loaded words held line written h =
+    let a = h.instrumented.accepted in
+    record { bytes = h.bytes; read = h.subject; fit = record { spelled = a.spelled; within = a.limits }; valid = a.valid }
+
+answer_fate : {words : List (List ℕ)} {new : Seen} (contents : Contents) (reads writes : ℕ) (text : List ℕ) (status : ℕ)
+    → Answers words (seen (Some contents) reads writes) new text → (status ≡ 15) ⊎ (status ≡ 0) → Fate words contents status
+answer_fate contents reads writes _ status (checked subject m c is u) e = checked_well subject m c is e
+answer_fate {words = words} contents reads writes _ status (instrumented line written h w) e =
+    made line h.instrumented.original h.command (output_loaded words (Some contents) line written h) h.taken (inr e)
+
+-- by its status
+fate : (words : List (List ℕ)) (contents : Contents) (reads writes : ℕ) (new : Seen) (before after : Printing) (status : ℕ) → Status status
+    → Why words (seen (Some contents) reads writes) new before after status → Fate words contents status
+fate words contents reads writes new before after _ ends.done w = answer_fate contents reads writes w.0 0 w.1 (inr refl)
+fate words contents reads writes new before after _ ends.bad_words w = not_asked w
+fate words contents reads writes new before after _ ends.unread (read, s, inl m) = bad read s (none m) (λ k. omega arith)
+fate words contents reads writes new before after _ ends.unread (read, s, inr (long, t)) = bad read s (over (t.0, t.1, t.3)) (λ k. omega arith)
+fate words contents reads writes new before after _ ends.read_failed w = faulty (inl refl)
+fate words contents reads writes new before after _ ends.write_failed (r, (line, written, h, p)) =
+    made line h.instrumented.original h.command (output_loaded words (Some contents) line written h) h.taken (inl refl)
+fate words contents reads writes new before after _ ends.malformed (read, bytes, s, i, p) =
+    bad read s (file bytes 6 i.there i.short (judged_by (λ limits b. IsNoModule b) 6 (λ limits b q. malformed q) read.want bytes p)) (λ k. omega arith)
+fate words contents reads writes new before after _ ends.unfit (read, bytes, s, i, p) =
+    bad read s (file bytes 7 i.there i.short (judged_by IsUnfit 7 (λ limits b q. unfit q) read.want bytes p)) (λ k. omega arith)
+fate words contents reads writes new before after _ ends.invalid (read, bytes, s, i, p) =
+    bad read s (file bytes 8 i.there i.short (judged_by IsInvalid 8 (λ limits b q. invalid q) read.want bytes p)) (λ k. omega arith)
+fate words contents reads writes new before after _ ends.no_memory w = faulty (inr refl)
+fate words contents reads writes new before after _ ends.unprinted w = answer_fate contents reads writes w.0.0 15 w.0.1 (inl refl)
+fate words contents reads writes new before after _ ends.other_form (line, m, l, is, n) = not_taken line m l is n refl
+
+ends_fate : {words : List (List ℕ)} {new : Seen} {before after : Printing} (contents : Contents) (reads writes status : ℕ)
+    → Ends words (seen (Some contents) reads writes) new before after status → Fate words contents status
+ends_fate {words = words} {new = new} {before = before} {after = after} contents reads writes status x =
+    let i = ends_inverted status x in
+    fate words contents reads writes new before after status i.known i.why
+
+-- a read that does not lead on, for a task whose reads are good
+bad_task : (words : List (List ℕ)) (contents : Contents) (read : Read) (status : ℕ) (task : Task) → Reads words (Some contents) read
+    → Found contents read status → status ≢ 0 → AsksFor words task → AreGood (Some contents) (reads_of task) → ⊥
+bad_task words contents read status task s f n a good =
+    reached_good contents (reads_of task) read status
+    (subst (λ reads. IsReached (Some contents) reads read) (same_reads words s.task task s.asked a) s.reached) f n good
+
+-- a read that does not lead on decides
+fate_read : (words : List (List ℕ)) (contents : Contents) (read : Read) (status expected : ℕ) → Fate words contents status
+    → Reads words (Some contents) read → Found contents read expected → expected ≢ 0 → IsKept status expected
+fate_read words contents read status expected (not_asked r) s f n = absurd (r s.task s.asked)
+fate_read words contents read status expected (faulty e) s f n = inr e
+fate_read words contents read status expected (bad other t g z) s f n =
+    inl (reached_once contents (reads_of s.task) other read status expected
+    (subst (λ reads. IsReached (Some contents) reads other) (same_reads words t.task s.task t.asked s.asked) t.reached) g z s.reached f n)
+fate_read words contents read status expected (checked_well subject m c is e) s f n =
+    absurd (bad_task words contents read expected (to_check subject) s f n c (loaded_good (Some contents) subject wide_file wide m is))
+fate_read words contents read status expected (not_taken line m l is t e) s f n =
+    absurd (bad_task words contents read expected (to_instrument line) s f n l (loaded_good (Some contents) line.subject narrow_file narrow m is))
+fate_read words contents read status expected (made line m l is t e) s f n =
+    absurd (bad_task words contents read expected (to_instrument line) s f n l (loaded_good (Some contents) line.subject narrow_file narrow m is))
+
+pub decides : {words : List (List ℕ)} {new : Seen} {before after : Printing} (held : Option Contents) (reads writes status : ℕ)
+    → Ends words (seen held reads writes) new before after status → (P : Read → Option (List ℕ) → Type 0) (expected : ℕ) → expected ≢ 0
+    → ((contents : Contents) (read : Read) → P read (contents read.name) → Found contents read expected) → Decides words held P status expected
+decides None reads writes status x P expected n f = tt
+decides {words = words} (Some contents) reads writes status x P expected n f =
+    λ read s p. fate_read words contents read status expected (ends_fate contents reads writes status x) s (f contents read p) n
+
+-- so do the bytes of a file
+pub decides_file : {words : List (List ℕ)} {new : Seen} {before after : Printing} (held : Option Contents) (reads writes status : ℕ)
+    → Ends words (seen held reads writes) new before after status → (P : Limits → (bytes : List ℕ) → Type 0) (expected : ℕ) → expected ≢ 0
+    → ((limits : Limits) (bytes : List ℕ) → P limits bytes → Judged limits bytes expected) → Decides words held (IsFile P) status expected
+decides_file held reads writes status x P expected n f =
+    decides held reads writes status x (IsFile P) expected n
+    (λ contents read p. file p.0 expected p.1 p.2 (judged_by P expected f read.want p.0 p.3))
+
+-- a subject of another form
+fate_other : (words : List (List ℕ)) (contents : Contents) (line : Line) (m : Module) (status : ℕ) → Fate words contents status → IsLine words line
+    → IsLoaded (Some contents) line.subject narrow_file narrow m → ¬ IsTaken m → IsKept status 17
+fate_other words contents line m status (not_asked r) l is n = absurd (r (to_instrument line) l)
+fate_other words contents line m status (faulty e) l is n = inr e
+fate_other words contents line m status (bad read s f z) l is n =
+    absurd (bad_task words contents read status (to_instrument line) s f z l (loaded_good (Some contents) line.subject narrow_file narrow m is))
+fate_other words contents line m status (checked_well subject k c has e) l is n = absurd (check_no_line words subject line c l)
+fate_other words contents line m status (not_taken other k p has t e) l is n = inl e
+fate_other words contents line m status (made other k p has t e) l is n =
+    absurd (n (subst IsTaken (same_loaded words contents other line k m p l has is) t))
+
+pub decides_other_form : {words : List (List ℕ)} {new : Seen} {before after : Printing} (held : Option Contents) (reads writes status : ℕ)
+    → Ends words (seen held reads writes) new before after status → DecidesOtherForm words held status
+decides_other_form None reads writes status x = tt
+decides_other_form {words = words} (Some contents) reads writes status x =
+    λ line m l is n. fate_other words contents line m status (ends_fate contents reads writes status x) l is n
+
+-- a valid subject that is checked
+fate_checked : (words : List (List ℕ)) (contents : Contents) (subject : List ℕ) (m : Module) (status : ℕ) → Fate words contents status → IsCheck words subject
+    → IsLoaded (Some contents) subject wide_file wide m → (status ≡ 15) ⊎ IsKept status 0
+fate_checked words contents subject m status (not_asked r) c is = absurd (r (to_check subject) c)
+fate_checked words contents subject m status (faulty e) c is = inr (inr e)
+fate_checked words contents subject m status (bad read s f z) c is =
+    absurd (bad_task words contents read status (to_check subject) s f z c (loaded_good (Some contents) subject wide_file wide m is))
+fate_checked words contents subject m status (checked_well other k d has e) c is = elim e [ inl p ↦ inl p | inr p ↦ inr (inl p) ]
+fate_checked words contents subject m status (not_taken line k l has t e) c is = absurd (check_no_line words subject line c l)
+fate_checked words contents subject m status (made line k l has t e) c is = absurd (check_no_line words subject line c l)
+
+pub checks_all : {words : List (List ℕ)} {new : Seen} {before after : Printing} (held : Option Contents) (reads writes status : ℕ)
+    → Ends words (seen held reads writes) new before after status → ChecksAll words held status
+checks_all None reads writes status x = tt
+checks_all {words = words} (Some contents) reads writes status x =
+    λ subject m c is. fate_checked words contents subject m status (ends_fate contents reads writes status x) c is
+
+-- a subject that is taken is valid
+taken_valid : (m : Module) → IsTaken m → IsValid m
+taken_valid m (name, count, n) =
+    subst IsValid (sym (ap (λ (x : Module). record x { customs = m.customs }) n)) (dressed_valid name count m.customs)
+
+-- and gets its output
+fate_taken : (words : List (List ℕ)) (contents : Contents) (line : Line) (m : Module) (status : ℕ) → Fate words contents status → IsLine words line
+    → IsLoaded (Some contents) line.subject narrow_file narrow m → IsTaken m → (status ≡ 5) ⊎ ((status ≡ 15) ⊎ IsKept status 0)
+fate_taken words contents line m status (not_asked r) l is n = absurd (r (to_instrument line) l)
+fate_taken words contents line m status (faulty e) l is n = inr (inr (inr e))
+fate_taken words contents line m status (bad read s f z) l is n =
+    absurd (bad_task words contents read status (to_instrument line) s f z l (loaded_good (Some contents) line.subject narrow_file narrow m is))
+fate_taken words contents line m status (checked_well subject k c has e) l is n = absurd (check_no_line words subject line c l)
+fate_taken words contents line m status (not_taken other k p has t e) l is n =
+    absurd (t (subst IsTaken (same_loaded words contents line other m k l p is has) n))
+fate_taken words contents line m status (made other k p has t e) l is n =
+    elim e [ inl a ↦ inl a | inr a ↦ inr (elim a [ inl b ↦ inl b | inr b ↦ inr (inl b) ]) ]
+
+pub completes : {words : List (List ℕ)} {new : Seen} {before after : Printing} (held : Option Contents) (reads writes status : ℕ)
+    → Ends words (seen held reads writes) new before after status → Completes words held status
+completes None reads writes status x = tt
+completes {words = words} (Some contents) reads writes status x =
+    λ line bytes m l i f n. fate_taken words contents line m status (ends_fate contents reads writes status x) l
+    (record { bytes = bytes; read = i; fit = f; valid = taken_valid m n }) n
