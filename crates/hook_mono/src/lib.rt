@@ -1,6 +1,8 @@
 // Hooks: one imported function for each key.
 #![tactic(auto)]
 
+pub mod laws;
+
 ghost use Rattle.std.specs.Prelude.{◌≡◌};
 ghost use Rattle.hook_mono.specs.Keys.{is_plain};
 

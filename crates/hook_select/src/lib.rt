@@ -1,6 +1,8 @@
 // Hook groups and events.
 #![tactic(auto)]
 
+pub mod laws;
+
 ghost use Rattle.std.specs.Prelude.{◌≡◌, false};
 
 use module_ast::module::Loc;

@@ -1,6 +1,8 @@
 // Function indices with the hooks put behind the imports.
 #![tactic(auto)]
 
+pub mod laws;
+
 ghost use Rattle.std.specs.Prelude.{◌≡◌, ◌+◌, ◌^◌, ◌<◌};
 
 /// An index below `imports` stays, any other rises by `added`.

@@ -6,7 +6,8 @@ use Rattle.module_ast.specs.Profile.{IsWithin}
 use Rattle.module_ast.specs.Validity.{IsValid}
 use Rattle.module_ast.specs.Limits.{narrow}
 use Rattle.hook_select.specs.declared.Hooks.{Hooks}
-use Rattle.instrument.specs.Output.{IsFree, output_bytes}
+use Rattle.wasm_sem.specs.Link.{IsFree}
+use Rattle.instrument.specs.Output.{output_bytes}
 use Rattle.instrument.specs.Made.{IsSound}
 use Rattle.instrument.specs.Same.{Same}
 

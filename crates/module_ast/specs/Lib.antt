@@ -4,6 +4,7 @@ pub mod Falls
 pub mod Opcodes
 pub mod Shapes
 pub mod Spaces
+pub mod Start
 pub mod Grammar
 pub mod Positions
 pub mod Profile

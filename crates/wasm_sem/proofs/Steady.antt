@@ -32,7 +32,7 @@ either P true x y h k = h
 either P false x y h k = k
 
 -- of both sides of a choice by a condition
-by_zero : (P : Next → Type 0) (n : ℕ) (x y : Next) → P x → P y → P (at_zero n x y)
+pub by_zero : (P : Next → Type 0) (n : ℕ) (x y : Next) → P x → P y → P (at_zero n x y)
 by_zero P zero x y h k = h
 by_zero P (suc n) x y h k = k
 

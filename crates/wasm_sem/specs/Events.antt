@@ -14,11 +14,11 @@ use Rattle.module_ast.specs.Tree.{Tree, done, plain, block, loop, if_then, if_el
 use Rattle.module_ast.specs.Positions.{Scope, function_scope, block_scope, loop_scope, if_scope, then_scope, else_scope}
 use Rattle.hook_select.specs.declared.Event.{Event}
 use Rattle.hook_select.specs.declared.Event.TheVariants as events
-use Rattle.hook_mono.specs.Needed.{is_start}
 use Rattle.wasm_sem.specs.declared.HostWrite.{HostWrite}
 use Rattle.wasm_sem.specs.declared.HostAnswer.{HostAnswer}
 use Rattle.wasm_sem.specs.declared.HookCall.{HookCall}
 use Rattle.module_ast.specs.Memory.{pages, with_bytes, load_value, store_bytes, grown_memory}
+use Rattle.module_ast.specs.Start.{is_start}
 use Rattle.wasm_sem.specs.Store.{Store, value_of, values_of, answer_at, writes_done}
 use Rattle.wasm_sem.specs.Link.{Callee, host, hook, own, callee_type, Entry, Instance}
 use Rattle.wasm_sem.specs.Machine.{Label, Frame, Env, State, stands, Phase, starting, calling, over, pop, at_zero, with_ops, frame_behind, same_func_type, start_entry, call_entry}
