@@ -3,7 +3,7 @@ use Rattle.std.proofs.Common.{◌≡◌, ℕ, List, [], ◌∷◌, ◌++◌, Som
 use Rattle.leb_binary.specs.Leb.{IsFront}
 use Rattle.module_ast.specs.Grammar as grammar
 use Rattle.module_ast.specs.Grammar.{IsBlockType, IsCode, IsExpr, IsPlain}
-use Rattle.module_ast.specs.Profile.{code, block_type}
+use Rattle.module_ast.specs.Profile.{code_node, block_type_node}
 use Rattle.module_ast.specs.Plains.{instr_of}
 use Rattle.module_ast.specs.Seen.{before, onto, code_of, onto_push}
 use Rattle.module_ast.specs.Tree.{Tree, done, plain, Plain, unreachable, nop, br, br_if, br_table, return_, call, call_indirect, drop_, select, local_get, local_set, local_tee, global_get, global_set, load, store, memory_size, memory_grow, i32_const, i64_const, num}
@@ -11,14 +11,14 @@ use Rattle.module_ast.specs.Tokens.{Token, IsToken, plain_t, else_t, end_t}
 use Rattle.module_ast.specs.declared.code.BlockType.{BlockType}
 use Rattle.module_ast.specs.declared.code.Instr.{Instr}
 use Rattle.module_ast.specs.declared.code.Instr.TheVariants.{Block, Loop, If, Unreachable, Nop, Br, BrIf, BrTable, Return, Call, CallIndirect, Drop, Select, LocalGet, LocalSet, LocalTee, GlobalGet, GlobalSet, Load, Store, MemorySize, MemoryGrow, I32Const, I64Const, Num}
-use Rattle.code_decode.specs.Opened.{closed}
+use Rattle.code_decode.specs.Opened.{closed_instr}
 use Rattle.code_decode.specs.Steps.{IsKind}
 use Rattle.code_decode.specs.declared.token.Kind.{Kind}
 use Rattle.code_decode.specs.declared.token.Kind.TheVariants as kinds
 use Rattle.code_decode.proofs.Layers.{Layer}
 
 -- one sequence behind another
-abbrev join : grammar.Tree → grammar.Tree → grammar.Tree
+abbrev join : grammar.CodeNode → grammar.CodeNode → grammar.CodeNode
 join grammar.done t = t
 join (grammar.plain p k) t = grammar.plain p (join k t)
 join (grammar.floating k) t = grammar.floating (join k t)
@@ -28,7 +28,7 @@ join (grammar.if_then ty b k) t = grammar.if_then ty b (join k t)
 join (grammar.if_else ty b o k) t = grammar.if_else ty b o (join k t)
 
 -- their bytes
-join_code : (s t : grammar.Tree) (a b : List ℕ) → IsCode a s → IsCode b t → IsCode (a ++ b) (join s t)
+join_code : (s t : grammar.CodeNode) (a b : List ℕ) → IsCode a s → IsCode b t → IsCode (a ++ b) (join s t)
 join_code grammar.done t a b e h = subst (λ l. IsCode (l ++ b) t) (sym e) h
 join_code (grammar.plain p k) t a b (front, rest, q, i, j) h = (front, rest ++ b, ap (λ l. l ++ b) q ∙ append_assoc front rest b, i, join_code k t rest b j h)
 join_code (grammar.floating k) t a b (front, rest, q, i, j) h = (front, rest ++ b, ap (λ l. l ++ b) q ∙ append_assoc front rest b, i, join_code k t rest b j h)
@@ -38,12 +38,12 @@ join_code (grammar.if_then ty c k) t a b (front, rest, q, i, j) h = (front, rest
 join_code (grammar.if_else ty c o k) t a b (front, rest, q, i, j) h = (front, rest ++ b, ap (λ l. l ++ b) q ∙ append_assoc front rest b, i, join_code k t rest b j h)
 
 -- instructions before a sequence are one sequence behind another
-instrs_join : (is : List Instr) (t : Tree) → code (onto is t) ≡ join (code (code_of is)) (code t)
+instrs_join : (is : List Instr) (t : Tree) → code_node (onto is t) ≡ join (code_node (code_of is)) (code_node t)
 instrs_join [] t = refl
-instrs_join (Block ty a ∷ is) t = ap (grammar.block (block_type ty) (code a)) (instrs_join is t)
-instrs_join (Loop ty a ∷ is) t = ap (grammar.loop (block_type ty) (code a)) (instrs_join is t)
-instrs_join (If ty a None ∷ is) t = ap (grammar.if_then (block_type ty) (code a)) (instrs_join is t)
-instrs_join (If ty a (Some e) ∷ is) t = ap (grammar.if_else (block_type ty) (code a) (code e)) (instrs_join is t)
+instrs_join (Block ty a ∷ is) t = ap (grammar.block (block_type_node ty) (code_node a)) (instrs_join is t)
+instrs_join (Loop ty a ∷ is) t = ap (grammar.loop (block_type_node ty) (code_node a)) (instrs_join is t)
+instrs_join (If ty a None ∷ is) t = ap (grammar.if_then (block_type_node ty) (code_node a)) (instrs_join is t)
+instrs_join (If ty a (Some e) ∷ is) t = ap (grammar.if_else (block_type_node ty) (code_node a) (code_node e)) (instrs_join is t)
 instrs_join (Unreachable ∷ is) t = ap (grammar.plain unreachable) (instrs_join is t)
 instrs_join (Nop ∷ is) t = ap (grammar.plain nop) (instrs_join is t)
 instrs_join (Br a ∷ is) t = ap (grammar.plain (br a)) (instrs_join is t)
@@ -94,24 +94,24 @@ before_plain (num a) t = refl
 
 -- these instructions have these bytes
 abbrev AreInstrs : List ℕ → List Instr → Type 0
-AreInstrs bytes is = IsCode bytes (code (code_of is))
+AreInstrs bytes is = IsCode bytes (code_node (code_of is))
 
 -- one instruction more
-instrs_push : (is : List Instr) (i : Instr) (a b : List ℕ) → AreInstrs a is → IsCode b (code (before i done)) → AreInstrs (a ++ b) (is ++ i ∷ [])
+instrs_push : (is : List Instr) (i : Instr) (a b : List ℕ) → AreInstrs a is → IsCode b (code_node (before i done)) → AreInstrs (a ++ b) (is ++ i ∷ [])
 instrs_push is i a b h k =
-    subst (IsCode (a ++ b)) (sym (ap code (onto_push is i done) ∙ instrs_join is (before i done)))
-    (join_code (code (code_of is)) (code (before i done)) a b h k)
+    subst (IsCode (a ++ b)) (sym (ap code_node (onto_push is i done) ∙ instrs_join is (before i done)))
+    (join_code (code_node (code_of is)) (code_node (before i done)) a b h k)
 
 -- the bytes of a plain instruction
-plain_code : (p : Plain) (i : Instr) (b : List ℕ) → i ≡ instr_of p → IsPlain b p → IsCode b (code (before i done))
-plain_code p i b e h = subst (λ t. IsCode b (code t)) (sym (ap (λ j. before j done) e ∙ before_plain p done)) (b, [], sym (append-nil b), h, refl)
+plain_code : (p : Plain) (i : Instr) (b : List ℕ) → i ≡ instr_of p → IsPlain b p → IsCode b (code_node (before i done))
+plain_code p i b e h = subst (λ t. IsCode b (code_node t)) (sym (ap (λ j. before j done) e ∙ before_plain p done)) (b, [], sym (append-nil b), h, refl)
 
 -- how a sequence begins that is open
 abbrev Begun : List ℕ → Kind → Type 0
-Begun b (kinds.Block ty) = (t : List ℕ) × (b ≡ 0x02 ∷ t) × IsBlockType t (block_type ty)
-Begun b (kinds.Loop ty) = (t : List ℕ) × (b ≡ 0x03 ∷ t) × IsBlockType t (block_type ty)
-Begun b (kinds.Then ty) = (t : List ℕ) × (b ≡ 0x04 ∷ t) × IsBlockType t (block_type ty)
-Begun b (kinds.Else ty c) = (t x : List ℕ) × (b ≡ 0x04 ∷ (t ++ (x ++ 0x05 ∷ []))) × IsBlockType t (block_type ty) × IsCode x (code c)
+Begun b (kinds.Block ty) = (t : List ℕ) × (b ≡ 0x02 ∷ t) × IsBlockType t (block_type_node ty)
+Begun b (kinds.Loop ty) = (t : List ℕ) × (b ≡ 0x03 ∷ t) × IsBlockType t (block_type_node ty)
+Begun b (kinds.Then ty) = (t : List ℕ) × (b ≡ 0x04 ∷ t) × IsBlockType t (block_type_node ty)
+Begun b (kinds.Else ty c) = (t x : List ℕ) × (b ≡ 0x04 ∷ (t ++ (x ++ 0x05 ∷ []))) × IsBlockType t (block_type_node ty) × IsCode x (code_node c)
 
 -- a token that opens a sequence begins it
 begun : (k : Kind) (t : Token) (b : List ℕ) → IsKind k t → IsToken b t → Begun b k
@@ -121,7 +121,7 @@ begun (kinds.Then ty) t b e h = subst (IsToken b) e h
 begun (kinds.Else ty c) t b e h = absurd e
 
 -- with what stands in it and its end
-closed_code : (k : Kind) (c : Tree) (y x : List ℕ) → Begun y k → IsCode x (code c) → IsCode (y ++ (x ++ 0x0B ∷ [])) (code (before (closed k c) done))
+closed_code : (k : Kind) (c : Tree) (y x : List ℕ) → Begun y k → IsCode x (code_node c) → IsCode (y ++ (x ++ 0x0B ∷ [])) (code_node (before (closed_instr k c) done))
 closed_code (kinds.Block ty) c y x (t, e, h) i =
     (y ++ (x ++ 0x0B ∷ []), [], sym (append-nil (y ++ (x ++ 0x0B ∷ []))), (t ++ (x ++ 0x0B ∷ []), ap (λ l. l ++ (x ++ 0x0B ∷ [])) e, (t, x, sym (append_assoc t x (0x0B ∷ [])), h, i)), refl)
 closed_code (kinds.Loop ty) c y x (t, e, h) i =
@@ -222,7 +222,7 @@ module _ (all left rest : List ℕ) (fs : List Layer) (is : List Instr) where
   }
 
   -- `end` closes one
-  pub built_end : (f : Layer) (i : Instr) → i ≡ closed f.kind (code_of is) → IsFront IsToken left rest end_t → Built all (fs ++ f ∷ []) is left → Built all fs (f.before ++ i ∷ []) rest
+  pub built_end : (f : Layer) (i : Instr) → i ≡ closed_instr f.kind (code_of is) → IsFront IsToken left rest end_t → Built all (fs ++ f ∷ []) is left → Built all fs (f.before ++ i ∷ []) rest
   built_end f i e (t, q, h) b =
       let l = opened_pop fs f b.outer b.is_outer in
       let c = closed_code f.kind (code_of is) l.begin b.inner l.is_begin b.is_inner in
@@ -231,7 +231,7 @@ module _ (all left rest : List ℕ) (fs : List Layer) (is : List Instr) where
         inner = l.front ++ (l.begin ++ (b.inner ++ 0x0B ∷ []));
         split = b.split ∙ ap (λ o. o ++ (b.inner ++ left)) l.split ∙ ap (λ r. (l.outer ++ (l.front ++ l.begin)) ++ (b.inner ++ r)) (q ∙ ap (λ t. t ++ rest) h) ∙ simp append_assoc;
         is_outer = l.is_outer;
-        is_inner = instrs_push f.before i l.front (l.begin ++ (b.inner ++ 0x0B ∷ [])) l.is_front (subst (λ j. IsCode (l.begin ++ (b.inner ++ 0x0B ∷ [])) (code (before j done))) (sym e) c);
+        is_inner = instrs_push f.before i l.front (l.begin ++ (b.inner ++ 0x0B ∷ [])) l.is_front (subst (λ j. IsCode (l.begin ++ (b.inner ++ 0x0B ∷ [])) (code_node (before j done))) (sym e) c);
       }
 
   -- the first part of an `if` becomes a part of the open second one
@@ -258,7 +258,7 @@ module _ (all left rest : List ℕ) (fs : List Layer) (is : List Instr) where
       }
 
 -- the whole expression
-pub built_whole : (all left rest : List ℕ) (is : List Instr) → IsFront IsToken left rest end_t → Built all [] is left → IsFront IsExpr all rest (code (code_of is))
+pub built_whole : (all left rest : List ℕ) (is : List Instr) → IsFront IsToken left rest end_t → Built all [] is left → IsFront IsExpr all rest (code_node (code_of is))
 unfolding Opened
 built_whole all left rest is (t, q, h) b =
     (b.inner ++ 0x0B ∷ [], b.split ∙ ap (λ o. o ++ (b.inner ++ left)) b.is_outer ∙ ap (λ r. b.inner ++ r) (q ∙ ap (λ t. t ++ rest) h) ∙ sym (append_assoc b.inner (0x0B ∷ []) rest), (b.inner, refl, b.is_inner))

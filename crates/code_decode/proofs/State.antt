@@ -5,7 +5,7 @@ use Rattle.std.proofs.lemmas.Bool.{cases_lt, or_parts}
 use Rattle.leb_binary.specs.Leb.{IsFront, HasNoFront}
 use Rattle.module_ast.specs.Grammar as grammar
 use Rattle.module_ast.specs.Grammar.{IsExpr}
-use Rattle.module_ast.specs.Profile.{code, code_floats}
+use Rattle.module_ast.specs.Profile.{code_node, code_floats}
 use Rattle.module_ast.specs.Seen.{code_of}
 use Rattle.module_ast.specs.Tokens.{IsToken}
 use Rattle.module_ast.specs.declared.code.BlockType.{BlockType}
@@ -14,8 +14,8 @@ use Rattle.module_ast.proofs.Tokens.{token_shorter}
 use Rattle.leb_binary.proofs.Fronts.{front_one}
 use Rattle.code_decode.specs.Answers.{IsExprAnswer}
 use Rattle.code_decode.specs.Nesting.{tree_nesting}
-use Rattle.code_decode.specs.Opened.{closed}
-use Rattle.code_decode.specs.Scans.{IsNoThen, Opens, Turns, Ends}
+use Rattle.code_decode.specs.Opened.{closed_instr}
+use Rattle.code_decode.specs.Scans.{IsNoThen, OpensSequence, TurnsToElse, ClosesSequence}
 use Rattle.code_decode.specs.Steps.{Open, then, open_of}
 use Rattle.code_decode.specs.declared.token.Kind.{Kind}
 use Rattle.code_decode.specs.declared.token.Kind.TheVariants as kinds
@@ -108,7 +108,7 @@ module _ (bound : ℕ) (all left rest : List ℕ) (fs : List Layer) (is : List I
         }
 
     -- `end` closes a sequence
-    on_end : (i : Instr) → i ≡ closed f.kind (code_of is) → Reads left rest reads.End → State bound all stack is floats nesting left → State bound all fs (f.before ++ i ∷ []) floats (max nesting depth) rest
+    on_end : (i : Instr) → i ≡ closed_instr f.kind (code_of is) → Reads left rest reads.End → State bound all stack is floats nesting left → State bound all fs (f.before ++ i ∷ []) floats (max nesting depth) rest
     on_end i h (t, q, k) s =
         let l = token_shorter left rest t q in
         record {
@@ -149,7 +149,7 @@ module _ (bound : ℕ) (all left rest : List ℕ) (fs : List Layer) (is : List I
 
   -- the last `end`
   module _ (h : fs ≡ []) (r : Reads left rest reads.End) (s : State bound all fs is floats nesting left) where
-    found : (t : grammar.Tree) × IsFront IsExpr all rest t × (floats ≡ code_floats t) × (nesting ≡ tree_nesting t)
+    found : (t : grammar.CodeNode) × IsFront IsExpr all rest t × (floats ≡ code_floats t) × (nesting ≡ tree_nesting t)
     found = top_found_at all left rest (opens fs) floats nesting (ap opens h) r s.known
 
     end_floats : floats ≡ true → IsExprAnswer bound exprs.Floats all rest
@@ -165,7 +165,7 @@ module _ (bound : ℕ) (all left rest : List ℕ) (fs : List Layer) (is : List I
         let b = subst (λ v. Built all v is left) h (s.built f n) in
         let (t, q, k) = r in
         let w = built_whole all left rest is (subst (IsFront IsToken left rest) k q) b in
-        let o = front_one IsExpr one_expr all rest rest found.0 (code (code_of is)) found.1 w in
+        let o = front_one IsExpr one_expr all rest rest found.0 (code_node (code_of is)) found.1 w in
         (w, omega (arith, n, found.3, ap tree_nesting o.1, nesting_same (code_of is)))
 
 -- the answer at the last `end`
@@ -247,7 +247,7 @@ module _ (bound : ℕ) (all : List ℕ) where
 
   module _ (left rest : List ℕ) (old new : Scan) where
     -- a sequence opens
-    pub scan_opens : (kind : Kind) (floating : Bool) → Opens old new kind floating → Reads left rest (reads.Opens kind floating) → IsScan bound all old.stack.items old.items.items old.floats old.nesting left → IsScan bound all new.stack.items new.items.items new.floats new.nesting rest
+    pub scan_opens : (kind : Kind) (floating : Bool) → OpensSequence old new kind floating → Reads left rest (reads.Opens kind floating) → IsScan bound all old.stack.items old.items.items old.floats old.nesting left → IsScan bound all new.stack.items new.items.items new.floats new.nesting rest
     scan_opens kind floating o r s = record {
       layers = s.layers ++ layer s.inner kind ∷ [];
       inner = [];
@@ -271,7 +271,7 @@ module _ (bound : ℕ) (all : List ℕ) where
       dropped = top_drop s.layers old.stack.items f innermost s.inner old.items.items s.is_stack
 
       -- `else` closes the first part of an `if`
-      pub scan_else : Turns old new f → Reads left rest reads.Else → IsScan bound all new.stack.items new.items.items new.floats new.nesting rest
+      pub scan_else : TurnsToElse old new f → Reads left rest reads.Else → IsScan bound all new.stack.items new.items.items new.floats new.nesting rest
       scan_else t r =
           let o = innermost.outer in
           let g = layer innermost.last.before (kinds.Else t.ty (code_of s.inner)) in
@@ -284,11 +284,11 @@ module _ (bound : ℕ) (all : List ℕ) where
           }
 
       -- `end` closes a sequence
-      pub scan_ends : Ends old new f bound → Reads left rest reads.End → IsScan bound all new.stack.items new.items.items new.floats new.nesting rest
+      pub scan_ends : ClosesSequence old new f bound → Reads left rest reads.End → IsScan bound all new.stack.items new.items.items new.floats new.nesting rest
       scan_ends e r =
           let o = innermost.outer in
           let b = innermost.last.before in
-          let i = closed innermost.last.kind (code_of s.inner) in
+          let i = closed_instr innermost.last.kind (code_of s.inner) in
           elim (cases_lt bound new.nesting) [
             | inl l ↦
                 record {
@@ -303,7 +303,7 @@ module _ (bound : ℕ) (all : List ℕ) where
                   layers = o;
                   inner = b ++ i ∷ [];
                   is_frames = e.stack ∙ innermost.is_outer;
-                  is_stack = e.within l ∙ ap (λ x. x ++ closed f.kind (code_of (drop f.start old.items.items)) ∷ []) taken ∙ ap (λ c. stack_of o b ++ closed f.kind (code_of c) ∷ []) dropped ∙ ap (λ k. stack_of o b ++ closed k (code_of s.inner) ∷ []) innermost.kind ∙ sym (stack_more o b (i ∷ []));
+                  is_stack = e.within l ∙ ap (λ x. x ++ closed_instr f.kind (code_of (drop f.start old.items.items)) ∷ []) taken ∙ ap (λ c. stack_of o b ++ closed_instr f.kind (code_of c) ∷ []) dropped ∙ ap (λ k. stack_of o b ++ closed_instr k (code_of s.inner) ∷ []) innermost.kind ∙ sym (stack_more o b (i ∷ []));
                   state = state_as _ _ _ _ _ _ _ _ _ e.floats e.nesting (on_end bound all left rest o s.inner old.floats old.nesting s.layers innermost.last (length old.stack.items + 1) innermost.split depth_of i refl r s.state);
                 }
           ]

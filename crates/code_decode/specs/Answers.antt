@@ -4,13 +4,13 @@ use Rattle.leb_binary.specs.Leb.{IsFront}
 use Rattle.module_ast.specs.Tree.{Tree}
 use Rattle.module_ast.specs.Grammar as grammar
 use Rattle.module_ast.specs.Grammar.{IsExpr}
-use Rattle.module_ast.specs.Profile.{code, code_floats}
+use Rattle.module_ast.specs.Profile.{code_node, code_floats}
 use Rattle.module_ast.specs.Positions.{code_nesting}
 use Rattle.code_decode.specs.declared.expr.Expr.{Expr}
 use Rattle.code_decode.specs.declared.expr.Expr.TheVariants.{Built, Floats, Deep}
 
 -- the expression at the front of the bytes: its tree, or one with a floating node, or one whose nesting is above the bound
 abbrev pub IsExprAnswer : (bound : ℕ) → Expr → (bytes rest : List ℕ) → Type 0
-IsExprAnswer bound (Built t) bytes rest = IsFront IsExpr bytes rest (code t) × (code_nesting t ≤ bound)
-IsExprAnswer bound Floats bytes rest = (t : grammar.Tree) × IsFront IsExpr bytes rest t × (code_floats t ≡ true)
-IsExprAnswer bound (Deep found) bytes rest = (t : Tree) × IsFront IsExpr bytes rest (code t) × (found ≡ code_nesting t) × (bound < found)
+IsExprAnswer bound (Built t) bytes rest = IsFront IsExpr bytes rest (code_node t) × (code_nesting t ≤ bound)
+IsExprAnswer bound Floats bytes rest = (t : grammar.CodeNode) × IsFront IsExpr bytes rest t × (code_floats t ≡ true)
+IsExprAnswer bound (Deep found) bytes rest = (t : Tree) × IsFront IsExpr bytes rest (code_node t) × (found ≡ code_nesting t) × (bound < found)

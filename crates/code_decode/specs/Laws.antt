@@ -1,12 +1,12 @@
 -- Bytes have one reading.
 use Rattle.std.specs.Prelude.{◌≡◌, ℕ, List}
 use Rattle.leb_binary.specs.Leb.{IsFront}
-use Rattle.module_ast.specs.Grammar.{Tree, Body, IsBody, IsExpr}
+use Rattle.module_ast.specs.Grammar.{CodeNode, BodyNode, IsBody, IsExpr}
 
 -- bytes are at most one body
 abbrev pub BodiesAreUnique : Type 0
-BodiesAreUnique = (bytes : List ℕ) (b c : Body) → IsBody bytes b → IsBody bytes c → b ≡ c
+BodiesAreUnique = (bytes : List ℕ) (b c : BodyNode) → IsBody bytes b → IsBody bytes c → b ≡ c
 
 -- at most one expression stands at the front of bytes, and what follows it is the same
 abbrev pub ExpressionsAreUnique : Type 0
-ExpressionsAreUnique = (bytes r s : List ℕ) (t u : Tree) → IsFront IsExpr bytes r t → IsFront IsExpr bytes s u → (r ≡ s) × (t ≡ u)
+ExpressionsAreUnique = (bytes r s : List ℕ) (t u : CodeNode) → IsFront IsExpr bytes r t → IsFront IsExpr bytes s u → (r ≡ s) × (t ≡ u)

@@ -7,8 +7,8 @@ use Rattle.code_decode.specs.declared.token.Kind.{Kind}
 use Rattle.code_decode.specs.declared.token.Kind.TheVariants as kinds
 
 -- the instruction of a block that closes behind this code
-abbrev pub closed : Kind → Tree → Instr
-closed (kinds.Block ty) code = instrs.Block ty code
-closed (kinds.Loop ty) code = instrs.Loop ty code
-closed (kinds.Then ty) code = instrs.If ty code None
-closed (kinds.Else ty then) code = instrs.If ty then (Some code)
+abbrev pub closed_instr : Kind → Tree → Instr
+closed_instr (kinds.Block ty) code = instrs.Block ty code
+closed_instr (kinds.Loop ty) code = instrs.Loop ty code
+closed_instr (kinds.Then ty) code = instrs.If ty code None
+closed_instr (kinds.Else ty then) code = instrs.If ty then (Some code)

@@ -5,8 +5,8 @@ ghost use Rattle.leb_binary.specs.Leb.{HasNoFront};
 ghost use Rattle.module_ast.specs.Grammar.{IsExpr};
 ghost use Rattle.module_ast.specs.Seen.{code_of};
 ghost use Rattle.code_decode.specs.Answers.{IsExprAnswer};
-ghost use Rattle.code_decode.specs.Opened.{closed};
-ghost use Rattle.code_decode.specs.Scans.{Opens, Turns, IsNoThen, Ends};
+ghost use Rattle.code_decode.specs.Opened.{closed_instr};
+ghost use Rattle.code_decode.specs.Scans.{OpensSequence, TurnsToElse, IsNoThen, ClosesSequence};
 
 use crate::fault::Fault;
 use crate::token::{Kind, Read, next_token};
@@ -40,7 +40,7 @@ struct Scan {
 }
 
 fn close(kind: Kind, code: Code) -> Instr
-    ensures { result ≡ closed kind code }
+    ensures { result ≡ closed_instr kind code }
 {
     match kind {
         Kind::Block(ty) => Instr::Block(ty, code),
@@ -67,7 +67,7 @@ impl Scan {
 
     // A sequence begins.
     fn open(&mut self, kind: Kind, floating: bool) -> Result<(), AllocError>
-        ensures { OnOk result (Opens self.old self.new kind floating) }
+        ensures { OnOk result (OpensSequence self.old self.new kind floating) }
     {
         let start = self.items.len();
         self.stack.push(Frame { start, kind })?;
@@ -91,7 +91,7 @@ impl Scan {
     // The first part of an `if` ends, whose frame was the innermost, and its second begins.
     fn turn(&mut self, alloc: Global, frame: Frame) -> Result<(), Fault>
         requires { frame.start ≤ length self.old.items.items }
-        ensures ok { OnOk result (Turns self.old self.new frame) }
+        ensures ok { OnOk result (TurnsToElse self.old self.new frame) }
         ensures malformed { IsErrOf result Fault.Malformed → IsNoThen frame.kind }
     {
         let Frame { start, kind } = frame;
@@ -107,7 +107,7 @@ impl Scan {
     // The sequence of this frame ends, which was the innermost. It is dropped where it nests deeper than the bound.
     fn end(&mut self, alloc: Global, frame: Frame, bound: u32) -> Result<(), AllocError>
         requires { frame.start ≤ length self.old.items.items }
-        ensures { OnOk result (Ends self.old self.new frame bound) }
+        ensures { OnOk result (ClosesSequence self.old self.new frame bound) }
     {
         let Frame { start, kind } = frame;
         let instr = close(kind, self.take(alloc, start)?);

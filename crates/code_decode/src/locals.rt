@@ -4,7 +4,7 @@ ghost use Rattle.std.specs.Prelude.{◌≡◌, List, map, true, MatchOption, IfO
 ghost use Rattle.leb_binary.specs.Leb.{IsFront, HasNoFront};
 ghost use Rattle.module_ast.specs.Grammar as grammar;
 ghost use Rattle.module_ast.specs.Grammar.{integer, IsGroup};
-ghost use Rattle.module_ast.specs.Profile.{is_floating, some_in, group};
+ghost use Rattle.module_ast.specs.Profile.{is_floating, some_in, group_node};
 ghost use Rattle.code_decode.specs.Locals.{AreLocals, group_floats};
 ghost use Rattle.code_decode.specs.Stands.{StandsFor};
 
@@ -17,7 +17,7 @@ use wasm_num::ValType;
 
 // So many locals of one type; none is a floating one.
 fn read_group(cursor: &mut Cursor) -> Result<(u32, Option<ValType>), Bad>
-    ensures ok { IfOk result (λ p. (g : grammar.Group) × IsFront IsGroup cursor.old.left cursor.new.left g × (g.count ≡ p.0) × StandsFor is_floating integer p.1 g.ty) }
+    ensures ok { IfOk result (λ p. (g : grammar.GroupNode) × IsFront IsGroup cursor.old.left cursor.new.left g × (g.count ≡ p.0) × StandsFor is_floating integer p.1 g.ty) }
     ensures bad { OnErr result (HasNoFront IsGroup cursor.old.left) }
 {
     let Ok(count) = cursor.read_u32() else {
@@ -32,7 +32,7 @@ fn read_group(cursor: &mut Cursor) -> Result<(u32, Option<ValType>), Bad>
 /// Takes the groups of a body's locals, fewer than 2^32 locals together (5.4.6); `None` has a floating one.
 /// After an `Err` it is not told where the cursor stands.
 pub fn read_locals(alloc: Global, cursor: &mut Cursor) -> Result<Option<Vec<Group>>, Fault>
-    ensures ok { IfOk result (λ o. (gs : List grammar.Group) × IsFront AreLocals cursor.old.left cursor.new.left gs × MatchOption o (some_in group_floats gs ≡ true) (λ v. gs ≡ map group v.items)) }
+    ensures ok { IfOk result (λ o. (gs : List grammar.GroupNode) × IsFront AreLocals cursor.old.left cursor.new.left gs × MatchOption o (some_in group_floats gs ≡ true) (λ v. gs ≡ map group_node v.items)) }
     ensures malformed { IsErrOf result Fault.Malformed → HasNoFront AreLocals cursor.old.left }
 {
     let groups = cursor.read_u32()?;

@@ -11,13 +11,13 @@ use Rattle.module_ast.specs.Marks.{Mark}
 use Rattle.module_ast.specs.LiveMarks.{HasMarks}
 use Rattle.module_ast.specs.Spaces.{funcs_of, tables_of, memories_of, globals_of}
 use Rattle.module_ast.specs.Validity.{body_context, declared_locals, TypesBody, HasBodyMarks}
-use Rattle.code_valid.specs.Checking.{Stack, fresh, check, ends_with, marks_of, height_of}
+use Rattle.code_valid.specs.Checking.{BlockStack, fresh, check, ends_with, marks_of, height_of}
 use Rattle.code_valid.specs.Survey.{Notes, at_start, survey, Surveys}
-use Rattle.ctrl_stack.specs.Stack.{started}
+use Rattle.ctrl_stack.specs.Stack.{function_stack}
 use Rattle.code_valid.specs.declared.marks.Marks.{Marks}
 use Rattle.code_valid.specs.declared.invalid.BodyInvalid.{BodyInvalid}
 use Rattle.code_valid.specs.declared.invalid.BodyInvalid.TheVariants.{Invalid}
-use Rattle.code_valid.specs.Control.{Control, here, with_here, context_in, parted}
+use Rattle.code_valid.specs.Control.{Control, innermost_stack, with_innermost_stack, context_in, control_of}
 use Rattle.code_valid.specs.Answers.{OnRefusal}
 use Rattle.code_valid.specs.Bodies.{body_of, TypesIn, HasMarksIn}
 use Rattle.code_valid.proofs.Exact.{check_exact, body_sound, body_complete}
@@ -31,10 +31,10 @@ module _ (c : Context) (k : Tree) where
   abbrev d : Context
   d = body_of c
 
-  told : (o : Option (Stack × Notes)) → survey d 0 k fresh at_start ≡ o → Surveys d 0 k fresh at_start o
+  told : (o : Option (BlockStack × Notes)) → survey d 0 k fresh at_start ≡ o → Surveys d 0 k fresh at_start o
   told o h = subst (Surveys d 0 k fresh at_start) h (surveyed d 0 k fresh at_start)
 
-  refused_by : (o : Option Stack) → check d k fresh ≡ o → ends_with c.results o ≡ false → ¬ TypesIn c k
+  refused_by : (o : Option BlockStack) → check d k fresh ≡ o → ends_with c.results o ≡ false → ¬ TypesIn c k
   refused_by o h q t =
       let y = body_sound d k c.results (check_exact d k) t in
       let n : ends_with c.results (check d k fresh) ≡ false = ap (ends_with c.results) h ∙ q in
@@ -43,7 +43,7 @@ module _ (c : Context) (k : Tree) where
   pub survey_none : survey d 0 k fresh at_start ≡ None → ¬ TypesIn c k
   survey_none h = refused_by None (told None h) (λ i. false)
 
-  module _ (b : Stack) (w : Notes) (h : survey d 0 k fresh at_start ≡ Some (b, w)) where
+  module _ (b : BlockStack) (w : Notes) (h : survey d 0 k fresh at_start ≡ Some (b, w)) where
     pub survey_bad : ends_with c.results (Some b) ≡ false → ¬ TypesIn c k
     survey_bad q = refused_by (Some b) (told (Some (b, w)) h).0 q
 
@@ -63,24 +63,24 @@ on_invalid e P h q = let same : e ≡ Invalid = cc in subst (λ z. OnRefusal z P
 
 -- ---- from the begin of a function
 
-module _ (c : Context) (k : Tree) (s : Control) (begun : s ≡ parted (started c.results)) (w0 : Notes) (start : w0 ≡ at_start) where
-  at_begin : (o : Option (Stack × Notes)) → survey (context_in c s) s.innermost.base k (here s) w0 ≡ o → survey (body_of c) 0 k fresh at_start ≡ o
-  at_begin o h = subst₂ (λ z w. survey (context_in c z) z.innermost.base k (here z) w ≡ o) begun start h
+module _ (c : Context) (k : Tree) (s : Control) (begun : s ≡ control_of (function_stack c.results)) (w0 : Notes) (start : w0 ≡ at_start) where
+  at_begin : (o : Option (BlockStack × Notes)) → survey (context_in c s) s.innermost.base k (innermost_stack s) w0 ≡ o → survey (body_of c) 0 k fresh at_start ≡ o
+  at_begin o h = subst₂ (λ z w. survey (context_in c z) z.innermost.base k (innermost_stack z) w ≡ o) begun start h
 
-  pub begun_none : survey (context_in c s) s.innermost.base k (here s) w0 ≡ None → ¬ TypesIn c k
+  pub begun_none : survey (context_in c s) s.innermost.base k (innermost_stack s) w0 ≡ None → ¬ TypesIn c k
   begun_none h = survey_none c k (at_begin None h)
 
-  module _ (b : Stack) (w : Notes) (h : survey (context_in c s) s.innermost.base k (here s) w0 ≡ Some (b, w)) (t : Control) (moved : t ≡ with_here b s) where
-    ended : (v : Bool) → ends_with t.innermost.results (Some (here t)) ≡ v → ends_with c.results (Some b) ≡ v
-    ended v q = subst (λ (z : Control). ends_with z.innermost.results (Some (here z)) ≡ v) (moved ∙ ap (with_here b) begun) q
+  module _ (b : BlockStack) (w : Notes) (h : survey (context_in c s) s.innermost.base k (innermost_stack s) w0 ≡ Some (b, w)) (t : Control) (moved : t ≡ with_innermost_stack b s) where
+    ended : (v : Bool) → ends_with t.innermost.results (Some (innermost_stack t)) ≡ v → ends_with c.results (Some b) ≡ v
+    ended v q = subst (λ (z : Control). ends_with z.innermost.results (Some (innermost_stack z)) ≡ v) (moved ∙ ap (with_innermost_stack b) begun) q
 
-    pub begun_bad : ends_with t.innermost.results (Some (here t)) ≡ false → ¬ TypesIn c k
+    pub begun_bad : ends_with t.innermost.results (Some (innermost_stack t)) ≡ false → ¬ TypesIn c k
     begun_bad q = survey_bad c k b w (at_begin (Some (b, w)) h) (ended false q)
 
-    pub begun_typed : ends_with t.innermost.results (Some (here t)) ≡ true → TypesIn c k
+    pub begun_typed : ends_with t.innermost.results (Some (innermost_stack t)) ≡ true → TypesIn c k
     begun_typed q = survey_typed c k b w (at_begin (Some (b, w)) h) (ended true q)
 
-    pub begun_marks : ends_with t.innermost.results (Some (here t)) ≡ true → HasMarks (body_of c) 0 0 k [] w.marks w.height
+    pub begun_marks : ends_with t.innermost.results (Some (innermost_stack t)) ≡ true → HasMarks (body_of c) 0 0 k [] w.marks w.height
     begun_marks q = survey_marks c k b w (at_begin (Some (b, w)) h) (ended true q)
 
 -- ---- the body of a module

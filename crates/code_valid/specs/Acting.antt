@@ -4,15 +4,15 @@ use Rattle.wasm_num.specs.declared.ValType.{ValType}
 use Rattle.module_ast.specs.declared.code.Instr.{Instr}
 use Rattle.module_ast.specs.Plains.{plain_of}
 use Rattle.module_ast.specs.Typing.{Context}
-use Rattle.code_valid.specs.Checking.{Effect, with_some, effect, mark_of, marked, or_else}
+use Rattle.code_valid.specs.Checking.{Effect, with_some, stack_effect, mark_of, marked_type, option_or}
 use Rattle.code_valid.specs.Survey.{Notes}
 
 -- what it does to the operands; a block has no effect of its own
 abbrev pub effect_of : Context → Instr → Effect
-effect_of c i = with_some (effect c) (plain_of i)
+effect_of c i = with_some (stack_effect c) (plain_of i)
 
 abbrev pub marked_by : Instr → (found behind : List (Option ValType)) → Option ValType
-marked_by i found behind = or_else None (λ p. marked p found behind) (plain_of i)
+marked_by i found behind = option_or None (λ p. marked_type p found behind) (plain_of i)
 
 -- over an instruction that marks this type, if any
 abbrev pub pass : Option ValType → (goes : Bool) → Notes → Notes

@@ -8,8 +8,8 @@ use Rattle.module_ast.specs.Tree.{Tree}
 use Rattle.module_ast.specs.Typing.{Context}
 use Rattle.code_valid.specs.declared.invalid.BodyInvalid.{BodyInvalid}
 use Rattle.code_valid.specs.declared.invalid.BodyInvalid.TheVariants.{Invalid, NoMemory}
-use Rattle.code_valid.specs.Checking.{Stack, pop, ends_with}
-use Rattle.code_valid.specs.Control.{Control, here, with_here}
+use Rattle.code_valid.specs.Checking.{BlockStack, take_operand, ends_with}
+use Rattle.code_valid.specs.Control.{Control, innermost_stack, with_innermost_stack}
 use Rattle.code_valid.specs.Survey.{Notes, survey, out_of, out_to}
 
 -- an invalid body says P; want of memory may come at any time
@@ -27,34 +27,34 @@ invalid_by faults.NoMemory = NoMemory
 
 -- the topmost operand where one is expected
 abbrev pub Pops : Result (Option ValType) BodyInvalid → (expected : Option ValType) → (old new : Control) → Type 0
-Pops (Ok x) expected old new = (b : Stack) × (pop expected (here old) ≡ Some (x, b)) × (new ≡ with_here b old)
-Pops (Err e) expected old new = (e ≡ Invalid) × (pop expected (here old) ≡ None)
+Pops (Ok x) expected old new = (b : BlockStack) × (take_operand expected (innermost_stack old) ≡ Some (x, b)) × (new ≡ with_innermost_stack b old)
+Pops (Err e) expected old new = (e ≡ Invalid) × (take_operand expected (innermost_stack old) ≡ None)
 
 -- the innermost block comes to the operands o
-abbrev pub Moves : {A : Type 0} → Result A BodyInvalid → Option Stack → (old new : Control) → Type 0
-Moves (Ok x) o old new = (b : Stack) × (o ≡ Some b) × (new ≡ with_here b old)
+abbrev pub Moves : {A : Type 0} → Result A BodyInvalid → Option BlockStack → (old new : Control) → Type 0
+Moves (Ok x) o old new = (b : BlockStack) × (o ≡ Some b) × (new ≡ with_innermost_stack b old)
 Moves (Err e) o old new = OnRefusal e (o ≡ None)
 
 -- the innermost block ends with its results and nothing more
-abbrev pub Ends : {A : Type 0} → Result A BodyInvalid → Control → Type 0
-Ends (Ok x) s = ends_with s.innermost.results (Some (here s)) ≡ true
-Ends (Err e) s = OnRefusal e (ends_with s.innermost.results (Some (here s)) ≡ false)
+abbrev pub EndsBlock : {A : Type 0} → Result A BodyInvalid → Control → Type 0
+EndsBlock (Ok x) s = ends_with s.innermost.results (Some (innermost_stack s)) ≡ true
+EndsBlock (Err e) s = OnRefusal e (ends_with s.innermost.results (Some (innermost_stack s)) ≡ false)
 
 -- ---- with what is noted
 
 -- a sequence, surveyed
-abbrev pub Surveyed : {A : Type 0} → Result A BodyInvalid → Option (Stack × Notes) → (old new : Control) → Notes → Type 0
-Surveyed (Ok x) o old new w = (b : Stack) × (o ≡ Some (b, w)) × (new ≡ with_here b old)
-Surveyed (Err e) o old new w = OnRefusal e (o ≡ None)
+abbrev pub SurveysCode : {A : Type 0} → Result A BodyInvalid → Option (BlockStack × Notes) → (old new : Control) → Notes → Type 0
+SurveysCode (Ok x) o old new w = (b : BlockStack) × (o ≡ Some (b, w)) × (new ≡ with_innermost_stack b old)
+SurveysCode (Err e) o old new w = OnRefusal e (o ≡ None)
 
 -- one instruction, whatever follows it
 abbrev pub Steps : {A : Type 0} → Result A BodyInvalid → Context → (Tree → Tree) → (old new : Control) → (before after : Notes) → Type 0
 Steps (Ok x) c f old new w v =
-    (b : Stack) × (new ≡ with_here b old) × ((t : Tree) → survey c old.innermost.base (f t) (here old) w ≡ survey c old.innermost.base t b v)
-Steps (Err e) c f old new w v = OnRefusal e ((t : Tree) → survey c old.innermost.base (f t) (here old) w ≡ None)
+    (b : BlockStack) × (new ≡ with_innermost_stack b old) × ((t : Tree) → survey c old.innermost.base (f t) (innermost_stack old) w ≡ survey c old.innermost.base t b v)
+Steps (Err e) c f old new w v = OnRefusal e ((t : Tree) → survey c old.innermost.base (f t) (innermost_stack old) w ≡ None)
 
 -- a whole block, from the answer for its body; behind it code is as live as before
-abbrev pub Passes : {A : Type 0} → Result A BodyInvalid → List ValType → Option (Stack × Notes) → (old new : Control) → (before after : Notes) → Type 0
+abbrev pub Passes : {A : Type 0} → Result A BodyInvalid → List ValType → Option (BlockStack × Notes) → (old new : Control) → (before after : Notes) → Type 0
 Passes (Ok x) results o old new w v =
-    (b : Stack) × (m : Notes) × (o ≡ Some (b, m)) × (ends_with results (Some b) ≡ true) × (new ≡ old) × (v ≡ out_to w.live m)
-Passes (Err e) results o old new w v = OnRefusal e ((f : Notes → Option (Stack × Notes)) → out_of results f o ≡ None)
+    (b : BlockStack) × (m : Notes) × (o ≡ Some (b, m)) × (ends_with results (Some b) ≡ true) × (new ≡ old) × (v ≡ out_to w.live m)
+Passes (Err e) results o old new w v = OnRefusal e ((f : Notes → Option (BlockStack × Notes)) → out_of results f o ≡ None)

@@ -20,7 +20,7 @@ abbrev pub HasMarksIn : Context → Tree → Marks → Type 0
 HasMarksIn c k found = HasMarks (body_of c) 0 0 k [] found.types found.height
 
 -- a body of a module that is whole and keeps the rules, where the body is typed and has these marks
-pub record IsTyped (m : Module) (defined : ℕ) (found : Marks) : Type 0 where
+pub record IsTypedBody (m : Module) (defined : ℕ) (found : Marks) : Type 0 where
   pub whole : IsWhole m
   pub rules : KeepsRules m
   pub in_range : defined < length m.bodies
@@ -28,7 +28,7 @@ pub record IsTyped (m : Module) (defined : ℕ) (found : Marks) : Type 0 where
   pub marks : HasBodyMarks m defined found.types found.height
 
 -- such a body, by its module and its number
-pub record Typed : Type 0 where
+pub record BodyTyping : Type 0 where
   pub «module» : Module
   pub defined : ℕ
   pub marks : Marks

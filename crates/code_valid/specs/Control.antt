@@ -5,9 +5,9 @@ use Rattle.wasm_num.specs.declared.BlockKind.{BlockKind}
 use Rattle.wasm_num.specs.declared.BlockKind.TheVariants.{Function}
 use Rattle.ctrl_stack.specs.declared.frame.Frame.{Frame}
 use Rattle.ctrl_stack.specs.Stack as ctrl
-use Rattle.ctrl_stack.specs.Stack.{label_types, AreNested}
+use Rattle.ctrl_stack.specs.Stack.{label_types, AreBasesOrdered}
 use Rattle.module_ast.specs.Typing.{Context}
-use Rattle.code_valid.specs.Checking.{Stack}
+use Rattle.code_valid.specs.Checking.{BlockStack}
 
 -- the innermost open block with its operands, and those around it, innermost first, with theirs
 pub record Control : Type 0 where
@@ -17,11 +17,11 @@ pub record Control : Type 0 where
   pub under : List (Option ValType)
 
 -- what the innermost block has above its base
-abbrev pub here : Control → Stack
-here s = record { ops = s.operands; dead = s.innermost.dead }
+abbrev pub innermost_stack : Control → BlockStack
+innermost_stack s = record { ops = s.operands; dead = s.innermost.dead }
 
-abbrev pub with_here : Stack → Control → Control
-with_here a s = record s { innermost = record s.innermost { dead = a.dead }; operands = a.ops }
+abbrev pub with_innermost_stack : BlockStack → Control → Control
+with_innermost_stack a s = record s { innermost = record s.innermost { dead = a.dead }; operands = a.ops }
 
 -- all operands
 abbrev pub height_here : Control → ℕ
@@ -45,17 +45,17 @@ within kind results s = record {
 
 -- ---- the same as one stack
 
-abbrev pub joined : Control → ctrl.Stack
-joined s = record { frames = s.innermost ∷ s.outer; operands = s.operands ++ s.under }
+abbrev pub whole_stack : Control → ctrl.Stack
+whole_stack s = record { frames = s.innermost ∷ s.outer; operands = s.operands ++ s.under }
 
-abbrev pub parted_at : List Frame → List (Option ValType) → Control
-parted_at [] xs =
+abbrev pub control_from : List Frame → List (Option ValType) → Control
+control_from [] xs =
     record { innermost = record { kind = Function; starts = []; results = []; base = 0; dead = false }; operands = xs; outer = []; under = [] }
-parted_at (f ∷ fs) xs =
+control_from (f ∷ fs) xs =
     record { innermost = f; operands = take (length xs - f.base) xs; outer = fs; under = drop (length xs - f.base) xs }
 
-abbrev pub parted : ctrl.Stack → Control
-parted s = parted_at s.frames s.operands
+abbrev pub control_of : ctrl.Stack → Control
+control_of s = control_from s.frames s.operands
 
 abbrev pub HasFrame : List Frame → Type 0
 HasFrame [] = ⊥
@@ -63,4 +63,4 @@ HasFrame (f ∷ fs) = Unit {0}
 
 -- a block is open, and each has its operands above those of the blocks around it
 abbrev pub Stands : ctrl.Stack → Type 0
-Stands s = HasFrame s.frames × AreNested s.frames (length s.operands)
+Stands s = HasFrame s.frames × AreBasesOrdered s.frames (length s.operands)

@@ -6,14 +6,14 @@ use Rattle.module_ast.specs.Tree.{Tree}
 use Rattle.module_ast.specs.Typing.{Context, push, TypesCode}
 use Rattle.module_ast.specs.Marks.{Mark, code_marks, code_height}
 use Rattle.module_ast.specs.LiveMarks.{HasMarks}
-use Rattle.code_valid.specs.Checking.{Stack, check, accepts, marks_of, height_of}
-use Rattle.code_valid.specs.Instance.{Instance, Gives, known}
+use Rattle.code_valid.specs.Checking.{BlockStack, check, accepts, marks_of, height_of}
+use Rattle.code_valid.specs.Instance.{IsInstance, Gives, known_types}
 
 -- what check answers stands for what the rules reach from what it was given
 abbrev pub CheckIsExact : Type 0
 CheckIsExact =
-    (c : Context) (k : Tree) (a : Stack) (after : List ValType)
-    → ((before : List ValType) × Instance a before × TypesCode c k before after) ↔ Gives (check c k a) after
+    (c : Context) (k : Tree) (a : BlockStack) (after : List ValType)
+    → ((before : List ValType) × IsInstance a before × TypesCode c k before after) ↔ Gives (check c k a) after
 
 abbrev pub AcceptsWhatIsTyped : Type 0
 AcceptsWhatIsTyped = (c : Context) (k : Tree) (results : List ValType) → (accepts c k results ≡ true) ↔ TypesCode c k [] (push results [])
@@ -21,18 +21,18 @@ AcceptsWhatIsTyped = (c : Context) (k : Tree) (results : List ValType) → (acce
 abbrev pub TypedHasMarks : Type 0
 TypedHasMarks =
     (c : Context) (below p : ℕ) (k : Tree) (before after : List ValType) → TypesCode c k before after
-    → HasMarks c below p k before (marks_of c true p k (known before)) (height_of c true below k (known before))
+    → HasMarks c below p k before (marks_of c true p k (known_types before)) (height_of c true below k (known_types before))
 
 abbrev pub MarksAreUnique : Type 0
 MarksAreUnique =
     (c : Context) (below p : ℕ) (k : Tree) (before : List ValType) (marks : List Mark) (height : ℕ) → HasMarks c below p k before marks height
-    → (marks ≡ marks_of c true p k (known before)) × (height ≡ height_of c true below k (known before))
+    → (marks ≡ marks_of c true p k (known_types before)) × (height ≡ height_of c true below k (known_types before))
 
 -- from known operands, up to a live end, each type is known
 abbrev pub LiveTypesAreKnown : Type 0
 LiveTypesAreKnown =
     (c : Context) (k : Tree) (before after : List ValType) → TypesCode c k before after → ends_live true k ≡ true
-    → check c k (known before) ≡ Some (known after)
+    → check c k (known_types before) ≡ Some (known_types after)
 
 -- typed code has the marks and the height that `Marks` computes, and no others
 abbrev pub MarksAreComputed : Type 0

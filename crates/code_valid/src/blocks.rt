@@ -2,10 +2,10 @@
 
 ghost use Rattle.std.specs.Prelude.{◌≡◌, ◌<◌, [], ◌∷◌, ◌++◌, length, slice_get, Some, None, MatchOption, MatchResult, IfOk};
 ghost use Rattle.wasm_num.specs.declared.ValType.TheVariants.{I32};
-ghost use Rattle.code_valid.specs.Checking.{dead_stack, pop_one, pop_all, push_one, push_all, apply, turns, stops, drops, selects, top_of};
-ghost use Rattle.code_valid.specs.Control.{Control, here, with_here, height_here, labels_of, within, joined, parted, HasFrame};
-ghost use Rattle.code_valid.specs.Answers.{OnRefusal, OnlyMemory, Pops, Moves, Ends};
-ghost use Rattle.ctrl_stack.specs.Stack.{started};
+ghost use Rattle.code_valid.specs.Checking.{dead_stack, take_type, take_types, put_operand, put_types, apply, turns, stops, drops, selects, top_of};
+ghost use Rattle.code_valid.specs.Control.{Control, innermost_stack, with_innermost_stack, height_here, labels_of, within, whole_stack, control_of, HasFrame};
+ghost use Rattle.code_valid.specs.Answers.{OnRefusal, OnlyMemory, Pops, Moves, EndsBlock};
+ghost use Rattle.ctrl_stack.specs.Stack.{function_stack};
 
 use crate::invalid::BodyInvalid;
 use ctrl_stack::{CtrlStack, Types};
@@ -20,11 +20,11 @@ pub(crate) struct Blocks {
 }
 
 impl Model for Blocks {
-    ghost use Rattle.code_valid.specs.Control.{Control, parted, Stands};
+    ghost use Rattle.code_valid.specs.Control.{Control, control_of, Stands};
 
     ghost Value = { Control };
 
-    ghost view = { λ a. parted a.stack };
+    ghost view = { λ a. control_of a.stack };
 
     ghost invariant = { λ a. Stands a.stack };
 }
@@ -32,7 +32,7 @@ impl Model for Blocks {
 impl Blocks {
     /// A function with these results, before its first instruction.
     pub fn new(alloc: Global, results: Types) -> Result<Blocks, NoMemory>
-        ensures { IfOk result (λ s. s ≡ parted (started results)) }
+        ensures { IfOk result (λ s. s ≡ control_of (function_stack results)) }
     {
         Ok(Blocks {
             stack: CtrlStack::new(alloc, results)?,
@@ -74,7 +74,7 @@ impl Blocks {
         results: Types,
     ) -> Result<(), BodyInvalid>
         ensures opened { OnlyMemory result (self.new ≡ within kind results self.old) }
-        ensures same { parted (joined self.old) ≡ self.old }
+        ensures same { control_of (whole_stack self.old) ≡ self.old }
     {
         let starts = Types::from_vec(Vec::new(alloc));
         self.stack.push_block(kind, starts, results)?;
@@ -84,8 +84,8 @@ impl Blocks {
     /// Takes the results of the innermost block and closes it, where nothing else is left in it.
     pub fn pop_block(&mut self) -> Result<(), BodyInvalid>
         requires { HasFrame self.old.outer }
-        ensures ends { Ends result self.old }
-        ensures outer { IfOk result (λ _. self.new ≡ parted (record { frames = self.old.outer; operands = self.old.under })) }
+        ensures ends { EndsBlock result self.old }
+        ensures outer { IfOk result (λ _. self.new ≡ control_of (record { frames = self.old.outer; operands = self.old.under })) }
     {
         self.stack.pop_block()?;
         Ok(())
@@ -93,7 +93,7 @@ impl Blocks {
 
     /// Ends the function, where its results are left and nothing more.
     pub fn end(self) -> Result<(), BodyInvalid>
-        ensures { Ends result self }
+        ensures { EndsBlock result self }
     {
         let mut stack = self.stack;
         stack.pop_block()?;
@@ -101,7 +101,7 @@ impl Blocks {
     }
 
     fn push(&mut self, ty: Option<ValType>) -> Result<(), BodyInvalid>
-        ensures { OnlyMemory result (self.new ≡ with_here (push_one ty (here self.old)) self.old) }
+        ensures { OnlyMemory result (self.new ≡ with_innermost_stack (put_operand ty (innermost_stack self.old)) self.old) }
     {
         self.stack.push(ty)?;
         Ok(())
@@ -116,14 +116,14 @@ impl Blocks {
 
     // Drops the operands of the innermost block, whose code goes on no further.
     fn mark_dead(&mut self)
-        ensures { self.new ≡ with_here dead_stack self.old }
+        ensures { self.new ≡ with_innermost_stack dead_stack self.old }
     {
         self.stack.mark_dead();
     }
 
     // Takes these, the last first.
     fn pop_all(&mut self, types: &[ValType]) -> Result<(), BodyInvalid>
-        ensures { Moves result (pop_all types.now (here self.old)) self.old self.new }
+        ensures { Moves result (take_types types.now (innermost_stack self.old)) self.old self.new }
     {
         let mut left = types.len();
         while left > 0 {
@@ -135,7 +135,7 @@ impl Blocks {
 
     /// Puts these, the first first.
     pub fn push_all(&mut self, types: &[ValType]) -> Result<(), BodyInvalid>
-        ensures { OnlyMemory result (self.new ≡ with_here (push_all types.now (here self.old)) self.old) }
+        ensures { OnlyMemory result (self.new ≡ with_innermost_stack (put_types types.now (innermost_stack self.old)) self.old) }
     {
         for ty in types {
             self.push(Some(*ty))?;
@@ -145,7 +145,7 @@ impl Blocks {
 
     /// Takes these and puts those.
     pub fn turn(&mut self, takes: &[ValType], leaves: &[ValType]) -> Result<(), BodyInvalid>
-        ensures { Moves result (apply (turns takes.now leaves.now) (here self.old)) self.old self.new }
+        ensures { Moves result (apply (turns takes.now leaves.now) (innermost_stack self.old)) self.old self.new }
     {
         self.pop_all(takes)?;
         self.push_all(leaves)
@@ -153,7 +153,7 @@ impl Blocks {
 
     /// Takes these, and does not go on.
     pub fn stop(&mut self, takes: &[ValType]) -> Result<(), BodyInvalid>
-        ensures { Moves result (apply (stops takes.now) (here self.old)) self.old self.new }
+        ensures { Moves result (apply (stops takes.now) (innermost_stack self.old)) self.old self.new }
     {
         self.pop_all(takes)?;
         self.mark_dead();
@@ -162,7 +162,7 @@ impl Blocks {
 
     /// Takes the operand of a condition or an index.
     pub fn pop_i32(&mut self) -> Result<(), BodyInvalid>
-        ensures { Moves result (pop_one I32 (here self.old)) self.old self.new }
+        ensures { Moves result (take_type I32 (innermost_stack self.old)) self.old self.new }
     {
         self.pop(Some(ValType::I32))?;
         Ok(())
@@ -170,7 +170,7 @@ impl Blocks {
 
     /// Takes an i32 and these, and puts those.
     pub fn turn_i32(&mut self, takes: &[ValType], leaves: &[ValType]) -> Result<(), BodyInvalid>
-        ensures { Moves result (apply (turns (takes.now ++ I32 ∷ []) leaves.now) (here self.old)) self.old self.new }
+        ensures { Moves result (apply (turns (takes.now ++ I32 ∷ []) leaves.now) (innermost_stack self.old)) self.old self.new }
     {
         self.pop_i32()?;
         self.turn(takes, leaves)
@@ -178,7 +178,7 @@ impl Blocks {
 
     /// Takes an i32 and these, and does not go on.
     pub fn stop_i32(&mut self, takes: &[ValType]) -> Result<(), BodyInvalid>
-        ensures { Moves result (apply (stops (takes.now ++ I32 ∷ [])) (here self.old)) self.old self.new }
+        ensures { Moves result (apply (stops (takes.now ++ I32 ∷ [])) (innermost_stack self.old)) self.old self.new }
     {
         self.pop_i32()?;
         self.stop(takes)
@@ -186,7 +186,7 @@ impl Blocks {
 
     /// Drops the topmost operand, and answers its type where it is known.
     pub fn drop_one(&mut self) -> Result<Option<ValType>, BodyInvalid>
-        ensures moves { Moves result (apply drops (here self.old)) self.old self.new }
+        ensures moves { Moves result (apply drops (innermost_stack self.old)) self.old self.new }
         ensures top { IfOk result (λ ty. ty ≡ top_of self.old.operands) }
     {
         self.pop(None)
@@ -194,7 +194,7 @@ impl Blocks {
 
     /// Selects one of two operands of the same type, and answers that type where it is known.
     pub fn select(&mut self) -> Result<Option<ValType>, BodyInvalid>
-        ensures moves { Moves result (apply selects (here self.old)) self.old self.new }
+        ensures moves { Moves result (apply selects (innermost_stack self.old)) self.old self.new }
         ensures top { IfOk result (λ ty. ty ≡ top_of self.new.operands) }
     {
         self.pop_i32()?;

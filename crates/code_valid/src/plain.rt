@@ -2,8 +2,8 @@
 
 ghost use Rattle.std.specs.Prelude.{◌≡◌, ◌<◌, ◌^◌, ◌&&◌, nat_le, slice_get, IfOk};
 ghost use Rattle.module_ast.specs.Tree as tree;
-ghost use Rattle.code_valid.specs.Checking.{apply, effect, same_types, takes_these, all_take, is_some_list};
-ghost use Rattle.code_valid.specs.Control.{here, labels_of, context_in};
+ghost use Rattle.code_valid.specs.Checking.{apply, stack_effect, same_types, takes_these, all_take, is_some_list};
+ghost use Rattle.code_valid.specs.Control.{innermost_stack, labels_of, context_in};
 ghost use Rattle.code_valid.specs.Answers.{Moves};
 ghost use Rattle.code_valid.specs.Acting.{effect_of, marked_by};
 
@@ -23,7 +23,7 @@ pub(crate) fn act(
     instr: &Instr,
     blocks: &mut Blocks,
 ) -> Result<Option<ValType>, BodyInvalid>
-    ensures moves { Moves result (apply (effect_of (context_in env.now blocks.old) instr.now) (here blocks.old)) blocks.old blocks.new }
+    ensures moves { Moves result (apply (effect_of (context_in env.now blocks.old) instr.now) (innermost_stack blocks.old)) blocks.old blocks.new }
     ensures marks { IfOk result (λ ty. ty ≡ marked_by instr.now blocks.old.operands blocks.new.operands) }
 {
     match instr {
@@ -38,7 +38,7 @@ pub(crate) fn act(
 
 // What an instruction does to the operands, its mark left out.
 fn turn(alloc: Global, env: &Env, instr: &Instr, blocks: &mut Blocks) -> Result<(), BodyInvalid>
-    ensures { Moves result (apply (effect_of (context_in env.now blocks.old) instr.now) (here blocks.old)) blocks.old blocks.new }
+    ensures { Moves result (apply (effect_of (context_in env.now blocks.old) instr.now) (innermost_stack blocks.old)) blocks.old blocks.new }
 {
     match instr {
         Instr::Block(_, _) | Instr::Loop(_, _) | Instr::If(_, _, _) => Err(BodyInvalid::Invalid),
@@ -70,14 +70,14 @@ fn turn(alloc: Global, env: &Env, instr: &Instr, blocks: &mut Blocks) -> Result<
 // ---- branches and calls
 
 fn br(alloc: Global, env: &Env, label: u32, blocks: &mut Blocks) -> Result<(), BodyInvalid>
-    ensures { Moves result (apply (effect (context_in env.now blocks.old) (tree.br label)) (here blocks.old)) blocks.old blocks.new }
+    ensures { Moves result (apply (stack_effect (context_in env.now blocks.old) (tree.br label)) (innermost_stack blocks.old)) blocks.old blocks.new }
 {
     let types = blocks.label_copy(alloc, label)?;
     blocks.stop(&types)
 }
 
 fn br_if(alloc: Global, env: &Env, label: u32, blocks: &mut Blocks) -> Result<(), BodyInvalid>
-    ensures { Moves result (apply (effect (context_in env.now blocks.old) (tree.br_if label)) (here blocks.old)) blocks.old blocks.new }
+    ensures { Moves result (apply (stack_effect (context_in env.now blocks.old) (tree.br_if label)) (innermost_stack blocks.old)) blocks.old blocks.new }
 {
     let types = blocks.label_copy(alloc, label)?;
     blocks.turn_i32(&types, &types)
@@ -90,7 +90,7 @@ fn br_table(
     label: u32,
     blocks: &mut Blocks,
 ) -> Result<(), BodyInvalid>
-    ensures { Moves result (apply (effect (context_in env.now blocks.old) (tree.br_table labels.now label)) (here blocks.old)) blocks.old blocks.new }
+    ensures { Moves result (apply (stack_effect (context_in env.now blocks.old) (tree.br_table labels.now label)) (innermost_stack blocks.old)) blocks.old blocks.new }
 {
     let types = blocks.label_copy(alloc, label)?;
     if all_take(blocks, &types, labels) {
@@ -128,7 +128,7 @@ fn same_types(left: &[ValType], right: &[ValType]) -> bool
 }
 
 fn call(env: &Env, func: u32, blocks: &mut Blocks) -> Result<(), BodyInvalid>
-    ensures { Moves result (apply (effect (context_in env.now blocks.old) (tree.call func)) (here blocks.old)) blocks.old blocks.new }
+    ensures { Moves result (apply (stack_effect (context_in env.now blocks.old) (tree.call func)) (innermost_stack blocks.old)) blocks.old blocks.new }
 {
     match env.func(func) {
         None => Err(BodyInvalid::Invalid),
@@ -140,7 +140,7 @@ fn call(env: &Env, func: u32, blocks: &mut Blocks) -> Result<(), BodyInvalid>
 }
 
 fn call_indirect(env: &Env, index: u32, blocks: &mut Blocks) -> Result<(), BodyInvalid>
-    ensures { Moves result (apply (effect (context_in env.now blocks.old) (tree.call_indirect index)) (here blocks.old)) blocks.old blocks.new }
+    ensures { Moves result (apply (stack_effect (context_in env.now blocks.old) (tree.call_indirect index)) (innermost_stack blocks.old)) blocks.old blocks.new }
 {
     if !env.has_table() {
         return Err(BodyInvalid::Invalid);
@@ -154,7 +154,7 @@ fn call_indirect(env: &Env, index: u32, blocks: &mut Blocks) -> Result<(), BodyI
 // ---- variables
 
 fn local_get(env: &Env, local: u32, blocks: &mut Blocks) -> Result<(), BodyInvalid>
-    ensures { Moves result (apply (effect (context_in env.now blocks.old) (tree.local_get local)) (here blocks.old)) blocks.old blocks.new }
+    ensures { Moves result (apply (stack_effect (context_in env.now blocks.old) (tree.local_get local)) (innermost_stack blocks.old)) blocks.old blocks.new }
 {
     match env.local(local) {
         None => Err(BodyInvalid::Invalid),
@@ -163,7 +163,7 @@ fn local_get(env: &Env, local: u32, blocks: &mut Blocks) -> Result<(), BodyInval
 }
 
 fn local_set(env: &Env, local: u32, blocks: &mut Blocks) -> Result<(), BodyInvalid>
-    ensures { Moves result (apply (effect (context_in env.now blocks.old) (tree.local_set local)) (here blocks.old)) blocks.old blocks.new }
+    ensures { Moves result (apply (stack_effect (context_in env.now blocks.old) (tree.local_set local)) (innermost_stack blocks.old)) blocks.old blocks.new }
 {
     match env.local(local) {
         None => Err(BodyInvalid::Invalid),
@@ -172,7 +172,7 @@ fn local_set(env: &Env, local: u32, blocks: &mut Blocks) -> Result<(), BodyInval
 }
 
 fn local_tee(env: &Env, local: u32, blocks: &mut Blocks) -> Result<(), BodyInvalid>
-    ensures { Moves result (apply (effect (context_in env.now blocks.old) (tree.local_tee local)) (here blocks.old)) blocks.old blocks.new }
+    ensures { Moves result (apply (stack_effect (context_in env.now blocks.old) (tree.local_tee local)) (innermost_stack blocks.old)) blocks.old blocks.new }
 {
     match env.local(local) {
         None => Err(BodyInvalid::Invalid),
@@ -181,7 +181,7 @@ fn local_tee(env: &Env, local: u32, blocks: &mut Blocks) -> Result<(), BodyInval
 }
 
 fn global_get(env: &Env, global: u32, blocks: &mut Blocks) -> Result<(), BodyInvalid>
-    ensures { Moves result (apply (effect (context_in env.now blocks.old) (tree.global_get global)) (here blocks.old)) blocks.old blocks.new }
+    ensures { Moves result (apply (stack_effect (context_in env.now blocks.old) (tree.global_get global)) (innermost_stack blocks.old)) blocks.old blocks.new }
 {
     match env.global(global) {
         None => Err(BodyInvalid::Invalid),
@@ -190,7 +190,7 @@ fn global_get(env: &Env, global: u32, blocks: &mut Blocks) -> Result<(), BodyInv
 }
 
 fn global_set(env: &Env, global: u32, blocks: &mut Blocks) -> Result<(), BodyInvalid>
-    ensures { Moves result (apply (effect (context_in env.now blocks.old) (tree.global_set global)) (here blocks.old)) blocks.old blocks.new }
+    ensures { Moves result (apply (stack_effect (context_in env.now blocks.old) (tree.global_set global)) (innermost_stack blocks.old)) blocks.old blocks.new }
 {
     match env.global(global) {
         None => Err(BodyInvalid::Invalid),
@@ -228,7 +228,7 @@ fn is_aligned(env: &Env, align: u32, width: u32) -> bool
 }
 
 fn load(env: &Env, op: LoadOp, at: MemArg, blocks: &mut Blocks) -> Result<(), BodyInvalid>
-    ensures { Moves result (apply (effect (context_in env.now blocks.old) (tree.load op at)) (here blocks.old)) blocks.old blocks.new }
+    ensures { Moves result (apply (stack_effect (context_in env.now blocks.old) (tree.load op at)) (innermost_stack blocks.old)) blocks.old blocks.new }
 {
     if is_aligned(env, at.align, op.width()) {
         blocks.turn(&[ValType::I32], &[op.ty()])
@@ -238,7 +238,7 @@ fn load(env: &Env, op: LoadOp, at: MemArg, blocks: &mut Blocks) -> Result<(), Bo
 }
 
 fn store(env: &Env, op: StoreOp, at: MemArg, blocks: &mut Blocks) -> Result<(), BodyInvalid>
-    ensures { Moves result (apply (effect (context_in env.now blocks.old) (tree.store op at)) (here blocks.old)) blocks.old blocks.new }
+    ensures { Moves result (apply (stack_effect (context_in env.now blocks.old) (tree.store op at)) (innermost_stack blocks.old)) blocks.old blocks.new }
 {
     if is_aligned(env, at.align, op.width()) {
         blocks.turn(&[ValType::I32, op.ty()], &[])
@@ -248,7 +248,7 @@ fn store(env: &Env, op: StoreOp, at: MemArg, blocks: &mut Blocks) -> Result<(), 
 }
 
 fn memory_size(env: &Env, blocks: &mut Blocks) -> Result<(), BodyInvalid>
-    ensures { Moves result (apply (effect (context_in env.now blocks.old) tree.memory_size) (here blocks.old)) blocks.old blocks.new }
+    ensures { Moves result (apply (stack_effect (context_in env.now blocks.old) tree.memory_size) (innermost_stack blocks.old)) blocks.old blocks.new }
 {
     if env.has_memory() {
         blocks.turn(&[], &[ValType::I32])
@@ -258,7 +258,7 @@ fn memory_size(env: &Env, blocks: &mut Blocks) -> Result<(), BodyInvalid>
 }
 
 fn memory_grow(env: &Env, blocks: &mut Blocks) -> Result<(), BodyInvalid>
-    ensures { Moves result (apply (effect (context_in env.now blocks.old) tree.memory_grow) (here blocks.old)) blocks.old blocks.new }
+    ensures { Moves result (apply (stack_effect (context_in env.now blocks.old) tree.memory_grow) (innermost_stack blocks.old)) blocks.old blocks.new }
 {
     if env.has_memory() {
         blocks.turn(&[ValType::I32], &[ValType::I32])

@@ -7,11 +7,11 @@ ghost use Rattle.module_ast.specs.Positions.{code_size};
 ghost use Rattle.module_ast.specs.Typing.{block_results, inside};
 ghost use Rattle.module_ast.specs.declared.code.Instr.TheVariants.{If};
 ghost use Rattle.ctrl_stack.specs.Stack.{types_by};
-ghost use Rattle.code_valid.specs.Checking.{fresh, push_all};
-ghost use Rattle.code_valid.specs.Control.{here, with_here, height_here, context_in};
+ghost use Rattle.code_valid.specs.Checking.{fresh, put_types};
+ghost use Rattle.code_valid.specs.Control.{innermost_stack, with_innermost_stack, height_here, context_in};
 ghost use Rattle.code_valid.specs.Survey.{survey};
-ghost use Rattle.module_ast.specs.Plains.{IsPlain};
-ghost use Rattle.code_valid.specs.Answers.{OnlyMemory, Surveyed, Steps, Passes};
+ghost use Rattle.module_ast.specs.Plains.{IsPlainInstr};
+ghost use Rattle.code_valid.specs.Answers.{OnlyMemory, SurveysCode, Steps, Passes};
 
 use crate::blocks::Blocks;
 use crate::env::Env;
@@ -33,7 +33,7 @@ pub(crate) fn survey_code(
     walk: &mut Walk,
 ) -> Result<(), BodyInvalid>
     requires { walk.old.position + code_size code.now < 2 ^ 32 }
-    ensures surveyed { Surveyed result (survey (context_in env.now blocks.old) blocks.old.innermost.base code.now (here blocks.old) walk.old) blocks.old blocks.new walk.new }
+    ensures surveyed { SurveysCode result (survey (context_in env.now blocks.old) blocks.old.innermost.base code.now (innermost_stack blocks.old) walk.old) blocks.old blocks.new walk.new }
     ensures position { IfOk result (λ _. walk.new.position ≡ walk.old.position + code_size code.now) }
 {
     for instr in code.as_slice() {
@@ -144,7 +144,7 @@ fn survey_plain(
     blocks: &mut Blocks,
     walk: &mut Walk,
 ) -> Result<(), BodyInvalid>
-    requires plain { IsPlain instr.now }
+    requires plain { IsPlainInstr instr.now }
     requires room { walk.old.position + code_size (before instr.now done) < 2 ^ 32 }
     ensures steps { Steps result (context_in env.now blocks.old) (before instr.now) blocks.old blocks.new walk.old walk.new }
     ensures position { IfOk result (λ _. walk.new.position ≡ walk.old.position + code_size (before instr.now done)) }
@@ -170,7 +170,7 @@ fn results_of(alloc: Global, ty: BlockType) -> Result<Types, BodyInvalid>
 }
 
 fn push_results(ty: BlockType, blocks: &mut Blocks) -> Result<(), BodyInvalid>
-    ensures { OnlyMemory result (blocks.new ≡ with_here (push_all (block_results ty) (here blocks.old)) blocks.old) }
+    ensures { OnlyMemory result (blocks.new ≡ with_innermost_stack (put_types (block_results ty) (innermost_stack blocks.old)) blocks.old) }
 {
     match ty {
         BlockType::Empty => Ok(()),

@@ -14,9 +14,9 @@ pub struct TypedBody<'m> {
 }
 
 impl<'m> Model for TypedBody<'m> {
-    ghost use Rattle.code_valid.specs.Bodies.{Typed, IsTyped};
+    ghost use Rattle.code_valid.specs.Bodies.{BodyTyping, IsTypedBody};
 
-    ghost Value = { Typed };
+    ghost Value = { BodyTyping };
 
     ghost use Rattle.module_ast.specs.contracts.module.Module as of_module;
     ghost use Rattle.std.specs.Coded.{codes};
@@ -25,16 +25,16 @@ impl<'m> Model for TypedBody<'m> {
 
     ghost view = { λ a. record { «module» = a.module.now; defined = a.defined; marks = a.marks.now } };
 
-    ghost invariant = { λ a. IsTyped a.module.now a.defined a.marks.now };
+    ghost invariant = { λ a. IsTypedBody a.module.now a.defined a.marks.now };
 }
 
 impl<'m> TypedBody<'m> {
     ghost use Rattle.std.specs.Prelude.{◌≡◌, slice_get, Some};
-    ghost use Rattle.code_valid.specs.Bodies.{IsTyped};
+    ghost use Rattle.code_valid.specs.Bodies.{IsTypedBody};
 
     /// This body, which has been checked.
     pub fn new(m: &'m Module, defined: u32, marks: &'m Marks) -> TypedBody<'m>
-        requires { IsTyped m.now defined marks.now }
+        requires { IsTypedBody m.now defined marks.now }
         ensures of { result.module ≡ m.now }
         ensures at { result.defined ≡ defined }
         ensures has { result.marks ≡ marks.now }
@@ -70,7 +70,7 @@ impl<'m> TypedBody<'m> {
     /// Its marks and its height.
     pub fn marks(&self) -> &'m Marks
         ensures marks { result.now ≡ self.now.marks }
-        ensures typed { IsTyped self.now.module self.now.defined self.now.marks }
+        ensures typed { IsTypedBody self.now.module self.now.defined self.now.marks }
     {
         self.marks
     }

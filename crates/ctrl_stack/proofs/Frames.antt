@@ -2,7 +2,7 @@
 use Rattle.std.proofs.Common.{◌≡◌, ℕ, ◌+◌, ◌-◌, ◌≤◌, List, [], ◌∷◌, Option, length, take, drop, get_or, set, true, sym, ap, subst, ◌∙◌, arith}
 use Rattle.std.specs.Prelude.{reverse}
 use Rattle.ctrl_stack.specs.declared.frame.Frame.{Frame}
-use Rattle.ctrl_stack.specs.Stack.{Stack, base_of, AreNested, dead_frames, dead_from_here}
+use Rattle.ctrl_stack.specs.Stack.{Stack, base_of, AreBasesOrdered, dead_frames, dead_from_here}
 use Rattle.wasm_num.specs.declared.ValType.{ValType}
 use Rattle.std.proofs.lemmas.List.{length-take-le}
 use Rattle.ctrl_stack.proofs.Pops.{nested_base}
@@ -23,7 +23,7 @@ reverse-dead fs n f d e h =
 pub base-reverse : (fs : List Frame) (n : ℕ) (d : Frame) → n + 1 ≡ length fs → base_of (reverse fs) ≡ (get_or fs n d).base
 base-reverse fs n d e = ap base_of (reverse-last fs n d e)
 
-pub nested_dead : (fs : List Frame) (n : ℕ) → AreNested fs n → AreNested (dead_frames fs) (base_of fs)
+pub nested_dead : (fs : List Frame) (n : ℕ) → AreBasesOrdered fs n → AreBasesOrdered (dead_frames fs) (base_of fs)
 nested_dead [] n h = tt
 nested_dead (f ∷ fs) n h = (omega arith, h.1)
 
@@ -32,11 +32,11 @@ module _ (fs : List Frame) (n : ℕ) (f : Frame) (ops new : List (Option ValType
   base : f.base ≡ base_of (reverse fs)
   base = sym (base-reverse fs n f e ∙ ap (λ (g : Frame). g.base) (sym h))
 
-  pub marked_nested : AreNested (reverse fs) (length ops) → AreNested (reverse (set fs n (record f { dead = true }))) (length new)
+  pub marked_nested : AreBasesOrdered (reverse fs) (length ops) → AreBasesOrdered (reverse (set fs n (record f { dead = true }))) (length new)
   marked_nested k =
       let low : base_of (reverse fs) ≤ length ops = nested_base (reverse fs) (length ops) k in
       let size : base_of (reverse fs) ≡ length new = sym (ap length cut ∙ length-take-le f.base ops (omega (arith, low, base)) ∙ base) in
-      let P : List Frame → ℕ → Type 0 = λ gs m. AreNested gs m in
+      let P : List Frame → ℕ → Type 0 = λ gs m. AreBasesOrdered gs m in
       subst (λ m. P (reverse (set fs n (record f { dead = true }))) m) size
       (subst (λ gs. P gs (base_of (reverse fs))) (sym (reverse-dead fs n f f e h)) (nested_dead (reverse fs) (length ops) k))
 

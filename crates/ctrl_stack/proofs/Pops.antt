@@ -7,7 +7,7 @@ use Rattle.std.proofs.lemmas.Bool.{le-leb, lt-leb}
 use Rattle.std.proofs.lemmas.Bool.Decides.{leb_tells}
 use Rattle.wasm_num.specs.declared.ValType.{ValType}
 use Rattle.ctrl_stack.specs.declared.frame.Frame.{Frame}
-use Rattle.ctrl_stack.specs.Stack.{Stack, base_of, dead_of, AreNested, meet, push, pop_at_base, pop_above, pop, pop_one, pop_all, push_all, lowered}
+use Rattle.ctrl_stack.specs.Stack.{Stack, base_of, dead_of, AreBasesOrdered, meet, push_operand, pop_at_base, pop_above, pop, pop_one, pop_all, push_all, lowest_operands}
 use Rattle.ctrl_stack.proofs.Lists.{drop-lowest, length-lowest}
 
 at_base : (base : ℕ) (dead : Bool) (e : Option ValType) (xs : List (Option ValType)) → length xs ≤ base → pop_above base dead e xs ≡ pop_at_base dead e xs
@@ -24,7 +24,7 @@ with_operands s o = option_map (λ (r : Option ValType × List (Option ValType))
 
 -- above the base
 pub pop-lowered : (s : Stack) (items : List (Option ValType)) (h : ℕ) (x e : Option ValType) → s.operands ≡ reverse items → base_of s.frames < h → h ≤ length items → h ≤ length s.operands → x ≡ get_or items (h - 1) x →
-    pop e (lowered h s) ≡ option_map (λ y. (y, lowered (h - 1) s)) (meet x e)
+    pop e (lowest_operands h s) ≡ option_map (λ y. (y, lowest_operands (h - 1) s)) (meet x e)
 pop-lowered s items h x e o b k l g =
     let rest = drop (length s.operands - (h - 1)) s.operands in
     let parts : drop (length s.operands - h) s.operands ≡ x ∷ rest =
@@ -34,21 +34,21 @@ pop-lowered s items h x e o b k l g =
     ∙ ap (with_operands s) (over_base (base_of s.frames) (dead_of s.frames) e x rest (omega (arith, size)))
     ∙ go (meet x e)
   where
-    go : (o : Option (Option ValType)) → with_operands s (option_map (λ y. (y, drop (length s.operands - (h - 1)) s.operands)) o) ≡ option_map (λ y. (y, lowered (h - 1) s)) o
+    go : (o : Option (Option ValType)) → with_operands s (option_map (λ y. (y, drop (length s.operands - (h - 1)) s.operands)) o) ≡ option_map (λ y. (y, lowest_operands (h - 1) s)) o
     go None = refl
     go (Some y) = refl
 
 pub pop-lowered_base : (s : Stack) (h : ℕ) (e : Option ValType) → h ≤ base_of s.frames → h ≤ length s.operands →
-    pop e (lowered h s) ≡ with_operands s (pop_at_base (dead_of s.frames) e (drop (length s.operands - h) s.operands))
+    pop e (lowest_operands h s) ≡ with_operands s (pop_at_base (dead_of s.frames) e (drop (length s.operands - h) s.operands))
 pop-lowered_base s h e b l =
     let size : length (drop (length s.operands - h) s.operands) ≡ h = length-lowest h s.operands l in
     ap (with_operands s) (at_base (base_of s.frames) (dead_of s.frames) e (drop (length s.operands - h) s.operands) (omega (arith, size)))
 
-pub nested_lower : (fs : List Frame) (m n : ℕ) → base_of fs ≤ n → AreNested fs m → AreNested fs n
+pub nested_lower : (fs : List Frame) (m n : ℕ) → base_of fs ≤ n → AreBasesOrdered fs m → AreBasesOrdered fs n
 nested_lower [] m n h k = tt
 nested_lower (f ∷ fs) m n h k = (h, k.1)
 
-pub nested_base : (fs : List Frame) (n : ℕ) → AreNested fs n → base_of fs ≤ n
+pub nested_base : (fs : List Frame) (n : ℕ) → AreBasesOrdered fs n → base_of fs ≤ n
 nested_base [] n h = omega arith
 nested_base (f ∷ fs) n h = h.0
 
@@ -56,7 +56,7 @@ abbrev both : Option ValType → List (Option ValType) → Option ValType × Lis
 both y xs = (y, xs)
 
 -- no operand below the base is taken
-nested_above : (fs : List Frame) (e t : Option ValType) (xs ys : List (Option ValType)) → AreNested fs (length xs) → pop_above (base_of fs) (dead_of fs) e xs ≡ Some (t, ys) → AreNested fs (length ys)
+nested_above : (fs : List Frame) (e t : Option ValType) (xs ys : List (Option ValType)) → AreBasesOrdered fs (length xs) → pop_above (base_of fs) (dead_of fs) e xs ≡ Some (t, ys) → AreBasesOrdered fs (length ys)
 nested_above fs e t xs ys n h = nested_lower fs (length xs) (length ys) (go xs (dead_of fs) (nested_base fs (length xs) n) h) n
   where
     base : ℕ
@@ -79,7 +79,7 @@ nested_above fs e t xs ys n h = nested_lower fs (length xs) (length ys) (go xs (
         ]
 
 abbrev pub IsNested : Stack → Type 0
-IsNested s = AreNested s.frames (length s.operands)
+IsNested s = AreBasesOrdered s.frames (length s.operands)
 
 pub nested-pop : (e t : Option ValType) (a b : Stack) → pop e a ≡ Some (t, b) → IsNested a → IsNested b
 nested-pop e t a b h n = go (pop_above (base_of a.frames) (dead_of a.frames) e a.operands) refl h
@@ -87,7 +87,7 @@ nested-pop e t a b h n = go (pop_above (base_of a.frames) (dead_of a.frames) e a
     go : (o : Option (Option ValType × List (Option ValType))) → pop_above (base_of a.frames) (dead_of a.frames) e a.operands ≡ o → with_operands a o ≡ Some (t, b) → IsNested b
     go None k l = absurd (none-some (t, b) l)
     go (Some r) k l =
-        let at : AreNested a.frames (length r.1) = nested_above a.frames e r.0 a.operands r.1 n k in
+        let at : AreBasesOrdered a.frames (length r.1) = nested_above a.frames e r.0 a.operands r.1 n k in
         let same = some_pair_parts r.0 t (record a { operands = r.1 }) b l in
         subst IsNested same.1 at
 
@@ -126,7 +126,7 @@ nested-pop_all (t ∷ ts) a b h n = go (pop_all ts a) refl (λ c k. nested-pop_a
 pub push_all-is : (ts : List ValType) (s : Stack) → push_all ts s ≡ record s { operands = reverse (map Some ts) ++ s.operands }
 push_all-is [] s = refl
 push_all-is (t ∷ ts) s =
-    push_all-is ts (push (Some t) s)
+    push_all-is ts (push_operand (Some t) s)
     ∙ ap (λ xs. record s { operands = xs }) (sym (append_assoc (reverse (map Some ts)) (Some t ∷ []) s.operands) ∙ ap (λ xs. xs ++ s.operands) (sym (reverse-append (Some t ∷ []) (map Some ts))))
 
 abbrev pub rest_of : Option (Option ValType × Stack) → Option Stack

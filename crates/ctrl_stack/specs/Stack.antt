@@ -21,9 +21,9 @@ dead_of [] = false
 dead_of (f ∷ fs) = f.dead
 
 -- no frame has a base above the frames inside it, nor above n operands
-abbrev pub AreNested : List Frame → (n : ℕ) → Type 0
-AreNested [] n = Unit {0}
-AreNested (f ∷ fs) n = (f.base ≤ n) × AreNested fs f.base
+abbrev pub AreBasesOrdered : List Frame → (n : ℕ) → Type 0
+AreBasesOrdered [] n = Unit {0}
+AreBasesOrdered (f ∷ fs) n = (f.base ≤ n) × AreBasesOrdered fs f.base
 
 -- what a branch to a block takes
 abbrev pub types_by : BlockKind → (starts results : List ValType) → List ValType
@@ -37,8 +37,8 @@ abbrev pub label_types : Frame → List ValType
 label_types f = types_by f.kind f.starts f.results
 
 -- a function before its first instruction
-abbrev pub started : (results : List ValType) → Stack
-started results =
+abbrev pub function_stack : (results : List ValType) → Stack
+function_stack results =
     record { frames = record { kind = Function; starts = []; results = results; base = 0; dead = false } ∷ []; operands = [] }
 
 abbrev pub is_same_type : ValType → ValType → Bool
@@ -53,8 +53,8 @@ meet None e = Some e
 meet (Some t) None = Some (Some t)
 meet (Some t) (Some u) = if is_same_type t u then Some (Some t) else None
 
-abbrev pub push : Option ValType → Stack → Stack
-push t s = record s { operands = t ∷ s.operands }
+abbrev pub push_operand : Option ValType → Stack → Stack
+push_operand t s = record s { operands = t ∷ s.operands }
 
 -- at the base of a frame: what is expected where the frame is dead, else nothing
 abbrev pub pop_at_base : (dead : Bool) → (expected : Option ValType) → List (Option ValType) → Option (Option ValType × List (Option ValType))
@@ -82,11 +82,11 @@ pop_all (t ∷ ts) s = option_and_then (pop_one t) (pop_all ts s)
 -- the first first
 abbrev pub push_all : List ValType → Stack → Stack
 push_all [] s = s
-push_all (t ∷ ts) s = push_all ts (push (Some t) s)
+push_all (t ∷ ts) s = push_all ts (push_operand (Some t) s)
 
 -- a new innermost frame above the operands that are there, with its start types
-abbrev pub opened : BlockKind → (starts results : List ValType) → Stack → Stack
-opened kind starts results s =
+abbrev pub with_frame : BlockKind → (starts results : List ValType) → Stack → Stack
+with_frame kind starts results s =
     push_all starts (record { frames = record { kind = kind; starts = starts; results = results; base = length s.operands; dead = false } ∷ s.frames; operands = s.operands })
 
 abbrev pub where_open : {A : Type 0} → List Frame → Option A → Option A
@@ -95,22 +95,22 @@ where_open (f ∷ fs) o = o
 
 -- with a block opened inside the innermost frame, whose operands give its start types
 abbrev pub with_block : BlockKind → (starts results : List ValType) → Stack → Option Stack
-with_block kind starts results s = where_open s.frames (option_map (opened kind starts results) (pop_all starts s))
+with_block kind starts results s = where_open s.frames (option_map (with_frame kind starts results) (pop_all starts s))
 
-abbrev pub closed_at : Frame → List Frame → Stack → Option (Frame × Stack)
-closed_at f fs s = if length s.operands == f.base then Some (f, record { frames = fs; operands = s.operands }) else None
+abbrev pub without_frame : Frame → List Frame → Stack → Option (Frame × Stack)
+without_frame f fs s = if length s.operands == f.base then Some (f, record { frames = fs; operands = s.operands }) else None
 
 abbrev pub without_first : List Frame → Stack → Option (Frame × Stack)
 without_first [] s = None
-without_first (f ∷ fs) s = option_and_then (closed_at f fs) (pop_all f.results s)
+without_first (f ∷ fs) s = option_and_then (without_frame f fs) (pop_all f.results s)
 
 -- the innermost frame and the stack without it, where its operands are just its results
 abbrev pub without_block : Stack → Option (Frame × Stack)
 without_block s = without_first s.frames s
 
 -- the lowest n operands
-abbrev pub lowered : (n : ℕ) → Stack → Stack
-lowered n s = record s { operands = drop (length s.operands - n) s.operands }
+abbrev pub lowest_operands : (n : ℕ) → Stack → Stack
+lowest_operands n s = record s { operands = drop (length s.operands - n) s.operands }
 
 abbrev pub dead_frames : List Frame → List Frame
 dead_frames [] = []
@@ -118,4 +118,4 @@ dead_frames (f ∷ fs) = record f { dead = true } ∷ fs
 
 -- the innermost frame dead, without operands of its own
 abbrev pub dead_from_here : Stack → Stack
-dead_from_here s = record (lowered (base_of s.frames) s) { frames = dead_frames s.frames }
+dead_from_here s = record (lowest_operands (base_of s.frames) s) { frames = dead_frames s.frames }

@@ -1,7 +1,7 @@
 // The open blocks of a body and its operands.
 
 ghost use Rattle.std.specs.Prelude.{◌≡◌, ℕ, ◌<◌, ◌≤◌, List, ◌++◌, length, map, take, reverse, Option, Some, None, slice_get, MatchOption, OnOk, OnErr, IfOk, IfErr};
-ghost use Rattle.ctrl_stack.specs.Stack.{started, meet, pop, pop_all, push, lowered, base_of, dead_of, with_block, without_block, dead_from_here};
+ghost use Rattle.ctrl_stack.specs.Stack.{function_stack, meet, pop, pop_all, push_operand, lowest_operands, base_of, dead_of, with_block, without_block, dead_from_here};
 ghost use Rattle.ctrl_stack.specs.Faults.{OnFault, IsMismatch};
 
 use crate::frame::{Frame, Types};
@@ -50,19 +50,19 @@ pub struct CtrlStack {
 
 impl Model for CtrlStack {
     ghost use Rattle.std.specs.Prelude.{reverse, length};
-    ghost use Rattle.ctrl_stack.specs.Stack.{Stack, AreNested};
+    ghost use Rattle.ctrl_stack.specs.Stack.{Stack, AreBasesOrdered};
 
     ghost Value = { Stack };
 
     ghost view = { λ a. record { frames = reverse a.frames.items; operands = reverse a.operands.items } };
 
-    ghost invariant = { λ a. AreNested (reverse a.frames.items) (length a.operands.items) };
+    ghost invariant = { λ a. AreBasesOrdered (reverse a.frames.items) (length a.operands.items) };
 }
 
 impl CtrlStack {
     /// A function with these results, before its first instruction.
     pub fn new(alloc: Global, results: Types) -> Result<CtrlStack, NoMemory>
-        ensures { IfOk result (λ s. s ≡ started results) }
+        ensures { IfOk result (λ s. s ≡ function_stack results) }
     {
         let mut frames = Vec::new(alloc);
         frames.push(Frame {
@@ -95,7 +95,7 @@ impl CtrlStack {
 
     /// Puts an operand of this type, or of an unknown one, on top.
     pub fn push(&mut self, ty: Option<ValType>) -> Result<(), NoMemory>
-        ensures ok { OnOk result (self.new ≡ push ty self.old) }
+        ensures ok { OnOk result (self.new ≡ push_operand ty self.old) }
         ensures err { OnErr result (self.new ≡ self.old) }
     {
         self.operands.push(ty)?;
@@ -174,7 +174,7 @@ impl CtrlStack {
     // What `pop` finds above so many operands, and how many it leaves.
     fn pop_from(&self, height: usize, expected: Option<ValType>) -> Option<(Option<ValType>, usize)>
         requires { height ≤ length self.now.operands }
-        ensures { MatchOption result (pop expected (lowered height self.now) ≡ None) (λ r. (r.1 ≤ height) × (pop expected (lowered height self.now) ≡ Some (r.0, lowered r.1 self.now))) }
+        ensures { MatchOption result (pop expected (lowest_operands height self.now) ≡ None) (λ r. (r.1 ≤ height) × (pop expected (lowest_operands height self.now) ≡ Some (r.0, lowest_operands r.1 self.now))) }
     {
         let (base, dead) = innermost(&self.frames);
         if height > base {
@@ -189,7 +189,7 @@ impl CtrlStack {
 
     // How many operands are left when these are taken, the last first.
     fn pop_all(&self, types: &[ValType]) -> Option<usize>
-        ensures { MatchOption result (pop_all types.now self.now ≡ None) (λ n. (n ≤ length self.now.operands) × (pop_all types.now self.now ≡ Some (lowered n self.now))) }
+        ensures { MatchOption result (pop_all types.now self.now ≡ None) (λ n. (n ≤ length self.now.operands) × (pop_all types.now self.now ≡ Some (lowest_operands n self.now))) }
     {
         let mut height = self.operands.len();
         let mut left = types.len();

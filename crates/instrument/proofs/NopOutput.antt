@@ -15,7 +15,7 @@ use Rattle.hook_select.specs.declared.Hooks.{Hooks}
 use Rattle.hook_mono.specs.declared.HookKey.{HookKey}
 use Rattle.hook_mono.specs.declared.HookKey.TheVariants.{Plain, Begin, End, Return}
 use Rattle.hook_mono.specs.Keys.{is_wanted, with_key, distinct_keys}
-use Rattle.hook_mono.specs.Needed.{Site, site_of, live_keys, wanted_keys, needed}
+use Rattle.hook_mono.specs.Needed.{Site, site_of, live_keys, wanted_keys, needed_keys}
 use Rattle.wasm_sem.specs.Link.{hook_module}
 use Rattle.rewrite.specs.Setting.{Setting}
 use Rattle.rewrite.specs.Temporaries.{place_temps, body_temps, greatest, ints_in, longs_in}
@@ -93,15 +93,15 @@ one_key zero = refl
 one_key (suc n) = one_key n
 
 -- the one key, where nop is selected and there is one
-pub needed_hooked : (name : Text) (c : ℕ) → needed (nop_module name (suc c)) nop_group ≡ Plain Nop ∷ []
+pub needed_hooked : (name : Text) (c : ℕ) → needed_keys (nop_module name (suc c)) nop_group ≡ Plain Nop ∷ []
 needed_hooked name c = ap (λ l. distinct_keys (l ++ [])) (wanted_hooked name (suc c)) ∙ ap distinct_keys (append-nil (nop_keys (suc c))) ∙ one_key c
 
 -- no key, where no group is selected
-pub needed_none : (name : Text) (count : ℕ) → needed (nop_module name count) no_groups ≡ []
+pub needed_none : (name : Text) (count : ℕ) → needed_keys (nop_module name count) no_groups ≡ []
 needed_none name count = ap (λ l. distinct_keys (l ++ [])) (wanted_none name count)
 
 -- no key, where there is no nop
-pub needed_empty : (name : Text) → needed (nop_module name 0) nop_group ≡ []
+pub needed_empty : (name : Text) → needed_keys (nop_module name 0) nop_group ≡ []
 needed_empty name = refl
 
 -- nops need no temporaries

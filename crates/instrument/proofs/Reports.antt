@@ -9,12 +9,12 @@ use Rattle.hook_select.specs.declared.Hooks.{Hooks}
 use Rattle.hook_select.specs.Events.{group_of}
 use Rattle.hook_select.specs.Groups.{has}
 use Rattle.wasm_sem.specs.declared.Script.{Script}
-use Rattle.wasm_sem.specs.Events.{Item, entry, host_call, event, hook_call, events_in}
+use Rattle.wasm_sem.specs.Events.{TraceItem, entry, host_call, event, hook_call, events_in}
 use Rattle.wasm_sem.specs.Trace.{has_group, chosen_items, trace_of}
 use Rattle.instrument.specs.Same.{IsPrefix, told_so_far, shown_so_far, SameRuns, ReportsCompose}
 
 -- the events of two stretches stand one behind the other
-pub events_append : (xs ys : List Item) → events_in (xs ++ ys) ≡ events_in xs ++ events_in ys
+pub events_append : (xs ys : List TraceItem) → events_in (xs ++ ys) ≡ events_in xs ++ events_in ys
 events_append [] ys = refl
 events_append (event e ∷ is) ys = ap (λ (t : List Event). e ∷ t) (events_append is ys)
 events_append (entry c ∷ is) ys = events_append is ys
@@ -26,7 +26,7 @@ abbrev IsGrouped : Event → Type 0
 IsGrouped e = IsTrue (is_some (group_of e))
 
 -- an event that is kept has a group
-kept_grouped : (selected : GroupName → Bool) (e : Event) (is : List Item) (g : Option GroupName) → group_of e ≡ g → All IsGrouped (events_in is)
+kept_grouped : (selected : GroupName → Bool) (e : Event) (is : List TraceItem) (g : Option GroupName) → group_of e ≡ g → All IsGrouped (events_in is)
     → All IsGrouped (events_in (when (has_group selected g) (event e ∷ []) ++ is))
 kept_grouped selected e is None h rest = rest
 kept_grouped selected e is (Some g) h rest = go (selected g)
@@ -36,7 +36,7 @@ kept_grouped selected e is (Some g) h rest = go (selected g)
     go true = All-cons IsGrouped e (events_in is) (ap is_some h) rest
 
 -- so has each of those that are kept
-pub chosen_grouped : (selected : GroupName → Bool) (is : List Item) → All IsGrouped (events_in (chosen_items selected is))
+pub chosen_grouped : (selected : GroupName → Bool) (is : List TraceItem) → All IsGrouped (events_in (chosen_items selected is))
 chosen_grouped selected [] = All-nil IsGrouped
 chosen_grouped selected (event e ∷ is) = kept_grouped selected e (chosen_items selected is) (group_of e) refl (chosen_grouped selected is)
 chosen_grouped selected (entry c ∷ is) = chosen_grouped selected is
@@ -49,7 +49,7 @@ all_front P [] ys h = All-nil P
 all_front P (x ∷ xs) ys h = All-cons P x xs (All-head P x (xs ++ ys) h) (all_front P xs ys (All-tail P x (xs ++ ys) h))
 
 -- the events of a beginning are a beginning of the events
-events_front : (xs ys : List Item) → IsPrefix xs ys → IsPrefix (events_in xs) (events_in ys)
+events_front : (xs ys : List TraceItem) → IsPrefix xs ys → IsPrefix (events_in xs) (events_in ys)
 events_front xs ys h = (events_in h.0, sym (events_append xs h.0) ∙ ap events_in h.1)
 
 -- the events that are told of runs that are the same

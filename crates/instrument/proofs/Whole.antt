@@ -4,13 +4,13 @@ use Rattle.module_ast.specs.declared.module.Module.{Module}
 use Rattle.hook_select.specs.declared.Hooks.{Hooks}
 use Rattle.wasm_sem.specs.declared.Script.{Script}
 use Rattle.wasm_sem.specs.Link.{instance}
-use Rattle.wasm_sem.specs.Machine.{State, stands, over, opening, run_of, is_last, is_over}
-use Rattle.wasm_sem.specs.Events.{Item}
+use Rattle.wasm_sem.specs.Machine.{Configuration, configuration, over, opening, run_of, is_last, is_over}
+use Rattle.wasm_sem.specs.Events.{TraceItem}
 use Rattle.wasm_sem.specs.Trace.{trace, trace_of}
 use Rattle.wasm_sem.specs.Laws.{slots_in}
 use Rattle.wasm_sem.proofs.Runs.{trace_add}
 use Rattle.wasm_sem.proofs.Ended.{slots_stay, stays_over, shows_no_more}
-use Rattle.hook_mono.specs.Needed.{needed}
+use Rattle.hook_mono.specs.Needed.{needed_keys}
 use Rattle.static_info.specs.Info.{info_of}
 use Rattle.static_info.specs.Items.{read}
 use Rattle.static_info.proofs.Reading.{read_append}
@@ -19,12 +19,12 @@ use Rattle.instrument.specs.Same.{Match, IsPrefix, env_in, env_of, Matches, IsOv
 use Rattle.instrument.specs.Laws.{EachMoment}
 
 -- the slots of the store beside the frames are those of the configuration
-slots_seen : (c : State) → (env_in c).store.slots ≡ slots_in c
-slots_seen (stands e frames) = refl
+slots_seen : (c : Configuration) → (env_in c).store.slots ≡ slots_in c
+slots_seen (configuration e frames) = refl
 
 -- over by its phase, the run is over
-is_over_seen : (c : State) → (env_in c).phase ≡ over → is_over c ≡ true
-is_over_seen (stands e frames) h = ap is_last h
+is_over_seen : (c : Configuration) → (env_in c).phase ≡ over → is_over c ≡ true
+is_over_seen (configuration e frames) h = ap is_last h
 
 -- the table at any moment is that at any other
 slots_same : (o : Module) (s : Script) (k w : ℕ) → (env_of o s k).store.slots ≡ (env_of o s w).store.slots
@@ -42,7 +42,7 @@ module _ (m : Module) (hooks : Hooks) (o : Module) (s : Script) (each : EachMome
       let cut : trace_of o s k ++ rest ≡ trace_of o s w.0 = sym (trace_add (instance o s) k (w.0 - k) (opening o s)) ∙ ap (trace_of o s) e in (
         read (info_of m hooks) slots rest,
         sym (read_append (info_of m hooks) slots (trace_of o s k) rest)
-            ∙ ap₂ (λ (at : List (Option ℕ)) (told : List Item). read (info_of m hooks) at told) (slots_same o s k w.0) cut
+            ∙ ap₂ (λ (at : List (Option ℕ)) (told : List TraceItem). read (info_of m hooks) at told) (slots_same o s k w.0) cut
             ∙ w.3.reads,
       )
 
@@ -55,7 +55,7 @@ module _ (m : Module) (hooks : Hooks) (o : Module) (s : Script) (each : EachMome
       let still : run_of o s w.0 ≡ run_of o s k = ap (run_of o s) (sym e) ∙ stays_over o s k (w.0 - k) ended in
       let quiet : trace_of o s w.0 ≡ trace_of o s k = ap (trace_of o s) (sym e) ∙ shows_no_more o s k (w.0 - k) ended in
       let matches : Matches m hooks o s k k =
-      subst₂ (λ (c : State) (told : List Item). Match (info_of m hooks) (hook_remap m (needed m hooks)) (env_of m s k) (env_in c) (trace_of m s k) told) still quiet w.3 in
+      subst₂ (λ (c : Configuration) (told : List TraceItem). Match (info_of m hooks) (hook_remap m (needed_keys m hooks)) (env_of m s k) (env_in c) (trace_of m s k) told) still quiet w.3 in
       (sym matches.phase ∙ h, matches)
 
 -- all three together

@@ -5,12 +5,12 @@ use Rattle.hook_select.specs.declared.Hooks.{Hooks}
 use Rattle.hook_select.specs.declared.Event.{Event}
 use Rattle.hook_select.specs.Groups.{has}
 use Rattle.hook_select.specs.Events.{group_of}
-use Rattle.hook_mono.specs.Needed.{needed}
+use Rattle.hook_mono.specs.Needed.{needed_keys}
 use Rattle.wasm_sem.specs.declared.Script.{Script}
 use Rattle.wasm_sem.specs.Store.{Store}
 use Rattle.wasm_sem.specs.Link.{IsScriptInRange, link}
-use Rattle.wasm_sem.specs.Machine.{State, stands, Env, over, run_of}
-use Rattle.wasm_sem.specs.Events.{Item, events_in}
+use Rattle.wasm_sem.specs.Machine.{Configuration, configuration, Env, over, run_of}
+use Rattle.wasm_sem.specs.Events.{TraceItem, events_in}
 use Rattle.wasm_sem.specs.Trace.{chosen_items, trace_of}
 use Rattle.index_remap.specs.declared.Remap.{Remap}
 use Rattle.index_remap.specs.Remap.{map_index}
@@ -28,7 +28,7 @@ abbrev pub map_store : Remap → Store → Store
 map_store r st = record st { slots = map_slots r st.slots }
 
 -- a moment of the original with its trace, and one of the output with its own
-pub record Match (info : Info) (r : Remap) (a b : Env) (trace_a trace_b : List Item) : Type 0 where
+pub record Match (info : Info) (r : Remap) (a b : Env) (trace_a trace_b : List TraceItem) : Type 0 where
   pub phase : b.phase ≡ a.phase
   pub started : b.started ≡ a.started
   pub answers : b.answers ≡ a.answers
@@ -38,24 +38,24 @@ pub record Match (info : Info) (r : Remap) (a b : Env) (trace_a trace_b : List I
 abbrev pub IsPrefix : {A : Type 0} → List A → List A → Type 0
 IsPrefix {A} xs ys = (rest : List A) × (xs ++ rest ≡ ys)
 
-abbrev pub env_in : State → Env
-env_in (stands e frames) = e
+abbrev pub env_in : Configuration → Env
+env_in (configuration e frames) = e
 
 abbrev pub env_of : Module → Script → ℕ → Env
 env_of m s n = env_in (run_of m s n)
 
 abbrev pub Matches : Module → Hooks → Module → Script → (n k : ℕ) → Type 0
-Matches m hooks o s n k = Match (info_of m hooks) (hook_remap m (needed m hooks)) (env_of m s n) (env_of o s k) (trace_of m s n) (trace_of o s k)
+Matches m hooks o s n k = Match (info_of m hooks) (hook_remap m (needed_keys m hooks)) (env_of m s n) (env_of o s k) (trace_of m s n) (trace_of o s k)
 
 abbrev pub IsOver : Module → Script → ℕ → Type 0
 IsOver m s n = (env_of m s n).phase ≡ over
 
 -- what the output has told after k steps, read with the information
-abbrev pub told_so_far : Module → Hooks → Module → Script → ℕ → List Item
+abbrev pub told_so_far : Module → Hooks → Module → Script → ℕ → List TraceItem
 told_so_far m hooks o s k = read (info_of m hooks) (env_of o s k).store.slots (trace_of o s k)
 
 -- what the original has shown of the selected groups after n steps
-abbrev pub shown_so_far : Module → Hooks → Script → ℕ → List Item
+abbrev pub shown_so_far : Module → Hooks → Script → ℕ → List TraceItem
 shown_so_far m hooks s n = chosen_items (has hooks) (trace_of m s n)
 
 -- Each moment of the original is matched within a bounded number of steps; where the output is over, so is the

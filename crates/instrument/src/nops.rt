@@ -1,7 +1,8 @@
 // Modules of one function of nops.
 
-ghost use Rattle.std.specs.Prelude.{◌≡◌, ◌≢◌, ◌≤◌, ◌<◌, ◌^◌, ◌∷◌, [], length, ℕ, List, MatchOption, IfOk, IsTrue, ◌↔◌};
+ghost use Rattle.std.specs.Prelude.{◌≡◌, ◌≢◌, ◌≤◌, ◌<◌, ◌^◌, ◌∷◌, [], length, ℕ, MatchOption, IfOk, IsTrue, ◌↔◌};
 ghost use Rattle.module_ast.specs.Seen.{code_of};
+ghost use Rattle.module_ast.specs.Texts.{Text};
 ghost use Rattle.module_ast.specs.Tree.{done};
 ghost use Rattle.module_ast.specs.Decoding.{Gram};
 ghost use Rattle.module_ast.specs.Profile.{IsWithin};
@@ -17,13 +18,14 @@ use crate::output::nops_output;
 use hook_select::Hooks;
 use module_ast::code::Instr;
 use module_ast::module::{Body, Export, ExportKind, FuncType, Module};
+use module_ast::name::Name;
 use std::alloc::{AllocError, Global};
 use wasm_encode::{EncodeFault, encode};
 
 /// The name and the number of nops of a module of one function of nops, which is exported under that name.
 #[derive(Clone, Copy, Debug)]
 pub struct Nops<'m> {
-    pub name: &'m str,
+    pub name: &'m Name,
     pub count: u32,
 }
 
@@ -61,13 +63,11 @@ fn has_functions_alone(m: &Module) -> bool
 }
 
 // The name of the one export, where it is of function 0.
-fn exported_name(exports: &[Export]) -> Option<&str>
-    ensures { MatchOption result ((name : List ℕ) → exports.now ≢ record { name = name; kind = Func; index = 0 } ∷ []) (λ name. exports.now ≡ record { name = name.now; kind = Func; index = 0 } ∷ []) }
+fn exported_name(exports: &[Export]) -> Option<&Name>
+    ensures { MatchOption result ((name : Text) → exports.now ≢ record { name = name; kind = Func; index = 0 } ∷ []) (λ name. exports.now ≡ record { name = name.now; kind = Func; index = 0 } ∷ []) }
 {
     match exports {
-        [export] if export.kind == ExportKind::Func && export.index == 0 => Some(
-            export.name.as_str(),
-        ),
+        [export] if export.kind == ExportKind::Func && export.index == 0 => Some(&export.name),
         _ => None,
     }
 }
@@ -142,7 +142,7 @@ fn bytes_of(alloc: Global, m: &Module) -> Result<Vec<u8>, AllocError>
 /// memory ends.
 pub fn write_nops(
     alloc: Global,
-    name: &str,
+    name: &Name,
     count: u32,
     hooks: &Hooks,
 ) -> Result<Vec<u8>, AllocError>

@@ -35,9 +35,18 @@ fn one<T: Drop>(alloc: Global, value: T) -> Result<Seq<T>, AllocError>
 
 // This text as a name.
 fn name(alloc: Global, text: &str) -> Result<Name, AllocError>
-    ensures { IfOk result (λ name. name ≡ text.now) }
+    ensures { IfOk result (λ name. name.bytes ≡ text.now) }
 {
     Ok(Name::from_string(String::from_str(alloc, text)?))
+}
+
+// The name once more.
+#[tactic(auto, using(leb_binary::proofs::Texts::texts_alike))]
+fn copied(alloc: Global, original: &Name) -> Result<Name, AllocError>
+    ensures { IfOk result (λ copy. copy ≡ original.now) }
+{
+    let copy = name(alloc, original.as_str())?;
+    Ok(copy)
 }
 
 // The type of a function without parameters and results.
@@ -102,12 +111,12 @@ fn hook_count(told: bool) -> u32
     if told { 1 } else { 0 }
 }
 
-// The export of the function `index` under `text`.
-fn exports(alloc: Global, text: &str, index: u32) -> Result<Seq<Export>, AllocError>
-    ensures { IfOk result (λ exports. exports ≡ record { name = text.now; kind = Func; index = index } ∷ []) }
+// The export of the function `index` under a name.
+fn exports(alloc: Global, original: &Name, index: u32) -> Result<Seq<Export>, AllocError>
+    ensures { IfOk result (λ exports. exports ≡ record { name = original.now; kind = Func; index = index } ∷ []) }
 {
     let export = Export {
-        name: name(alloc, text)?,
+        name: copied(alloc, original)?,
         kind: ExportKind::Func,
         index,
     };
@@ -126,11 +135,16 @@ fn bodies(alloc: Global, count: u32, told: bool) -> Result<Seq<Body>, AllocError
     one(alloc, body)
 }
 
-/// The module of `count` nops under `text` with the hook of nop where its nops are told. An `AllocError` comes where
+/// The module of `count` nops under a name with the hook of nop where its nops are told. An `AllocError` comes where
 /// memory ends.
-pub fn nops_output(alloc: Global, text: &str, count: u32, told: bool) -> Result<Module, AllocError>
+pub fn nops_output(
+    alloc: Global,
+    name: &Name,
+    count: u32,
+    told: bool,
+) -> Result<Module, AllocError>
     requires { count ≤ narrow_file }
-    ensures { IfOk result (λ output. output ≡ nops_output told text.now count) }
+    ensures { IfOk result (λ output. output ≡ nops_output told name.now count) }
 {
     Ok(Module {
         types: types(alloc, told)?,
@@ -139,7 +153,7 @@ pub fn nops_output(alloc: Global, text: &str, count: u32, told: bool) -> Result<
         tables: none(alloc),
         memories: none(alloc),
         globals: none(alloc),
-        exports: exports(alloc, text, hook_count(told))?,
+        exports: exports(alloc, name, hook_count(told))?,
         start: None,
         elements: none(alloc),
         bodies: bodies(alloc, count, told)?,

@@ -10,7 +10,7 @@ use Rattle.leb_binary.proofs.Lengths.{shortest_signed}
 use Rattle.module_ast.specs.Grammar as grammar
 use Rattle.module_ast.specs.Grammar.{IsU32, IsVec, IsValType, IsBlockType, IsMemArg, IsPlain, IsCode, IsExpr, IsOp}
 use Rattle.module_ast.specs.Canonical.{vec_bytes, val_type_bytes, block_type_bytes, mem_arg_bytes, plain_bytes, code_bytes, expr_bytes}
-use Rattle.module_ast.specs.Profile.{code, block_type}
+use Rattle.module_ast.specs.Profile.{code_node, block_type_node}
 use Rattle.module_ast.specs.Opcodes.{num_opcode, load_opcode, store_opcode}
 use Rattle.module_ast.specs.Tree.{Tree, done, plain, block, loop, if_then, if_else, Plain, unreachable, nop, br, br_if, br_table, return_, call, call_indirect, drop_, select, local_get, local_set, local_tee, global_get, global_set, load, store, memory_size, memory_grow, i32_const, i64_const, num}
 use Rattle.module_ast.proofs.Least.{least_same, least_both, least_op, u32_least, indices_least}
@@ -20,7 +20,7 @@ pub val_type_least : (bytes : List ℕ) (t : ValType) → IsValType bytes (gramm
 val_type_least bytes I32 h = omega (arith, ap length h)
 val_type_least bytes I64 h = omega (arith, ap length h)
 
-block_type_least : (bytes : List ℕ) (t : BlockType) → IsBlockType bytes (block_type t) → length (block_type_bytes t) ≤ length bytes
+block_type_least : (bytes : List ℕ) (t : BlockType) → IsBlockType bytes (block_type_node t) → length (block_type_bytes t) ≤ length bytes
 block_type_least bytes Empty h = omega (arith, ap length h)
 block_type_least bytes (Value t) h = val_type_least bytes t h
 
@@ -84,7 +84,7 @@ if_else_least ty body other k bytes front rest inner t both b o e f g d h i j l 
     omega (arith, ap length e, ap length f, ap length g, ap length d)
 
 -- 5.4 sequences, by recursion on the tree
-code_least : (bytes : List ℕ) (t : Tree) → IsCode bytes (code t) → length (code_bytes t) ≤ length bytes
+code_least : (bytes : List ℕ) (t : Tree) → IsCode bytes (code_node t) → length (code_bytes t) ≤ length bytes
 code_least bytes done h = omega arith
 code_least bytes (plain p k) (front, rest, e, h, i) = least_both (plain_bytes p) (code_bytes k) front rest bytes e (plain_least front p h) (code_least rest k i)
 code_least bytes (block ty body k) (front, rest, e, (inner, f, (t, b, g, h, i)), j) =
@@ -97,5 +97,5 @@ code_least bytes (if_else ty body other k) (front, rest, e, (inner, f, (t, both,
     if_else_least (block_type_bytes ty) (code_bytes body) (code_bytes other) (code_bytes k) bytes front rest inner t both b o e f g d (block_type_least t ty h) (code_least b body i) (code_least o other l) (code_least rest k j)
 
 -- expressions
-pub expr_least : (bytes : List ℕ) (t : Tree) → IsExpr bytes (code t) → length (expr_bytes t) ≤ length bytes
+pub expr_least : (bytes : List ℕ) (t : Tree) → IsExpr bytes (code_node t) → length (expr_bytes t) ≤ length bytes
 expr_least bytes t (inner, e, h) = least_both (code_bytes t) (0x0B ∷ []) inner (0x0B ∷ []) bytes e (code_least inner t h) (omega arith)

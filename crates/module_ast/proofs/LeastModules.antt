@@ -8,7 +8,7 @@ use Rattle.leb_binary.specs.Shortest.{unsigned_bytes}
 use Rattle.module_ast.specs.Grammar as grammar
 use Rattle.module_ast.specs.Grammar.{IsU32, AreItems, IsVec, IsSized, IsBody, IsOp, Section, IsSection, IsFuncType, IsImport, IsTableType, IsMemoryType, IsGlobal, IsExport, IsElement, IsSegment, IsModule, header, empty_module, with_section, with_sections, custom_section, type_section, import_section, function_section, table_section, memory_section, global_section, export_section, start_section, element_section, code_section, data_section}
 use Rattle.module_ast.specs.Canonical.{vec_bytes, sized_bytes, vec_section, start_bytes, module_bytes, func_type_bytes, import_bytes, table_bytes, limits_bytes, global_bytes, export_bytes, element_bytes, body_bytes, segment_bytes}
-use Rattle.module_ast.specs.Profile.{tree_of, func_type, import_of, global, export, element, body, segment}
+use Rattle.module_ast.specs.Profile.{tree_of, func_type_node, import_node, global_node, export_node, element_node, body_node, segment_node}
 use Rattle.module_ast.specs.Shortest.{CanonicalBytesAreShortest}
 use Rattle.module_ast.proofs.Least.{AtLeast, least_op, u32_least, index_least, least_sized, vec_least, sized_least}
 use Rattle.module_ast.proofs.LeastEntries.{func_type_least, import_least, table_least, memory_least, global_least, export_least, element_least, body_least, segment_least}
@@ -24,18 +24,18 @@ abbrev Held : {A B : Type 0} → (A → B) → List A → List B → Type 0
 Held view xs ys = (xs ≡ []) ⊎ (map view xs ≡ ys)
 
 -- a module of which each part is absent, or is that of a tree; its custom sections are not asked for
-record IsHeld (m : Module) (v : grammar.Module) : Type 0 where
-  types : Held func_type m.types v.types
-  imports : Held import_of m.imports v.imports
+record IsHeld (m : Module) (v : grammar.ModuleNode) : Type 0 where
+  types : Held func_type_node m.types v.types
+  imports : Held import_node m.imports v.imports
   funcs : Held same m.funcs v.funcs
   tables : Held same_range m.tables v.tables
   memories : Held same_range m.memories v.memories
-  globals : Held global m.globals v.globals
-  exports : Held export m.exports v.exports
+  globals : Held global_node m.globals v.globals
+  exports : Held export_node m.exports v.exports
   start : (m.start ≡ None) ⊎ (m.start ≡ v.start)
-  elements : Held element m.elements v.elements
-  bodies : Held body m.bodies v.bodies
-  segments : Held segment m.segments v.segments
+  elements : Held element_node m.elements v.elements
+  bodies : Held body_node m.bodies v.bodies
+  segments : Held segment_node m.segments v.segments
 
 -- how many bytes are canonical, summed over the header and the sections
 abbrev size_of : Module → ℕ
@@ -96,7 +96,7 @@ start_none (Some x) (inl e) = cc
 start_none (Some x) (inr e) = cc
 
 -- that many bytes are enough for what a module holds of the tree
-record IsEnough (v : grammar.Module) (count : ℕ) : Type 0 where
+record IsEnough (v : grammar.ModuleNode) (count : ℕ) : Type 0 where
   enough : (m : Module) → IsHeld m v → size_of m ≤ count
 
 -- a header is enough for a module without a part
@@ -105,33 +105,33 @@ enough_first = record { enough = none }
   where
     none : (m : Module) → IsHeld m empty_module → size_of m ≤ 8
     none m h =
-        let a = none_least IsFuncType func_type_bytes func_type func_type_least 1 m.types h.types in
-        let b = none_least IsImport import_bytes import_of import_least 2 m.imports h.imports in
+        let a = none_least IsFuncType func_type_bytes func_type_node func_type_least 1 m.types h.types in
+        let b = none_least IsImport import_bytes import_node import_least 2 m.imports h.imports in
         let c = none_least IsU32 unsigned_bytes same index_least 3 m.funcs h.funcs in
         let d = none_least IsTableType table_bytes same_range table_least 4 m.tables h.tables in
         let e = none_least IsMemoryType limits_bytes same_range memory_least 5 m.memories h.memories in
-        let f = none_least IsGlobal global_bytes global global_least 6 m.globals h.globals in
-        let g = none_least IsExport export_bytes export export_least 7 m.exports h.exports in
+        let f = none_least IsGlobal global_bytes global_node global_least 6 m.globals h.globals in
+        let g = none_least IsExport export_bytes export_node export_least 7 m.exports h.exports in
         let i = start_none m.start h.start in
-        let j = none_least IsElement element_bytes element element_least 9 m.elements h.elements in
-        let k = none_least (IsSized IsBody) (λ b. sized_bytes (body_bytes b)) body (sized_least IsBody body_bytes body body_least) 10 m.bodies h.bodies in
-        let l = none_least IsSegment segment_bytes segment segment_least 11 m.segments h.segments in
+        let j = none_least IsElement element_bytes element_node element_least 9 m.elements h.elements in
+        let k = none_least (IsSized IsBody) (λ b. sized_bytes (body_bytes b)) body_node (sized_least IsBody body_bytes body_node body_least) 10 m.bodies h.bodies in
+        let l = none_least IsSegment segment_bytes segment_node segment_least 11 m.segments h.segments in
         omega arith
 
 -- A section more, and its bytes are enough for one part more: without this part, the tree before holds the module.
-enough_next : (v : grammar.Module) (s : Section) (bytes : List ℕ) (count : ℕ) → IsSection bytes s → IsEnough v count → IsEnough (with_section s v) (count + length bytes)
+enough_next : (v : grammar.ModuleNode) (s : Section) (bytes : List ℕ) (count : ℕ) → IsSection bytes s → IsEnough v count → IsEnough (with_section s v) (count + length bytes)
 enough_next v (custom_section, x) bytes count s b = record {
   enough = λ m h. let k = b.enough m (record { types = h.types; imports = h.imports; funcs = h.funcs; tables = h.tables; memories = h.memories; globals = h.globals; exports = h.exports; start = h.start; elements = h.elements; bodies = h.bodies; segments = h.segments }) in omega arith;
 }
 enough_next v (type_section, x) bytes count s b = record {
   enough = λ m h.
-      let l = section_least IsFuncType func_type_bytes func_type func_type_least 1 m.types x bytes h.types s in
+      let l = section_least IsFuncType func_type_bytes func_type_node func_type_least 1 m.types x bytes h.types s in
       let k = b.enough (record m { types = [] }) (record { types = inl refl; imports = h.imports; funcs = h.funcs; tables = h.tables; memories = h.memories; globals = h.globals; exports = h.exports; start = h.start; elements = h.elements; bodies = h.bodies; segments = h.segments }) in
       omega arith;
 }
 enough_next v (import_section, x) bytes count s b = record {
   enough = λ m h.
-      let l = section_least IsImport import_bytes import_of import_least 2 m.imports x bytes h.imports s in
+      let l = section_least IsImport import_bytes import_node import_least 2 m.imports x bytes h.imports s in
       let k = b.enough (record m { imports = [] }) (record { types = h.types; imports = inl refl; funcs = h.funcs; tables = h.tables; memories = h.memories; globals = h.globals; exports = h.exports; start = h.start; elements = h.elements; bodies = h.bodies; segments = h.segments }) in
       omega arith;
 }
@@ -155,13 +155,13 @@ enough_next v (memory_section, x) bytes count s b = record {
 }
 enough_next v (global_section, x) bytes count s b = record {
   enough = λ m h.
-      let l = section_least IsGlobal global_bytes global global_least 6 m.globals x bytes h.globals s in
+      let l = section_least IsGlobal global_bytes global_node global_least 6 m.globals x bytes h.globals s in
       let k = b.enough (record m { globals = [] }) (record { types = h.types; imports = h.imports; funcs = h.funcs; tables = h.tables; memories = h.memories; globals = inl refl; exports = h.exports; start = h.start; elements = h.elements; bodies = h.bodies; segments = h.segments }) in
       omega arith;
 }
 enough_next v (export_section, x) bytes count s b = record {
   enough = λ m h.
-      let l = section_least IsExport export_bytes export export_least 7 m.exports x bytes h.exports s in
+      let l = section_least IsExport export_bytes export_node export_least 7 m.exports x bytes h.exports s in
       let k = b.enough (record m { exports = [] }) (record { types = h.types; imports = h.imports; funcs = h.funcs; tables = h.tables; memories = h.memories; globals = h.globals; exports = inl refl; start = h.start; elements = h.elements; bodies = h.bodies; segments = h.segments }) in
       omega arith;
 }
@@ -173,25 +173,25 @@ enough_next v (start_section, x) bytes count s b = record {
 }
 enough_next v (element_section, x) bytes count s b = record {
   enough = λ m h.
-      let l = section_least IsElement element_bytes element element_least 9 m.elements x bytes h.elements s in
+      let l = section_least IsElement element_bytes element_node element_least 9 m.elements x bytes h.elements s in
       let k = b.enough (record m { elements = [] }) (record { types = h.types; imports = h.imports; funcs = h.funcs; tables = h.tables; memories = h.memories; globals = h.globals; exports = h.exports; start = h.start; elements = inl refl; bodies = h.bodies; segments = h.segments }) in
       omega arith;
 }
 enough_next v (code_section, x) bytes count s b = record {
   enough = λ m h.
-      let l = section_least (IsSized IsBody) (λ b. sized_bytes (body_bytes b)) body (sized_least IsBody body_bytes body body_least) 10 m.bodies x bytes h.bodies s in
+      let l = section_least (IsSized IsBody) (λ b. sized_bytes (body_bytes b)) body_node (sized_least IsBody body_bytes body_node body_least) 10 m.bodies x bytes h.bodies s in
       let k = b.enough (record m { bodies = [] }) (record { types = h.types; imports = h.imports; funcs = h.funcs; tables = h.tables; memories = h.memories; globals = h.globals; exports = h.exports; start = h.start; elements = h.elements; bodies = inl refl; segments = h.segments }) in
       omega arith;
 }
 enough_next v (data_section, x) bytes count s b = record {
   enough = λ m h.
-      let l = section_least IsSegment segment_bytes segment segment_least 11 m.segments x bytes h.segments s in
+      let l = section_least IsSegment segment_bytes segment_node segment_least 11 m.segments x bytes h.segments s in
       let k = b.enough (record m { segments = [] }) (record { types = h.types; imports = h.imports; funcs = h.funcs; tables = h.tables; memories = h.memories; globals = h.globals; exports = h.exports; start = h.start; elements = h.elements; bodies = h.bodies; segments = inl refl }) in
       omega arith;
 }
 
 -- the sections of a file, one after another
-enough_all : (v : grammar.Module) (ss : List Section) (bytes : List ℕ) (count : ℕ) → AreItems IsSection bytes ss → IsEnough v count → IsEnough (with_sections v ss) (count + length bytes)
+enough_all : (v : grammar.ModuleNode) (ss : List Section) (bytes : List ℕ) (count : ℕ) → AreItems IsSection bytes ss → IsEnough v count → IsEnough (with_sections v ss) (count + length bytes)
 enough_all v [] bytes count h b = record { enough = λ m k. let l = b.enough m k in omega arith }
 enough_all v (s ∷ ss) bytes count (front, rest, e, p, q) b =
     let n = enough_all (with_section s v) ss rest (count + length front) q (enough_next v s front count p b) in
@@ -199,7 +199,7 @@ enough_all v (s ∷ ss) bytes count (front, rest, e, p, q) b =
     record { enough = λ m k. let r = n.enough m k in omega (arith, ap length e) }
 
 -- a module is held by its own tree
-held_by : (m : Module) (v : grammar.Module) → tree_of m ≡ v → IsHeld m v
+held_by : (m : Module) (v : grammar.ModuleNode) → tree_of m ≡ v → IsHeld m v
 held_by m v e = record {
   types = inr (ap (λ u. u.types) e);
   imports = inr (ap (λ u. u.imports) e);

@@ -14,13 +14,13 @@ pub record Part : Type 0 where
   pub id : ℕ
   pub bytes : List ℕ
   pub sections : List Section
-  pub set : grammar.Module → grammar.Module
-  pub clear : grammar.Module → grammar.Module
+  pub set : grammar.ModuleNode → grammar.ModuleNode
+  pub clear : grammar.ModuleNode → grammar.ModuleNode
 
 pub record IsPart (p : Part) : Type 0 where
   pub spelled : length p.bytes < 2 ^ 32 → AreItems IsSection p.bytes p.sections
   pub ordered : (low : ℕ) (ss : List Section) → low < p.id → AreOrdered p.id ss → AreOrdered low (p.sections ++ ss)
-  pub collected : (v : grammar.Module) (ss : List Section) → p.clear v ≡ v → with_sections v (p.sections ++ ss) ≡ with_sections (p.set v) ss
+  pub collected : (v : grammar.ModuleNode) (ss : List Section) → p.clear v ≡ v → with_sections v (p.sections ++ ss) ≡ with_sections (p.set v) ss
 
 -- sections that may stand behind a later one
 later : (low last : ℕ) (ss : List Section) → low ≤ last → AreOrdered last ss → AreOrdered low ss
@@ -47,7 +47,7 @@ module _ {A B : Type 0} (f : A → List ℕ) (view : A → B) (make : List B →
   entry_sections [] = []
   entry_sections (x ∷ xs) = make (map view (x ∷ xs)) ∷ []
 
-  abbrev pub entries : (id : ℕ) → (List B → grammar.Module → grammar.Module) → List A → Part
+  abbrev pub entries : (id : ℕ) → (List B → grammar.ModuleNode → grammar.ModuleNode) → List A → Part
   entries id set xs = record {
     id = id;
     bytes = vec_section id f xs;
@@ -56,7 +56,7 @@ module _ {A B : Type 0} (f : A → List ℕ) (view : A → B) (make : List B →
     clear = set [];
   }
 
-  module _ (item : List ℕ → B → Type 0) (P : A → Type 0) (w : Writes item f view P) (id : ℕ) (set : List B → grammar.Module → grammar.Module) where
+  module _ (item : List ℕ → B → Type 0) (P : A → Type 0) (w : Writes item f view P) (id : ℕ) (set : List B → grammar.ModuleNode → grammar.ModuleNode) where
     entries_spelled : ((bytes : List ℕ) (ys : List B) → IsSized (IsVec item) bytes ys → IsSection (id ∷ bytes) (make ys)) → (xs : List A) → All P xs → length (vec_section id f xs) < 2 ^ 32 → AreItems IsSection (vec_section id f xs) (entry_sections xs)
     entries_spelled s [] h l = refl
     entries_spelled s (x ∷ xs) h l =
@@ -68,11 +68,11 @@ module _ {A B : Type 0} (f : A → List ℕ) (view : A → B) (make : List B →
     entries_ordered e [] low ss l h = later low id ss (omega arith) h
     entries_ordered e (x ∷ xs) low ss l h = earlier (make (map view (x ∷ xs))) id low ss (e (map view (x ∷ xs))) l h
 
-    entries_collected : ((ys : List B) (v : grammar.Module) → with_section (make ys) v ≡ set ys v) → (xs : List A) (v : grammar.Module) (ss : List Section) → set [] v ≡ v → with_sections v (entry_sections xs ++ ss) ≡ with_sections (set (map view xs) v) ss
+    entries_collected : ((ys : List B) (v : grammar.ModuleNode) → with_section (make ys) v ≡ set ys v) → (xs : List A) (v : grammar.ModuleNode) (ss : List Section) → set [] v ≡ v → with_sections v (entry_sections xs ++ ss) ≡ with_sections (set (map view xs) v) ss
     entries_collected e [] v ss h = ap (λ u. with_sections u ss) (sym h)
     entries_collected e (x ∷ xs) v ss h = ap (λ u. with_sections u ss) (e (map view (x ∷ xs)) v)
 
-    pub entries_part : ((bytes : List ℕ) (ys : List B) → IsSized (IsVec item) bytes ys → IsSection (id ∷ bytes) (make ys)) → ((ys : List B) → id_of (make ys).0 ≡ id) → ((ys : List B) (v : grammar.Module) → with_section (make ys) v ≡ set ys v) → (xs : List A) → All P xs → IsPart (entries id set xs)
+    pub entries_part : ((bytes : List ℕ) (ys : List B) → IsSized (IsVec item) bytes ys → IsSection (id ∷ bytes) (make ys)) → ((ys : List B) → id_of (make ys).0 ≡ id) → ((ys : List B) (v : grammar.ModuleNode) → with_section (make ys) v ≡ set ys v) → (xs : List A) → All P xs → IsPart (entries id set xs)
     entries_part s e c xs h = record { spelled = entries_spelled s xs h; ordered = entries_ordered e xs; collected = entries_collected c xs }
 
 -- the start function
@@ -113,7 +113,7 @@ abbrev pub all_sections : List Part → List Section
 all_sections [] = []
 all_sections (p ∷ ps) = p.sections ++ all_sections ps
 
-abbrev pub set_all : grammar.Module → List Part → grammar.Module
+abbrev pub set_all : grammar.ModuleNode → List Part → grammar.ModuleNode
 set_all v [] = v
 set_all v (p ∷ ps) = set_all (p.set v) ps
 
@@ -128,7 +128,7 @@ AreParts low [] = Unit {0}
 AreParts low (p ∷ ps) = (low < p.id) × IsPart p × AreParts p.id ps
 
 -- none of them is set before its turn
-abbrev pub AreClear : grammar.Module → List Part → Type 0
+abbrev pub AreClear : grammar.ModuleNode → List Part → Type 0
 AreClear v [] = Unit {0}
 AreClear v (p ∷ ps) = (p.clear v ≡ v) × AreClear (p.set v) ps
 
@@ -149,6 +149,6 @@ pub all_ordered : (low : ℕ) (ps : List Part) → AreParts low ps → AreOrdere
 all_ordered low [] h = tt
 all_ordered low (p ∷ ps) h = h.1.ordered low (all_sections ps) h.0 (all_ordered p.id ps h.2)
 
-pub all_collected : (low : ℕ) (ps : List Part) → AreParts low ps → (v : grammar.Module) → AreClear v ps → with_sections v (all_sections ps) ≡ set_all v ps
+pub all_collected : (low : ℕ) (ps : List Part) → AreParts low ps → (v : grammar.ModuleNode) → AreClear v ps → with_sections v (all_sections ps) ≡ set_all v ps
 all_collected low [] h v k = refl
 all_collected low (p ∷ ps) h v k = h.1.collected v (all_sections ps) k.0 ∙ all_collected p.id ps h.2 (p.set v) k.1

@@ -20,7 +20,7 @@ use Rattle.module_ast.specs.declared.module.Group.{Group}
 use Rattle.module_ast.specs.declared.module.Body.{Body}
 use Rattle.module_ast.specs.Tree.{Tree, done, plain, block, loop, if_then, if_else}
 use Rattle.module_ast.specs.Grammar as grammar
-use Rattle.module_ast.specs.Profile.{block_type, code, func_type, global_type, item, import_of, global, export, element, segment, group, body, is_floating, some_in, block_floats, code_floats, item_floats}
+use Rattle.module_ast.specs.Profile.{block_type_node, code_node, func_type_node, global_type_node, item_node, import_node, global_node, export_node, element_node, segment_node, group_node, body_node, is_floating, some_in, block_floats, code_floats, item_floats}
 use Rattle.module_ast.specs.Decoding.{body_floats}
 
 -- A view of the program's values as parts of the grammar: none of them floats, each part that does not float is the
@@ -85,27 +85,27 @@ pub numbers_view : IsView (map grammar.integer) (map number_back) (some_in is_fl
 numbers_view = list_view grammar.integer number_back is_floating number_view
 
 -- 5.3.2 types of blocks
-abbrev pub block_type_back : grammar.BlockType → BlockType
+abbrev pub block_type_back : grammar.BlockTypeNode → BlockType
 block_type_back grammar.empty = blocks.Empty
 block_type_back (grammar.value t) = blocks.Value (number_back t)
 
 -- no block type of the program floats
-pub block_type_plain : (ty : BlockType) → block_floats (block_type ty) ≡ false
+pub block_type_plain : (ty : BlockType) → block_floats (block_type_node ty) ≡ false
 block_type_plain blocks.Empty = refl
 block_type_plain (blocks.Value t) = refl
 
 -- a block type has one view
-pub block_type_alone : (ty : BlockType) → block_type_back (block_type ty) ≡ ty
+pub block_type_alone : (ty : BlockType) → block_type_back (block_type_node ty) ≡ ty
 block_type_alone blocks.Empty = refl
 block_type_alone (blocks.Value t) = refl
 
 -- a block type that does not float is a view
-pub block_type_whole : (ty : grammar.BlockType) → block_floats ty ≡ false → block_type (block_type_back ty) ≡ ty
+pub block_type_whole : (ty : grammar.BlockTypeNode) → block_floats ty ≡ false → block_type_node (block_type_back ty) ≡ ty
 block_type_whole grammar.empty p = refl
 block_type_whole (grammar.value t) p = ap grammar.value (number_whole t p)
 
 -- 5.4 instructions
-abbrev pub code_back : grammar.Tree → Tree
+abbrev pub code_back : grammar.CodeNode → Tree
 code_back grammar.done = done
 code_back (grammar.plain p k) = plain p (code_back k)
 code_back (grammar.floating k) = code_back k
@@ -115,7 +115,7 @@ code_back (grammar.if_then ty b k) = if_then (block_type_back ty) (code_back b) 
 code_back (grammar.if_else ty b c k) = if_else (block_type_back ty) (code_back b) (code_back c) (code_back k)
 
 -- no code of the program floats
-pub code_plain : (t : Tree) → code_floats (code t) ≡ false
+pub code_plain : (t : Tree) → code_floats (code_node t) ≡ false
 code_plain done = refl
 code_plain (plain p k) = code_plain k
 code_plain (block ty b k) = rw (block_type_plain ty, code_plain b, code_plain k) refl
@@ -124,7 +124,7 @@ code_plain (if_then ty b k) = rw (block_type_plain ty, code_plain b, code_plain 
 code_plain (if_else ty b c k) = rw (block_type_plain ty, code_plain b, code_plain c, code_plain k) refl
 
 -- code has one view
-pub code_alone : (t : Tree) → code_back (code t) ≡ t
+pub code_alone : (t : Tree) → code_back (code_node t) ≡ t
 code_alone done = refl
 code_alone (plain p k) = ap (plain p) (code_alone k)
 code_alone (block ty b k) = rw (block_type_alone ty, code_alone b, code_alone k) refl
@@ -140,7 +140,7 @@ three_parts a b c p =
     (inner.0, inner.1, outer.1)
 
 -- code without a floating node is a view
-pub code_whole : (g : grammar.Tree) → code_floats g ≡ false → code (code_back g) ≡ g
+pub code_whole : (g : grammar.CodeNode) → code_floats g ≡ false → code_node (code_back g) ≡ g
 code_whole grammar.done p = refl
 code_whole (grammar.plain i k) p = ap (grammar.plain i) (code_whole k p)
 code_whole (grammar.floating k) p = cc
@@ -159,19 +159,19 @@ code_whole (grammar.if_else ty b c k) p =
     rw (block_type_whole ty parts.0, code_whole b parts.1, code_whole c parts.2, code_whole k outer.1) refl
 
 -- code of the program among code of the grammar
-pub code_view : IsView code code_back code_floats
+pub code_view : IsView code_node code_back code_floats
 code_view = record { plain = code_plain; alone = code_alone; whole = code_whole }
 
 -- code of the grammar without a floating node is code of the program
-pub code_from : (g : grammar.Tree) → code_floats g ≡ false → (t : Tree) × (code t ≡ g)
+pub code_from : (g : grammar.CodeNode) → code_floats g ≡ false → (t : Tree) × (code_node t ≡ g)
 code_from g p = (code_back g, code_whole g p)
 
 -- 5.3.3 types of functions
-abbrev pub func_type_back : grammar.FuncType → FuncType
+abbrev pub func_type_back : grammar.FuncTypeNode → FuncType
 func_type_back t = record { params = map number_back t.params; results = map number_back t.results }
 
 -- a parameter or a result floats
-abbrev pub func_type_floats : grammar.FuncType → Bool
+abbrev pub func_type_floats : grammar.FuncTypeNode → Bool
 func_type_floats t = some_in is_floating t.params || some_in is_floating t.results
 
 -- a type from its parameters and results
@@ -179,11 +179,11 @@ abbrev make_func_type : List ValType → List ValType → FuncType
 make_func_type a b = record { params = a; results = b }
 
 -- the same in the grammar
-abbrev grammar_func_type : List grammar.NumberType → List grammar.NumberType → grammar.FuncType
+abbrev grammar_func_type : List grammar.NumberType → List grammar.NumberType → grammar.FuncTypeNode
 grammar_func_type a b = record { params = a; results = b }
 
 -- types of functions of the program among those of the grammar
-pub func_type_view : IsView func_type func_type_back func_type_floats
+pub func_type_view : IsView func_type_node func_type_back func_type_floats
 func_type_view = record {
   plain = λ t. or_from (some_in is_floating (map grammar.integer t.params)) (some_in is_floating (map grammar.integer t.results)) (numbers_view.plain t.params) (numbers_view.plain t.results);
   alone = λ t. ap₂ make_func_type (numbers_view.alone t.params) (numbers_view.alone t.results);
@@ -193,71 +193,71 @@ func_type_view = record {
 }
 
 -- 5.3.7 types of globals
-abbrev pub global_type_back : grammar.GlobalType → GlobalType
+abbrev pub global_type_back : grammar.GlobalTypeNode → GlobalType
 global_type_back g = record { ty = number_back g.ty; mutable = g.mutable }
 
 -- a global's type that does not float is a view
-global_type_whole : (g : grammar.GlobalType) → is_floating g.ty ≡ false → global_type (global_type_back g) ≡ g
-global_type_whole g p = ap (λ (t : grammar.NumberType). (let r : grammar.GlobalType = record { ty = t; mutable = g.mutable } in r)) (number_whole g.ty p)
+global_type_whole : (g : grammar.GlobalTypeNode) → is_floating g.ty ≡ false → global_type_node (global_type_back g) ≡ g
+global_type_whole g p = ap (λ (t : grammar.NumberType). (let r : grammar.GlobalTypeNode = record { ty = t; mutable = g.mutable } in r)) (number_whole g.ty p)
 
 -- 5.5.5 imports
-abbrev pub item_back : grammar.Item → Item
+abbrev pub item_back : grammar.ItemNode → Item
 item_back (grammar.func_item ty) = items.Func ty
 item_back (grammar.table_item r) = items.Table r
 item_back (grammar.memory_item r) = items.Memory r
 item_back (grammar.global_item g) = items.Global (global_type_back g)
 
 -- no item of the program floats
-item_plain : (i : Item) → item_floats (item i) ≡ false
+item_plain : (i : Item) → item_floats (item_node i) ≡ false
 item_plain (items.Func ty) = refl
 item_plain (items.Table r) = refl
 item_plain (items.Memory r) = refl
 item_plain (items.Global g) = refl
 
 -- an item has one view
-item_alone : (i : Item) → item_back (item i) ≡ i
+item_alone : (i : Item) → item_back (item_node i) ≡ i
 item_alone (items.Func ty) = refl
 item_alone (items.Table r) = refl
 item_alone (items.Memory r) = refl
 item_alone (items.Global g) = refl
 
 -- an item that does not float is a view
-item_whole : (i : grammar.Item) → item_floats i ≡ false → item (item_back i) ≡ i
+item_whole : (i : grammar.ItemNode) → item_floats i ≡ false → item_node (item_back i) ≡ i
 item_whole (grammar.func_item ty) p = refl
 item_whole (grammar.table_item r) p = refl
 item_whole (grammar.memory_item r) p = refl
 item_whole (grammar.global_item g) p = ap grammar.global_item (global_type_whole g p)
 
 -- an import of the program, by its item
-abbrev pub import_back : grammar.Import → Import
+abbrev pub import_back : grammar.ImportNode → Import
 import_back i = record { «module» = i.module_name; name = i.name; item = item_back i.item }
 
 -- the item floats
-abbrev pub import_floats : grammar.Import → Bool
+abbrev pub import_floats : grammar.ImportNode → Bool
 import_floats i = item_floats i.item
 
 -- imports of the program among those of the grammar
-pub import_view : IsView import_of import_back import_floats
+pub import_view : IsView import_node import_back import_floats
 import_view = record {
   plain = λ i. item_plain i.item;
   alone = λ i. ap (λ (x : Item). (let r : Import = record { «module» = i.module; name = i.name; item = x } in r)) (item_alone i.item);
-  whole = λ i p. ap (λ (x : grammar.Item). (let r : grammar.Import = record { module_name = i.module_name; name = i.name; item = x } in r)) (item_whole i.item p);
+  whole = λ i p. ap (λ (x : grammar.ItemNode). (let r : grammar.ImportNode = record { module_name = i.module_name; name = i.name; item = x } in r)) (item_whole i.item p);
 }
 
 -- 5.5.9 globals
-abbrev pub global_back : grammar.GlobalDef → GlobalDef
+abbrev pub global_back : grammar.GlobalNode → GlobalDef
 global_back g = record { ty = global_type_back g.ty; init = code_back g.init }
 
 -- the type or the initial value floats
-abbrev pub global_floats : grammar.GlobalDef → Bool
+abbrev pub global_floats : grammar.GlobalNode → Bool
 global_floats g = is_floating g.ty.ty || code_floats g.init
 
 -- a global of the grammar from its type and initial value
-abbrev grammar_global : grammar.GlobalType → grammar.Tree → grammar.GlobalDef
+abbrev grammar_global : grammar.GlobalTypeNode → grammar.CodeNode → grammar.GlobalNode
 grammar_global a b = record { ty = a; init = b }
 
 -- globals of the program among those of the grammar
-pub global_view : IsView global global_back global_floats
+pub global_view : IsView global_node global_back global_floats
 global_view = record {
   plain = λ g. code_plain g.init;
   alone = λ g. ap (λ (x : Tree). (let r : GlobalDef = record { ty = g.ty; init = x } in r)) (code_alone g.init);
@@ -267,55 +267,55 @@ global_view = record {
 }
 
 -- 5.5.10 exports, which have nothing that floats
-abbrev pub export_back : grammar.Export → Export
+abbrev pub export_back : grammar.ExportNode → Export
 export_back e = record { name = e.name; kind = e.kind; index = e.index }
 
 -- no export floats
-abbrev pub export_floats : grammar.Export → Bool
+abbrev pub export_floats : grammar.ExportNode → Bool
 export_floats e = false
 
 -- exports of the program are those of the grammar
-pub export_view : IsView export export_back export_floats
+pub export_view : IsView export_node export_back export_floats
 export_view = record { plain = λ e. refl; alone = λ e. refl; whole = λ e p. refl }
 
 -- 5.5.12 element segments
-abbrev pub element_back : grammar.Element → Element
+abbrev pub element_back : grammar.ElementNode → Element
 element_back e = record { table = e.table; offset = code_back e.offset; funcs = e.funcs }
 
 -- the offset floats
-abbrev pub element_floats : grammar.Element → Bool
+abbrev pub element_floats : grammar.ElementNode → Bool
 element_floats e = code_floats e.offset
 
 -- element segments of the program among those of the grammar
-pub element_view : IsView element element_back element_floats
+pub element_view : IsView element_node element_back element_floats
 element_view = record {
   plain = λ e. code_plain e.offset;
   alone = λ e. ap (λ (x : Tree). (let r : Element = record { table = e.table; offset = x; funcs = e.funcs } in r)) (code_alone e.offset);
-  whole = λ e p. ap (λ (x : grammar.Tree). (let r : grammar.Element = record { table = e.table; offset = x; funcs = e.funcs } in r)) (code_whole e.offset p);
+  whole = λ e p. ap (λ (x : grammar.CodeNode). (let r : grammar.ElementNode = record { table = e.table; offset = x; funcs = e.funcs } in r)) (code_whole e.offset p);
 }
 
 -- 5.5.13 groups of locals
-abbrev pub group_back : grammar.Group → Group
+abbrev pub group_back : grammar.GroupNode → Group
 group_back g = record { count = g.count; ty = number_back g.ty }
 
 -- the type floats
-abbrev pub group_floats : grammar.Group → Bool
+abbrev pub group_floats : grammar.GroupNode → Bool
 group_floats g = is_floating g.ty
 
 -- groups of locals of the program among those of the grammar
-pub group_view : IsView group group_back group_floats
+pub group_view : IsView group_node group_back group_floats
 group_view = record {
   plain = λ g. refl;
   alone = λ g. refl;
-  whole = λ g p. ap (λ (x : grammar.NumberType). (let r : grammar.Group = record { count = g.count; ty = x } in r)) (number_whole g.ty p);
+  whole = λ g p. ap (λ (x : grammar.NumberType). (let r : grammar.GroupNode = record { count = g.count; ty = x } in r)) (number_whole g.ty p);
 }
 
 -- lists of them
-pub groups_view : IsView (map group) (map group_back) (some_in group_floats)
-groups_view = list_view group group_back group_floats group_view
+pub groups_view : IsView (map group_node) (map group_back) (some_in group_floats)
+groups_view = list_view group_node group_back group_floats group_view
 
 -- 5.5.13 bodies
-abbrev pub body_back : grammar.Body → Body
+abbrev pub body_back : grammar.BodyNode → Body
 body_back b = record { groups = map group_back b.groups; code = code_back b.code }
 
 -- a body from its groups and code
@@ -323,13 +323,13 @@ abbrev make_body : List Group → Tree → Body
 make_body a b = record { groups = a; code = b }
 
 -- the same in the grammar
-abbrev grammar_body : List grammar.Group → grammar.Tree → grammar.Body
+abbrev grammar_body : List grammar.GroupNode → grammar.CodeNode → grammar.BodyNode
 grammar_body a b = record { groups = a; code = b }
 
 -- bodies of the program among those of the grammar
-pub body_view : IsView body body_back body_floats
+pub body_view : IsView body_node body_back body_floats
 body_view = record {
-  plain = λ b. or_from (some_in group_floats (map group b.groups)) (code_floats (code b.code)) (groups_view.plain b.groups) (code_plain b.code);
+  plain = λ b. or_from (some_in group_floats (map group_node b.groups)) (code_floats (code_node b.code)) (groups_view.plain b.groups) (code_plain b.code);
   alone = λ b. ap₂ make_body (groups_view.alone b.groups) (code_alone b.code);
   whole = λ b p.
       let parts = or_parts (some_in group_floats b.groups) (code_floats b.code) p in
@@ -337,17 +337,17 @@ body_view = record {
 }
 
 -- 5.5.14 data segments
-abbrev pub segment_back : grammar.Segment → Segment
+abbrev pub segment_back : grammar.SegmentNode → Segment
 segment_back d = record { memory = d.memory; offset = code_back d.offset; bytes = d.bytes }
 
 -- the offset floats
-abbrev pub segment_floats : grammar.Segment → Bool
+abbrev pub segment_floats : grammar.SegmentNode → Bool
 segment_floats d = code_floats d.offset
 
 -- data segments of the program among those of the grammar
-pub segment_view : IsView segment segment_back segment_floats
+pub segment_view : IsView segment_node segment_back segment_floats
 segment_view = record {
   plain = λ d. code_plain d.offset;
   alone = λ d. ap (λ (x : Tree). (let r : Segment = record { memory = d.memory; offset = x; bytes = d.bytes } in r)) (code_alone d.offset);
-  whole = λ d p. ap (λ (x : grammar.Tree). (let r : grammar.Segment = record { memory = d.memory; offset = x; bytes = d.bytes } in r)) (code_whole d.offset p);
+  whole = λ d p. ap (λ (x : grammar.CodeNode). (let r : grammar.SegmentNode = record { memory = d.memory; offset = x; bytes = d.bytes } in r)) (code_whole d.offset p);
 }

@@ -11,7 +11,7 @@ use Rattle.leb_binary.proofs.Spelled.{spelled_signed}
 use Rattle.module_ast.specs.Grammar as grammar
 use Rattle.module_ast.specs.Grammar.{IsU32, IsVec, IsValType, IsBlockType, IsMemArg, IsPlain, IsCode, IsExpr}
 use Rattle.module_ast.specs.Canonical.{vec_bytes, val_type_bytes, block_type_bytes, mem_arg_bytes, plain_bytes, code_bytes, expr_bytes}
-use Rattle.module_ast.specs.Profile.{code, block_type}
+use Rattle.module_ast.specs.Profile.{code_node, block_type_node}
 use Rattle.module_ast.specs.Tree.{Tree, done, plain, block, loop, if_then, if_else, Plain, unreachable, nop, br, br_if, br_table, return_, call, call_indirect, drop_, select, local_get, local_set, local_tee, global_get, global_set, load, store, memory_size, memory_grow, i32_const, i64_const, num}
 use Rattle.module_ast.specs.Fits.{FitsIndex, FitsMemArg, FitsPlain, FitsCode}
 use Rattle.module_ast.proofs.Writers.{front_short, back_short, rest_short, three_short, u32_spelled, index_writes, list_writes}
@@ -21,7 +21,7 @@ pub val_type_spelled : (t : ValType) → IsValType (val_type_bytes t) (grammar.i
 val_type_spelled I32 = refl
 val_type_spelled I64 = refl
 
-block_type_spelled : (t : BlockType) → IsBlockType (block_type_bytes t) (block_type t)
+block_type_spelled : (t : BlockType) → IsBlockType (block_type_bytes t) (block_type_node t)
 block_type_spelled Empty = refl
 block_type_spelled (Value t) = val_type_spelled t
 
@@ -60,7 +60,7 @@ plain_spelled (store op m) h l = (mem_arg_bytes m, refl, mem_arg_spelled m h)
 plain_spelled (i32_const z) h l = (signed_bytes z, refl, spelled_signed 32 z h)
 plain_spelled (i64_const z) h l = (signed_bytes z, refl, spelled_signed 64 z h)
 
-pub code_spelled : (t : Tree) → FitsCode t → length (code_bytes t) < 2 ^ 32 → IsCode (code_bytes t) (code t)
+pub code_spelled : (t : Tree) → FitsCode t → length (code_bytes t) < 2 ^ 32 → IsCode (code_bytes t) (code_node t)
 code_spelled done h l = refl
 code_spelled (plain p k) h l = (plain_bytes p, code_bytes k, refl, plain_spelled p h.0 (front_short (plain_bytes p) (code_bytes k) l), code_spelled k h.1 (back_short (plain_bytes p) (code_bytes k) l))
 code_spelled (block ty b k) h l =
@@ -83,5 +83,5 @@ code_spelled (if_else ty b o k) h l =
     let other = rest_short 0x05 behind s.back in
     (0x04 ∷ inner, code_bytes k, simp append_assoc, (inner, refl, (block_type_bytes ty, both, refl, block_type_spelled ty, (code_bytes b, code_bytes o, refl, code_spelled b h.0 s.middle, code_spelled o h.1 (front_short (code_bytes o) (0x0B ∷ code_bytes k) other)))), code_spelled k h.2 (rest_short 0x0B (code_bytes k) (back_short (code_bytes o) (0x0B ∷ code_bytes k) other)))
 
-pub expr_spelled : (t : Tree) → FitsCode t → length (expr_bytes t) < 2 ^ 32 → IsExpr (expr_bytes t) (code t)
+pub expr_spelled : (t : Tree) → FitsCode t → length (expr_bytes t) < 2 ^ 32 → IsExpr (expr_bytes t) (code_node t)
 expr_spelled t h l = (code_bytes t, refl, code_spelled t h (front_short (code_bytes t) (0x0B ∷ []) l))

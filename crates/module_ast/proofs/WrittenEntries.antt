@@ -14,7 +14,7 @@ use Rattle.leb_binary.specs.Shortest.{unsigned_bytes}
 use Rattle.module_ast.specs.Grammar as grammar
 use Rattle.module_ast.specs.Grammar.{IsU32, AreItems, IsVec, IsByte, IsValType, IsExpr, IsFuncType, AreLimits, IsMemoryType, IsTableType, IsMutability, IsGlobalType, IsItem, IsImport, IsGlobal, IsExportKind, IsExport, IsElement, IsGroup, IsBody, IsSegment, local_count}
 use Rattle.module_ast.specs.Canonical.{vec_bytes, sized_bytes, items_bytes, val_type_bytes, expr_bytes, func_type_bytes, limits_bytes, table_bytes, mutability_bytes, global_type_bytes, item_bytes, import_bytes, global_bytes, kind_byte, export_bytes, element_bytes, group_bytes, body_bytes, segment_bytes}
-use Rattle.module_ast.specs.Profile.{func_type, global_type, item, import_of, global, export, element, group, body, segment, locals_of}
+use Rattle.module_ast.specs.Profile.{func_type_node, global_type_node, item_node, import_node, global_node, export_node, element_node, group_node, body_node, segment_node, locals_of}
 use Rattle.module_ast.specs.Fits.{FitsIndex, FitsOption, FitsRange, FitsItem, FitsImport, FitsGlobal, FitsExport, FitsElement, FitsBody, FitsSegment}
 use Rattle.module_ast.proofs.Writers.{Writes, front_short, back_short, rest_short, three_short, u32_spelled, unsigned_some, counted_some, counted_short, vec_writes, name_writes}
 use Rattle.module_ast.proofs.WrittenCode.{val_type_spelled, indices_spelled, expr_spelled}
@@ -30,7 +30,7 @@ val_type_writes = record { some = λ t. omega arith; spelled = λ t h l. val_typ
 types_spelled : (ts : List ValType) → length (vec_bytes val_type_bytes ts) < 2 ^ 32 → IsVec IsValType (vec_bytes val_type_bytes ts) (map grammar.integer ts)
 types_spelled ts l = (vec_writes IsValType val_type_bytes grammar.integer (λ t. Unit {0}) val_type_writes).spelled ts (λ i d h. tt) l
 
-pub func_type_writes : Writes IsFuncType func_type_bytes func_type (λ t. Unit {0})
+pub func_type_writes : Writes IsFuncType func_type_bytes func_type_node (λ t. Unit {0})
 func_type_writes = record {
   some = λ t. omega arith;
   spelled = λ t h l.
@@ -63,17 +63,17 @@ mutability_spelled : (b : Bool) → IsMutability (mutability_bytes b) b
 mutability_spelled false = refl
 mutability_spelled true = refl
 
-global_type_spelled : (g : GlobalType) → IsGlobalType (global_type_bytes g) (global_type g)
+global_type_spelled : (g : GlobalType) → IsGlobalType (global_type_bytes g) (global_type_node g)
 global_type_spelled g = (val_type_bytes g.ty, mutability_bytes g.mutable, refl, val_type_spelled g.ty, mutability_spelled g.mutable)
 
 -- 5.5.5 imports
-item_spelled : (i : Item) → FitsItem i → IsItem (item_bytes i) (item i)
+item_spelled : (i : Item) → FitsItem i → IsItem (item_bytes i) (item_node i)
 item_spelled (items.Func ty) h = (unsigned_bytes ty, refl, u32_spelled ty h)
 item_spelled (items.Table r) h = (table_bytes r, refl, table_spelled r h)
 item_spelled (items.Memory r) h = (limits_bytes r, refl, limits_spelled r.min r.max h.0 h.1)
 item_spelled (items.Global g) h = (global_type_bytes g, refl, global_type_spelled g)
 
-pub import_writes : Writes IsImport import_bytes import_of FitsImport
+pub import_writes : Writes IsImport import_bytes import_node FitsImport
 import_writes = record {
   some = λ i. front_some (sized_bytes i.module.bytes ++ sized_bytes i.name.bytes) (item_bytes i.item) (front_some (sized_bytes i.module.bytes) (sized_bytes i.name.bytes) (counted_some (length i.module.bytes) i.module.bytes));
   spelled = λ i h l.
@@ -84,7 +84,7 @@ import_writes = record {
 }
 
 -- 5.5.9 globals
-pub global_writes : Writes IsGlobal global_bytes global FitsGlobal
+pub global_writes : Writes IsGlobal global_bytes global_node FitsGlobal
 global_writes = record {
   some = λ g. omega arith;
   spelled = λ g h l.
@@ -99,7 +99,7 @@ kind_spelled kinds.Table = refl
 kind_spelled kinds.Memory = refl
 kind_spelled kinds.Global = refl
 
-pub export_writes : Writes IsExport export_bytes export FitsExport
+pub export_writes : Writes IsExport export_bytes export_node FitsExport
 export_writes = record {
   some = λ e. front_some (sized_bytes e.name.bytes) (kind_byte e.kind ∷ unsigned_bytes e.index) (counted_some (length e.name.bytes) e.name.bytes);
   spelled = λ e h l.
@@ -109,7 +109,7 @@ export_writes = record {
 }
 
 -- 5.5.12 element segments
-pub element_writes : Writes IsElement element_bytes element FitsElement
+pub element_writes : Writes IsElement element_bytes element_node FitsElement
 element_writes = record {
   some = λ e. front_some (unsigned_bytes e.table ++ expr_bytes e.offset) (vec_bytes unsigned_bytes e.funcs) (front_some (unsigned_bytes e.table) (expr_bytes e.offset) (unsigned_some e.table));
   spelled = λ e h l.
@@ -121,7 +121,7 @@ element_writes = record {
 }
 
 -- 5.5.13 bodies
-group_writes : Writes IsGroup group_bytes group (λ g. FitsIndex g.count)
+group_writes : Writes IsGroup group_bytes group_node (λ g. FitsIndex g.count)
 group_writes = record {
   some = λ g. front_some (unsigned_bytes g.count) (val_type_bytes g.ty) (unsigned_some g.count);
   spelled = λ g h l. (unsigned_bytes g.count, val_type_bytes g.ty, refl, u32_spelled g.count h, val_type_spelled g.ty);
@@ -131,16 +131,16 @@ groups_fit : (gs : List Group) → FitsIndex (locals_of gs) → All (λ (g : Gro
 groups_fit [] h = All-nil (λ (g : Group). FitsIndex g.count)
 groups_fit (g ∷ gs) h = All-cons (λ (g : Group). FitsIndex g.count) g gs (omega arith) (groups_fit gs (omega arith))
 
-same_locals : (gs : List Group) → local_count (map group gs) ≡ locals_of gs
+same_locals : (gs : List Group) → local_count (map group_node gs) ≡ locals_of gs
 same_locals [] = refl
 same_locals (g ∷ gs) = let h = same_locals gs in omega arith
 
-pub body_writes : Writes IsBody body_bytes body FitsBody
+pub body_writes : Writes IsBody body_bytes body_node FitsBody
 body_writes = record {
   some = λ b. front_some (vec_bytes group_bytes b.groups) (expr_bytes b.code) (counted_some (length b.groups) (items_bytes group_bytes b.groups));
   spelled = λ b h l.
       let groups = vec_bytes group_bytes b.groups in
-      let locals = (vec_writes IsGroup group_bytes group (λ g. FitsIndex g.count) group_writes).spelled b.groups (groups_fit b.groups h.locals) (front_short groups (expr_bytes b.code) l) in
+      let locals = (vec_writes IsGroup group_bytes group_node (λ g. FitsIndex g.count) group_writes).spelled b.groups (groups_fit b.groups h.locals) (front_short groups (expr_bytes b.code) l) in
       let e = same_locals b.groups in
       let few = h.locals in
       (omega arith, (groups, expr_bytes b.code, refl, locals, expr_spelled b.code h.code (back_short groups (expr_bytes b.code) l)));
@@ -151,7 +151,7 @@ bytes_spelled : (bytes : List ℕ) → All (λ b. b < 256) bytes → AreItems Is
 bytes_spelled [] h = refl
 bytes_spelled (b ∷ bs) h = (b ∷ [], bs, refl, (refl, All-head (λ b. b < 256) b bs h), bytes_spelled bs (All-tail (λ b. b < 256) b bs h))
 
-pub segment_writes : Writes IsSegment segment_bytes segment FitsSegment
+pub segment_writes : Writes IsSegment segment_bytes segment_node FitsSegment
 segment_writes = record {
   some = λ d. front_some (unsigned_bytes d.memory ++ expr_bytes d.offset) (sized_bytes d.bytes) (front_some (unsigned_bytes d.memory) (expr_bytes d.offset) (unsigned_some d.memory));
   spelled = λ d h l.

@@ -8,7 +8,7 @@ use Rattle.leb_binary.specs.Shortest.{unsigned_bytes}
 use Rattle.module_ast.specs.Grammar as grammar
 use Rattle.module_ast.specs.Grammar.{IsU32, IsFuncType, IsImport, IsTableType, IsMemoryType, IsGlobal, IsExport, IsElement, IsSized, IsBody, IsSegment, header, IsModule, empty_module, type_section, import_section, function_section, table_section, memory_section, global_section, export_section, element_section, code_section, data_section}
 use Rattle.module_ast.specs.Canonical.{sized_bytes, module_bytes, without_customs, func_type_bytes, import_bytes, table_bytes, limits_bytes, global_bytes, export_bytes, element_bytes, body_bytes, segment_bytes}
-use Rattle.module_ast.specs.Profile.{tree_of, func_type, import_of, global, export, element, body, segment}
+use Rattle.module_ast.specs.Profile.{tree_of, func_type_node, import_node, global_node, export_node, element_node, body_node, segment_node}
 use Rattle.module_ast.specs.Fits.{Fits, FitsIndex, FitsRange, FitsImport, FitsGlobal, FitsExport, FitsElement, FitsBody, FitsSegment}
 use Rattle.module_ast.proofs.Writers.{back_short, index_writes, sized_writes}
 use Rattle.module_ast.proofs.WrittenEntries.{func_type_writes, import_writes, table_writes, memory_writes, global_writes, export_writes, element_writes, body_writes, segment_writes}
@@ -22,16 +22,16 @@ same_range r = r
 
 -- the parts of a module, and that each is a section of the grammar or none
 abbrev types_of : Module → Part
-types_of m = entries func_type_bytes func_type (λ ys. (type_section, ys)) 1 (λ ys v. record v { types = ys }) m.types
+types_of m = entries func_type_bytes func_type_node (λ ys. (type_section, ys)) 1 (λ ys v. record v { types = ys }) m.types
 
 types_part : (m : Module) → Fits m → IsPart (types_of m)
-types_part m h = entries_part func_type_bytes func_type (λ ys. (type_section, ys)) IsFuncType (λ t. Unit {0}) func_type_writes 1 (λ ys v. record v { types = ys }) (λ b ys s. (b, refl, s)) (λ ys. refl) (λ ys v. refl) m.types (λ i d k. tt)
+types_part m h = entries_part func_type_bytes func_type_node (λ ys. (type_section, ys)) IsFuncType (λ t. Unit {0}) func_type_writes 1 (λ ys v. record v { types = ys }) (λ b ys s. (b, refl, s)) (λ ys. refl) (λ ys v. refl) m.types (λ i d k. tt)
 
 abbrev imports_of : Module → Part
-imports_of m = entries import_bytes import_of (λ ys. (import_section, ys)) 2 (λ ys v. record v { imports = ys }) m.imports
+imports_of m = entries import_bytes import_node (λ ys. (import_section, ys)) 2 (λ ys v. record v { imports = ys }) m.imports
 
 imports_part : (m : Module) → Fits m → IsPart (imports_of m)
-imports_part m h = entries_part import_bytes import_of (λ ys. (import_section, ys)) IsImport FitsImport import_writes 2 (λ ys v. record v { imports = ys }) (λ b ys s. (b, refl, s)) (λ ys. refl) (λ ys v. refl) m.imports h.imports
+imports_part m h = entries_part import_bytes import_node (λ ys. (import_section, ys)) IsImport FitsImport import_writes 2 (λ ys v. record v { imports = ys }) (λ b ys s. (b, refl, s)) (λ ys. refl) (λ ys v. refl) m.imports h.imports
 
 abbrev funcs_of : Module → Part
 funcs_of m = entries unsigned_bytes same (λ ys. (function_section, ys)) 3 (λ ys v. record v { funcs = ys }) m.funcs
@@ -52,34 +52,34 @@ memories_part : (m : Module) → Fits m → IsPart (memories_of m)
 memories_part m h = entries_part limits_bytes same_range (λ ys. (memory_section, ys)) IsMemoryType FitsRange memory_writes 5 (λ ys v. record v { memories = ys }) (λ b ys s. (b, refl, s)) (λ ys. refl) (λ ys v. refl) m.memories h.memories
 
 abbrev globals_of : Module → Part
-globals_of m = entries global_bytes global (λ ys. (global_section, ys)) 6 (λ ys v. record v { globals = ys }) m.globals
+globals_of m = entries global_bytes global_node (λ ys. (global_section, ys)) 6 (λ ys v. record v { globals = ys }) m.globals
 
 globals_part : (m : Module) → Fits m → IsPart (globals_of m)
-globals_part m h = entries_part global_bytes global (λ ys. (global_section, ys)) IsGlobal FitsGlobal global_writes 6 (λ ys v. record v { globals = ys }) (λ b ys s. (b, refl, s)) (λ ys. refl) (λ ys v. refl) m.globals h.globals
+globals_part m h = entries_part global_bytes global_node (λ ys. (global_section, ys)) IsGlobal FitsGlobal global_writes 6 (λ ys v. record v { globals = ys }) (λ b ys s. (b, refl, s)) (λ ys. refl) (λ ys v. refl) m.globals h.globals
 
 abbrev exports_of : Module → Part
-exports_of m = entries export_bytes export (λ ys. (export_section, ys)) 7 (λ ys v. record v { exports = ys }) m.exports
+exports_of m = entries export_bytes export_node (λ ys. (export_section, ys)) 7 (λ ys v. record v { exports = ys }) m.exports
 
 exports_part : (m : Module) → Fits m → IsPart (exports_of m)
-exports_part m h = entries_part export_bytes export (λ ys. (export_section, ys)) IsExport FitsExport export_writes 7 (λ ys v. record v { exports = ys }) (λ b ys s. (b, refl, s)) (λ ys. refl) (λ ys v. refl) m.exports h.exports
+exports_part m h = entries_part export_bytes export_node (λ ys. (export_section, ys)) IsExport FitsExport export_writes 7 (λ ys v. record v { exports = ys }) (λ b ys s. (b, refl, s)) (λ ys. refl) (λ ys v. refl) m.exports h.exports
 
 abbrev elements_of : Module → Part
-elements_of m = entries element_bytes element (λ ys. (element_section, ys)) 9 (λ ys v. record v { elements = ys }) m.elements
+elements_of m = entries element_bytes element_node (λ ys. (element_section, ys)) 9 (λ ys v. record v { elements = ys }) m.elements
 
 elements_part : (m : Module) → Fits m → IsPart (elements_of m)
-elements_part m h = entries_part element_bytes element (λ ys. (element_section, ys)) IsElement FitsElement element_writes 9 (λ ys v. record v { elements = ys }) (λ b ys s. (b, refl, s)) (λ ys. refl) (λ ys v. refl) m.elements h.elements
+elements_part m h = entries_part element_bytes element_node (λ ys. (element_section, ys)) IsElement FitsElement element_writes 9 (λ ys v. record v { elements = ys }) (λ b ys s. (b, refl, s)) (λ ys. refl) (λ ys v. refl) m.elements h.elements
 
 abbrev bodies_of : Module → Part
-bodies_of m = entries (λ b. sized_bytes (body_bytes b)) body (λ ys. (code_section, ys)) 10 (λ ys v. record v { bodies = ys }) m.bodies
+bodies_of m = entries (λ b. sized_bytes (body_bytes b)) body_node (λ ys. (code_section, ys)) 10 (λ ys v. record v { bodies = ys }) m.bodies
 
 bodies_part : (m : Module) → Fits m → IsPart (bodies_of m)
-bodies_part m h = entries_part (λ b. sized_bytes (body_bytes b)) body (λ ys. (code_section, ys)) (IsSized IsBody) FitsBody (sized_writes IsBody body_bytes body FitsBody body_writes) 10 (λ ys v. record v { bodies = ys }) (λ b ys s. (b, refl, s)) (λ ys. refl) (λ ys v. refl) m.bodies h.bodies
+bodies_part m h = entries_part (λ b. sized_bytes (body_bytes b)) body_node (λ ys. (code_section, ys)) (IsSized IsBody) FitsBody (sized_writes IsBody body_bytes body_node FitsBody body_writes) 10 (λ ys v. record v { bodies = ys }) (λ b ys s. (b, refl, s)) (λ ys. refl) (λ ys v. refl) m.bodies h.bodies
 
 abbrev segments_of : Module → Part
-segments_of m = entries segment_bytes segment (λ ys. (data_section, ys)) 11 (λ ys v. record v { segments = ys }) m.segments
+segments_of m = entries segment_bytes segment_node (λ ys. (data_section, ys)) 11 (λ ys v. record v { segments = ys }) m.segments
 
 segments_part : (m : Module) → Fits m → IsPart (segments_of m)
-segments_part m h = entries_part segment_bytes segment (λ ys. (data_section, ys)) IsSegment FitsSegment segment_writes 11 (λ ys v. record v { segments = ys }) (λ b ys s. (b, refl, s)) (λ ys. refl) (λ ys v. refl) m.segments h.segments
+segments_part m h = entries_part segment_bytes segment_node (λ ys. (data_section, ys)) IsSegment FitsSegment segment_writes 11 (λ ys v. record v { segments = ys }) (λ b ys s. (b, refl, s)) (λ ys. refl) (λ ys v. refl) m.segments h.segments
 
 -- what stands behind the header
 abbrev parts : Module → List Part
@@ -102,8 +102,8 @@ parts_set m =
     ∙ ap (λ v. shape m.funcs v (map same_range m.memories)) (map-id m.tables)
     ∙ ap (λ v. shape m.funcs m.tables v) (map-id m.memories)
   where
-    shape : List ℕ → List Range → List Range → grammar.Module
-    shape fs ts ms = record { types = map func_type m.types; imports = map import_of m.imports; funcs = fs; tables = ts; memories = ms; globals = map global m.globals; exports = map export m.exports; start = m.start; elements = map element m.elements; bodies = map body m.bodies; segments = map segment m.segments; customs = [] }
+    shape : List ℕ → List Range → List Range → grammar.ModuleNode
+    shape fs ts ms = record { types = map func_type_node m.types; imports = map import_node m.imports; funcs = fs; tables = ts; memories = ms; globals = map global_node m.globals; exports = map export_node m.exports; start = m.start; elements = map element_node m.elements; bodies = map body_node m.bodies; segments = map segment_node m.segments; customs = [] }
 
 -- the law
 pub module_spelled : (m : Module) → Fits m → IsModule (module_bytes m) (tree_of (without_customs m))
@@ -115,5 +115,5 @@ module_spelled m h =
       sections = all_sections (parts m);
       spelled = (all_bytes (parts m), split, all_spelled 0 (parts m) ps short, all_ordered 0 (parts m) ps);
       collected = sym (all_collected 0 (parts m) ps empty_module (parts_clear m) ∙ parts_set m);
-      bodies = h.counts ∙ sym (length-map m.bodies body);
+      bodies = h.counts ∙ sym (length-map m.bodies body_node);
     }

@@ -1,7 +1,7 @@
 -- How many of the listed calls were made.
 use Rattle.std.proofs.Common.{◌≡◌, ◌+◌, ◌^◌, ◌≤◌, ◌<◌, ℕ, List, [], ◌∷◌, length, Option, Some, None, refl, arith, is_some, SomeIff, if◌then◌else◌}
 use Rattle.std.proofs.lemmas.Grind.{common_steps}
-use Rattle.outside_io.specs.Calls.{made}
+use Rattle.outside_io.specs.Calls.{calls_made}
 use Rattle.outside_io.specs.Failing.{kept_at, listed_below}
 use Rattle.outside_io.specs.declared.calls.Fail.{Fail}
 
@@ -22,6 +22,6 @@ listed_below-next [] number = omega arith
 listed_below-next (fail ∷ fails) number = grind (arith, common_steps, listed_below-next fails number)
 
 -- after a call, one more was made: the last call's number has no next one
-pub made-next : (number : ℕ) (next : Option ℕ) → number < 2 ^ 64 → SomeIff next (number + 1 < 2 ^ 64) (number + 1) → made next ≡ number + 1
+pub made-next : (number : ℕ) (next : Option ℕ) → number < 2 ^ 64 → SomeIff next (number + 1 < 2 ^ 64) (number + 1) → calls_made next ≡ number + 1
 made-next number None below none = omega (arith, none)
 made-next number (Some after) below some = omega (arith, some)

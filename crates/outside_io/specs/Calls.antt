@@ -9,17 +9,17 @@ pub record Calling : Type 0 where
   pub next : Option ℕ
 
 -- how many bytes the next call keeps, where it is to fail
-abbrev pub failing : Calling → Option ℕ
-failing calls = elim (calls.next) [ None ↦ None | Some number ↦ kept_at calls.fails number ]
+abbrev pub failing_next : Calling → Option ℕ
+failing_next calls = elim (calls.next) [ None ↦ None | Some number ↦ kept_at calls.fails number ]
 
 -- how many calls were made that are counted
-abbrev pub made : Option ℕ → ℕ
-made None = 2 ^ 64
-made (Some number) = number
+abbrev pub calls_made : Option ℕ → ℕ
+calls_made None = 2 ^ 64
+calls_made (Some number) = number
 
 -- how many of the calls that were made are listed
-abbrev pub listed_made : Calling → ℕ
-listed_made calls = listed_below calls.fails (made calls.next)
+abbrev pub listed_calls_made : Calling → ℕ
+listed_calls_made calls = listed_below calls.fails (calls_made calls.next)
 
 -- the number of the next call, after a call of this number
 abbrev pub IsNext : (old new : Option ℕ) → Type 0
@@ -27,5 +27,5 @@ IsNext None new = new ≡ None
 IsNext (Some number) new = SomeIff new (number + 1 < 2 ^ 64) (number + 1)
 
 -- one call was made
-abbrev pub Counted : (old new : Calling) → Type 0
-Counted old new = (new.fails ≡ old.fails) × IsNext old.next new.next
+abbrev pub CountsCall : (old new : Calling) → Type 0
+CountsCall old new = (new.fails ≡ old.fails) × IsNext old.next new.next

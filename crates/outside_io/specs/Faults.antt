@@ -27,23 +27,23 @@ sink_fault_of OutOfMemory = sink.NoMemory
 sink_fault_of _ = sink.Failed
 
 -- one more, and no more than the last count
-abbrev pub raised : ℕ → ℕ
-raised count = min (count + 1) last_count
+abbrev pub raised_count : ℕ → ℕ
+raised_count count = min (count + 1) last_count
 
 -- the count after a read with this answer: each refusal is counted but for the end of memory
 abbrev pub after_read : {T : Type 0} → Result T ReadFault → ℕ → ℕ
 after_read (Ok _) count = count
 after_read (Err read.NoMemory) count = count
-after_read (Err _) count = raised count
+after_read (Err _) count = raised_count count
 
 -- the count after a write with this answer
 abbrev pub after_write : {T : Type 0} → Result T WriteFault → ℕ → ℕ
 after_write (Ok _) count = count
 after_write (Err write.NoMemory) count = count
-after_write (Err write.Failed) count = raised count
+after_write (Err write.Failed) count = raised_count count
 
 -- the count after a print with this answer
 abbrev pub after_put : {T : Type 0} → Result T SinkFault → ℕ → ℕ
 after_put (Ok _) count = count
 after_put (Err sink.NoMemory) count = count
-after_put (Err sink.Failed) count = raised count
+after_put (Err sink.Failed) count = raised_count count

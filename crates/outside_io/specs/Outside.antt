@@ -14,9 +14,9 @@ abbrev pub Rose : (old new : ℕ) → Type 0
 Rose old new = (old < new) ⊎ (new ≡ last_count)
 
 -- a fact about the contents, where they are told
-abbrev pub WhereTold : Option Contents → (Contents → Type 0) → Type 0
-WhereTold None P = Unit {0}
-WhereTold (Some held) P = P held
+abbrev pub WhereKnown : Option Contents → (Contents → Type 0) → Type 0
+WhereKnown None P = Unit {0}
+WhereKnown (Some held) P = P held
 
 -- both times told, or both times untold, and this holds of what was and is there
 abbrev pub Changes : (old new : Option Contents) → (Contents → Contents → Type 0) → Type 0
@@ -50,7 +50,7 @@ WrotePart name bytes old new =
 
 -- where contents are told, the name has these bytes
 abbrev pub Holds : Option Contents → (name bytes : List ℕ) → Type 0
-Holds contents name bytes = WhereTold contents (λ held. held name ≡ Some bytes)
+Holds contents name bytes = WhereKnown contents (λ held. held name ≡ Some bytes)
 
 -- the name is not there; where contents are untold, the count rose
 abbrev pub IsMissing : Option Contents → (name : List ℕ) → (old new : ℕ) → Type 0

@@ -25,17 +25,17 @@ pub record SinkInMemory : Type 0 where
   pub faults : ℕ
 
 -- the bytes under each name
-abbrev pub shelved : List (String Global × Vec ℕ Global) → Contents
-shelved held name =
+abbrev pub map_contents : List (String Global × Vec ℕ Global) → Contents
+map_contents held name =
     option_map (λ bytes. bytes.items) (lookup (is_at (λ key. slice_cmp nat_cmp name (string_bytes key))) held)
 
 -- a shelf in memory tells what is under each name
-abbrev pub told : List (String Global × Vec ℕ Global) → Option Contents
-told held = Some (shelved held)
+abbrev pub known_contents : List (String Global × Vec ℕ Global) → Option Contents
+known_contents held = Some (map_contents held)
 
 -- the answer of a read that does not fail: by what is under the name, and by the cap
-abbrev pub Answers : {Z : Type 0} → Option (List ℕ) → ℕ → Result (Vec ℕ Z) ReadFault → Type 0
-Answers None cap answer = answer ≡ Err Missing
-Answers (Some bytes) cap answer =
+abbrev pub AnswersRead : {Z : Type 0} → Option (List ℕ) → ℕ → Result (Vec ℕ Z) ReadFault → Type 0
+AnswersRead None cap answer = answer ≡ Err Missing
+AnswersRead (Some bytes) cap answer =
     ((cap < length bytes) × (answer ≡ Err (TooLong (length bytes))))
     ⊎ ((length bytes ≤ cap) × ((answer ≡ Err NoMemory) ⊎ IsOkAnd answer (λ copy. copy.items ≡ bytes)))

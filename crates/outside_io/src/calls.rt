@@ -30,13 +30,13 @@ impl Model for Calls {
 }
 
 impl Calls {
-    ghost use Rattle.outside_io.specs.Calls.{failing, Counted, listed_made};
+    ghost use Rattle.outside_io.specs.Calls.{failing_next, CountsCall, listed_calls_made};
 
     /// No call was made yet.
     pub(crate) fn new(fails: Vec<Fail>) -> Calls
         ensures fails { result.fails ≡ fails.items }
         ensures next { result.next ≡ Some 0 }
-        ensures made { listed_made result ≡ 0 }
+        ensures made { listed_calls_made result ≡ 0 }
     {
         Calls {
             fails,
@@ -46,10 +46,10 @@ impl Calls {
 
     /// Makes a call: how many bytes it keeps where it is to fail, and nothing where it is not.
     pub(crate) fn count(&mut self) -> Option<u64>
-        ensures kept { result ≡ failing self.old }
-        ensures counted { Counted self.old self.new }
-        ensures made { listed_made self.new ≡ listed_made self.old + (if is_some result then 1 else 0) }
-        ensures room { listed_made self.new < 2 ^ 64 }
+        ensures kept { result ≡ failing_next self.old }
+        ensures counted { CountsCall self.old self.new }
+        ensures made { listed_calls_made self.new ≡ listed_calls_made self.old + (if is_some result then 1 else 0) }
+        ensures room { listed_calls_made self.new < 2 ^ 64 }
     {
         let number = self.next?;
         self.next = number.checked_add(1);

@@ -2,7 +2,7 @@
 
 ghost use Rattle.std.specs.Prelude.{◌≡◌, Some, None, OnOk, OnErr};
 ghost use Rattle.outside_io.specs.Outside.{Wrote, Unchanged};
-ghost use Rattle.outside_io.specs.Shelved.{shelved, told, Answers};
+ghost use Rattle.outside_io.specs.Shelved.{map_contents, known_contents, AnswersRead};
 
 use crate::calls::{Calls, Fail, front};
 use crate::{NoMemory, ReadFault, Shelf, WriteFault};
@@ -23,7 +23,7 @@ pub struct MemoryShelf {
 
 impl Model for MemoryShelf {
     ghost use Rattle.std.specs.Prelude.{◌≡◌, ◌+◌};
-    ghost use Rattle.outside_io.specs.Calls.{listed_made};
+    ghost use Rattle.outside_io.specs.Calls.{listed_calls_made};
     ghost use Rattle.outside_io.specs.Shelved.{ShelfInMemory};
 
     ghost Value = { ShelfInMemory };
@@ -35,23 +35,23 @@ impl Model for MemoryShelf {
       write_faults = s.write_faults;
     } };
 
-    ghost invariant = { λ s. s.read_faults + s.write_faults ≡ listed_made s.calls };
+    ghost invariant = { λ s. s.read_faults + s.write_faults ≡ listed_calls_made s.calls };
 }
 
 impl MemoryShelf {
     ghost use Rattle.std.specs.Prelude.{option_map, OnOk, OnErr, List, ℕ, ◌+◌};
-    ghost use Rattle.outside_io.specs.Calls.{listed_made};
+    ghost use Rattle.outside_io.specs.Calls.{listed_calls_made};
     ghost use Rattle.outside_io.specs.Outside.{Wrote, Unchanged};
-    ghost use Rattle.outside_io.specs.Shelved.{shelved, told};
+    ghost use Rattle.outside_io.specs.Shelved.{map_contents, known_contents};
 
     /// An empty shelf, of which these calls fail.
     pub fn new(alloc: Global, fails: Vec<Fail>) -> MemoryShelf
-        ensures empty { (name : List ℕ) → shelved result.held name ≡ None }
+        ensures empty { (name : List ℕ) → map_contents result.held name ≡ None }
         ensures fails { result.calls.fails ≡ fails.items }
         ensures next { result.calls.next ≡ Some 0 }
         ensures read_count { result.read_faults ≡ 0 }
         ensures write_count { result.write_faults ≡ 0 }
-        ensures counts { result.read_faults + result.write_faults ≡ listed_made result.calls }
+        ensures counts { result.read_faults + result.write_faults ≡ listed_calls_made result.calls }
     {
         MemoryShelf {
             alloc,
@@ -64,19 +64,19 @@ impl MemoryShelf {
 
     /// Puts bytes under a name, and counts no call. Where memory ends, all is as before.
     pub fn add(&mut self, name: &str, bytes: &[u8]) -> Result<(), NoMemory>
-        ensures added { OnOk result (Wrote name.now bytes.now (told self.old.held) (told self.new.held)) }
-        ensures unchanged { OnErr result (Unchanged (told self.old.held) (told self.new.held)) }
+        ensures added { OnOk result (Wrote name.now bytes.now (known_contents self.old.held) (known_contents self.new.held)) }
+        ensures unchanged { OnErr result (Unchanged (known_contents self.old.held) (known_contents self.new.held)) }
         ensures calls { self.new.calls ≡ self.old.calls }
         ensures read_count { self.new.read_faults ≡ self.old.read_faults }
         ensures write_count { self.new.write_faults ≡ self.old.write_faults }
-        ensures counts { self.new.read_faults + self.new.write_faults ≡ listed_made self.new.calls }
+        ensures counts { self.new.read_faults + self.new.write_faults ≡ listed_calls_made self.new.calls }
     {
         put_under(&mut self.held, self.alloc, name, bytes)
     }
 
     /// The bytes under a name. It counts no call.
     pub fn bytes_of(&self, name: &str) -> Option<&[u8]>
-        ensures { option_map (λ bytes. bytes.now) result ≡ shelved self.now.held name.now }
+        ensures { option_map (λ bytes. bytes.now) result ≡ map_contents self.now.held name.now }
     {
         match self.held.get(name) {
             Some(bytes) => Some(bytes.as_slice()),
@@ -88,10 +88,10 @@ impl MemoryShelf {
 impl Shelf for MemoryShelf {
     ghost use Rattle.std.specs.Prelude.{ℕ, ◌+◌, ◌≤◌, if◌then◌else◌, IfOk, OnOk, OnErr, IsErrOf, IsSome, vec_len, is_some, take, ◌⊎◌};
     ghost use Rattle.outside_io.specs.Outside.{Holds, IsMissing, IsTooLong, Rose, Unchanged, Wrote, WrotePart};
-    ghost use Rattle.outside_io.specs.Calls.{failing, listed_made, Counted};
-    ghost use Rattle.outside_io.specs.Shelved.{shelved, told, Answers};
+    ghost use Rattle.outside_io.specs.Calls.{failing_next, listed_calls_made, CountsCall};
+    ghost use Rattle.outside_io.specs.Shelved.{map_contents, known_contents, AnswersRead};
 
-    ghost contents = { λ s. told s.held };
+    ghost contents = { λ s. known_contents s.held };
 
     ghost read_faults = { λ s. s.read_faults };
 
@@ -100,22 +100,22 @@ impl Shelf for MemoryShelf {
     /// The bytes under a name, at most `cap` many: `Failed` exactly where the call is listed, `Missing` and `TooLong`
     /// exactly where a call that is not listed finds no bytes or more than `cap`.
     fn read(&mut self, alloc: Global, name: &str, cap: u64) -> Result<Vec<u8>, ReadFault>
-        ensures given { IfOk result (λ bytes. Holds (told self.old.held) name.now bytes.items) }
+        ensures given { IfOk result (λ bytes. Holds (known_contents self.old.held) name.now bytes.items) }
         ensures within { IfOk result (λ bytes. vec_len bytes ≤ cap) }
         ensures missing { IsErrOf result ReadFault.Missing →
-            IsMissing (told self.old.held) name.now self.old.read_faults self.new.read_faults }
+            IsMissing (known_contents self.old.held) name.now self.old.read_faults self.new.read_faults }
         ensures too_long { (long : ℕ) → IsErrOf result (ReadFault.TooLong long) →
-            IsTooLong (told self.old.held) name.now cap long self.old.read_faults self.new.read_faults }
+            IsTooLong (known_contents self.old.held) name.now cap long self.old.read_faults self.new.read_faults }
         ensures failed { IsErrOf result ReadFault.Failed → Rose self.old.read_faults self.new.read_faults }
-        ensures kept { Unchanged (told self.old.held) (told self.new.held) }
+        ensures kept { Unchanged (known_contents self.old.held) (known_contents self.new.held) }
         ensures read_count { self.old.read_faults ≤ self.new.read_faults }
         ensures write_count { self.new.write_faults ≡ self.old.write_faults }
 
-        ensures counted { Counted self.old.calls self.new.calls }
-        ensures counts { self.new.read_faults + self.new.write_faults ≡ listed_made self.new.calls }
-        ensures faults { self.new.read_faults ≡ self.old.read_faults + (if is_some (failing self.old.calls) then 1 else 0) }
-        ensures listed { IsSome (failing self.old.calls) → IsErrOf result ReadFault.Failed }
-        ensures unlisted { failing self.old.calls ≡ None → Answers (shelved self.old.held name.now) cap result }
+        ensures counted { CountsCall self.old.calls self.new.calls }
+        ensures counts { self.new.read_faults + self.new.write_faults ≡ listed_calls_made self.new.calls }
+        ensures faults { self.new.read_faults ≡ self.old.read_faults + (if is_some (failing_next self.old.calls) then 1 else 0) }
+        ensures listed { IsSome (failing_next self.old.calls) → IsErrOf result ReadFault.Failed }
+        ensures unlisted { failing_next self.old.calls ≡ None → AnswersRead (map_contents self.old.held name.now) cap result }
     {
         if self.calls.count().is_some() {
             self.read_faults += 1;
@@ -127,20 +127,20 @@ impl Shelf for MemoryShelf {
     /// Puts bytes under a name. A call that is listed keeps the first bytes, as many as are listed, and answers
     /// `Failed`; where memory ends, the contents are as before.
     fn write(&mut self, name: &str, bytes: &[u8]) -> Result<(), WriteFault>
-        ensures written { OnOk result (Wrote name.now bytes.now (told self.old.held) (told self.new.held)) }
-        ensures part { OnErr result (WrotePart name.now bytes.now (told self.old.held) (told self.new.held)) }
+        ensures written { OnOk result (Wrote name.now bytes.now (known_contents self.old.held) (known_contents self.new.held)) }
+        ensures part { OnErr result (WrotePart name.now bytes.now (known_contents self.old.held) (known_contents self.new.held)) }
         ensures failed { IsErrOf result WriteFault.Failed → Rose self.old.write_faults self.new.write_faults }
         ensures read_count { self.new.read_faults ≡ self.old.read_faults }
         ensures write_count { self.old.write_faults ≤ self.new.write_faults }
 
-        ensures counted { Counted self.old.calls self.new.calls }
-        ensures counts { self.new.read_faults + self.new.write_faults ≡ listed_made self.new.calls }
-        ensures faults { self.new.write_faults ≡ self.old.write_faults + (if is_some (failing self.old.calls) then 1 else 0) }
-        ensures listed { IsSome (failing self.old.calls) → IsErrOf result WriteFault.Failed ⊎ IsErrOf result WriteFault.NoMemory }
-        ensures unlisted { IsErrOf result WriteFault.Failed → IsSome (failing self.old.calls) }
-        ensures front { (kept : ℕ) → failing self.old.calls ≡ Some kept → IsErrOf result WriteFault.Failed →
-            Wrote name.now (take kept bytes.now) (told self.old.held) (told self.new.held) }
-        ensures no_memory { IsErrOf result WriteFault.NoMemory → Unchanged (told self.old.held) (told self.new.held) }
+        ensures counted { CountsCall self.old.calls self.new.calls }
+        ensures counts { self.new.read_faults + self.new.write_faults ≡ listed_calls_made self.new.calls }
+        ensures faults { self.new.write_faults ≡ self.old.write_faults + (if is_some (failing_next self.old.calls) then 1 else 0) }
+        ensures listed { IsSome (failing_next self.old.calls) → IsErrOf result WriteFault.Failed ⊎ IsErrOf result WriteFault.NoMemory }
+        ensures unlisted { IsErrOf result WriteFault.Failed → IsSome (failing_next self.old.calls) }
+        ensures front { (kept : ℕ) → failing_next self.old.calls ≡ Some kept → IsErrOf result WriteFault.Failed →
+            Wrote name.now (take kept bytes.now) (known_contents self.old.held) (known_contents self.new.held) }
+        ensures no_memory { IsErrOf result WriteFault.NoMemory → Unchanged (known_contents self.old.held) (known_contents self.new.held) }
     {
         match self.calls.count() {
             Some(kept) => {
@@ -160,8 +160,8 @@ fn put_under(
     name: &str,
     bytes: &[u8],
 ) -> Result<(), NoMemory>
-    ensures written { OnOk result (Wrote name.now bytes.now (told held.old.entries) (told held.new.entries)) }
-    ensures unchanged { OnErr result (Unchanged (told held.old.entries) (told held.new.entries)) }
+    ensures written { OnOk result (Wrote name.now bytes.now (known_contents held.old.entries) (known_contents held.new.entries)) }
+    ensures unchanged { OnErr result (Unchanged (known_contents held.old.entries) (known_contents held.new.entries)) }
 {
     let key = String::from_str(alloc, name)?;
     let value = Vec::from_slice(alloc, bytes)?;
@@ -176,7 +176,7 @@ fn read_under(
     name: &str,
     cap: u64,
 ) -> Result<Vec<u8>, ReadFault>
-    ensures { Answers (shelved held.now.entries name.now) cap result }
+    ensures { AnswersRead (map_contents held.now.entries name.now) cap result }
 {
     let Some(bytes) = held.get(name) else {
         return Err(ReadFault::Missing);

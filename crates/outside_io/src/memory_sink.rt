@@ -18,19 +18,19 @@ pub struct MemorySink {
 
 impl Model for MemorySink {
     ghost use Rattle.std.specs.Prelude.{◌≡◌};
-    ghost use Rattle.outside_io.specs.Calls.{listed_made};
+    ghost use Rattle.outside_io.specs.Calls.{listed_calls_made};
     ghost use Rattle.outside_io.specs.Shelved.{SinkInMemory};
 
     ghost Value = { SinkInMemory };
 
     ghost view = { λ s. record { printed = s.printed.items; calls = s.calls; faults = s.faults } };
 
-    ghost invariant = { λ s. s.faults ≡ listed_made s.calls };
+    ghost invariant = { λ s. s.faults ≡ listed_calls_made s.calls };
 }
 
 impl MemorySink {
     ghost use Rattle.std.specs.Prelude.{[]};
-    ghost use Rattle.outside_io.specs.Calls.{listed_made};
+    ghost use Rattle.outside_io.specs.Calls.{listed_calls_made};
 
     /// A sink to which nothing was printed, and of which these calls fail.
     pub fn new(alloc: Global, fails: Vec<Fail>) -> MemorySink
@@ -38,7 +38,7 @@ impl MemorySink {
         ensures fails { result.calls.fails ≡ fails.items }
         ensures next { result.calls.next ≡ Some 0 }
         ensures count { result.faults ≡ 0 }
-        ensures counts { result.faults ≡ listed_made result.calls }
+        ensures counts { result.faults ≡ listed_calls_made result.calls }
     {
         MemorySink {
             printed: Vec::new(alloc),
@@ -58,7 +58,7 @@ impl MemorySink {
 impl Sink for MemorySink {
     ghost use Rattle.std.specs.Prelude.{ℕ, ◌+◌, ◌≤◌, ◌⊎◌, ◌++◌, if◌then◌else◌, OnOk, OnErr, IsErrOf, IsSome, is_some, take};
     ghost use Rattle.outside_io.specs.Outside.{Rose, Printed, PrintedPart};
-    ghost use Rattle.outside_io.specs.Calls.{failing, listed_made, Counted};
+    ghost use Rattle.outside_io.specs.Calls.{failing_next, listed_calls_made, CountsCall};
 
     ghost written = { λ s. Some s.printed };
 
@@ -72,12 +72,12 @@ impl Sink for MemorySink {
         ensures failed { IsErrOf result SinkFault.Failed → Rose self.old.faults self.new.faults }
         ensures count { self.old.faults ≤ self.new.faults }
 
-        ensures counted { Counted self.old.calls self.new.calls }
-        ensures counts { self.new.faults ≡ listed_made self.new.calls }
-        ensures faults { self.new.faults ≡ self.old.faults + (if is_some (failing self.old.calls) then 1 else 0) }
-        ensures listed { IsSome (failing self.old.calls) → IsErrOf result SinkFault.Failed ⊎ IsErrOf result SinkFault.NoMemory }
-        ensures unlisted { IsErrOf result SinkFault.Failed → IsSome (failing self.old.calls) }
-        ensures front { (kept : ℕ) → failing self.old.calls ≡ Some kept → IsErrOf result SinkFault.Failed →
+        ensures counted { CountsCall self.old.calls self.new.calls }
+        ensures counts { self.new.faults ≡ listed_calls_made self.new.calls }
+        ensures faults { self.new.faults ≡ self.old.faults + (if is_some (failing_next self.old.calls) then 1 else 0) }
+        ensures listed { IsSome (failing_next self.old.calls) → IsErrOf result SinkFault.Failed ⊎ IsErrOf result SinkFault.NoMemory }
+        ensures unlisted { IsErrOf result SinkFault.Failed → IsSome (failing_next self.old.calls) }
+        ensures front { (kept : ℕ) → failing_next self.old.calls ≡ Some kept → IsErrOf result SinkFault.Failed →
             self.new.printed ≡ self.old.printed ++ take kept bytes.now }
         ensures no_memory { IsErrOf result SinkFault.NoMemory → self.new.printed ≡ self.old.printed }
     {

@@ -5,7 +5,7 @@ use Rattle.module_ast.specs.declared.module.Module.{Module}
 use Rattle.module_ast.specs.Grammar.{IsFault}
 use Rattle.module_ast.specs.Canonical.{module_bytes}
 use Rattle.module_ast.specs.Decoding.{Gram}
-use Rattle.module_ast.specs.Profile.{tree_of, section_floats, bound_of, counts_of, AreWithin, IsWithin, IsFirstAbove}
+use Rattle.module_ast.specs.Profile.{tree_of, section_floats, bound_of, limited_counts, AreWithin, IsWithin, IsFirstAbove}
 use Rattle.module_ast.specs.Limits.{narrow}
 use Rattle.module_ast.proofs.ModuleTrees.{modules_unique, modules_plain}
 use Rattle.module_ast.proofs.LeastModules.{module_least}
@@ -38,8 +38,8 @@ fit_not_unfit limits bytes m fit (inl (section, (t, kind, is, first, e))) =
     cc
 fit_not_unfit limits bytes m fit (inr (which, value, (o, is, first))) =
     let same : o ≡ m = one_module bytes o m is fit.spelled in
-    none_above (bound_of limits which) (counts_of m which) value (fit.within which)
-    (subst (λ x. IsFirstAbove (bound_of limits which) (counts_of x which) value) same first.0)
+    none_above (bound_of limits which) (limited_counts m which) value (fit.within which)
+    (subst (λ x. IsFirstAbove (bound_of limits which) (limited_counts x which) value) same first.0)
 
 -- an unfit module is a module
 pub unfit_not_malformed : (limits : Limits) (bytes : List ℕ) → IsUnfit limits bytes → IsNoModule bytes → ⊥

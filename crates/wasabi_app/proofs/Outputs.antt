@@ -12,7 +12,7 @@ use Rattle.wasabi_app.specs.Printing.{Seen}
 use Rattle.wasabi_app.specs.Files.{IsFit, wide_file}
 use Rattle.wasabi_app.specs.Reads.{module_read, IsRead, Reads, IsLoaded}
 use Rattle.wasabi_app.specs.Taken.{IsTaken}
-use Rattle.wasabi_app.specs.Making.{hook_count, IsMade, Unmade, form, unmade_no_memory}
+use Rattle.wasabi_app.specs.Making.{hook_count, IsOutputMade, Unmade, form, unmade_no_memory}
 use Rattle.wasabi_app.specs.Ends.{HasOutput, Cause, of_other_form, unwritten, memory_ended, Answers, checked, instrumented}
 use Rattle.wasabi_app.proofs.Files.{one_module}
 
@@ -51,7 +51,7 @@ refuses_unmade words old new line m _ _ l is u unmade_no_memory =
 
 -- an output that was made
 pub has_output : (words : List (List ℕ)) (old : Seen) (line : Line) (m : Module) (output text : List ℕ) → IsLine words line
-    → IsLoaded old.contents line.subject narrow_file narrow m → IsMade m line.hooks output text
+    → IsLoaded old.contents line.subject narrow_file narrow m → IsOutputMade m line.hooks output text
     → (has : HasOutput words old.contents line output) × (hook_count has.instrumented.original line.hooks ≡ hook_count m line.hooks)
 has_output words old line m output text l is made =
     let i = made.instrumented is.bytes is.fit.spelled is.fit.within in
@@ -62,7 +62,7 @@ has_output words old line m output text l is made =
 
 -- and that was written
 pub answers_written : (words : List (List ℕ)) (old new : Seen) (line : Line) (m : Module) (output text : List ℕ) → IsLine words line
-    → IsLoaded old.contents line.subject narrow_file narrow m → IsMade m line.hooks output text
+    → IsLoaded old.contents line.subject narrow_file narrow m → IsOutputMade m line.hooks output text
     → Wrote line.target output old.contents new.contents → Answers words old new text
 answers_written words old new line m output text l is made w =
     let h = has_output words old line m output text l is made in
@@ -70,14 +70,14 @@ answers_written words old new line m output text l is made w =
 
 -- or that could not be
 pub refuses_unwritten : (words : List (List ℕ)) (old new : Seen) (line : Line) (m : Module) (output text : List ℕ) → IsLine words line
-    → IsLoaded old.contents line.subject narrow_file narrow m → IsMade m line.hooks output text → Rose old.writes new.writes
+    → IsLoaded old.contents line.subject narrow_file narrow m → IsOutputMade m line.hooks output text → Rose old.writes new.writes
     → WrotePart line.target output old.contents new.contents → Cause words old new 5 (unwritten_text line.target)
 refuses_unwritten words old new line m output text l is made r w =
     unwritten line output (has_output words old line m output text l is made).0 r w
 
 -- or for which there was no memory then
 pub refuses_written : (words : List (List ℕ)) (old new : Seen) (line : Line) (m : Module) (output text : List ℕ) → IsLine words line
-    → IsLoaded old.contents line.subject narrow_file narrow m → IsMade m line.hooks output text
+    → IsLoaded old.contents line.subject narrow_file narrow m → IsOutputMade m line.hooks output text
     → WrotePart line.target output old.contents new.contents → Cause words old new 14 no_memory_text
 refuses_written words old new line m output text l is made w =
     memory_ended (inr (line, output, (has_output words old line m output text l is made).0, w))

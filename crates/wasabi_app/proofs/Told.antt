@@ -14,7 +14,7 @@ use Rattle.wasabi_app.specs.Taken.{IsTaken}
 use Rattle.wasabi_app.specs.Reads.{Want, valid_module, Read, module_read, reads_of, IsRead, OfModule, IsGood, IsReached, Reads, IsLoaded}
 use Rattle.wasabi_app.specs.Printing.{Seen, seen, Printing}
 use Rattle.wasabi_app.specs.Ends as ends
-use Rattle.wasabi_app.specs.Ends.{Status, HasOutput, Answers, checked, instrumented, Ends, IsKept, Decides, IsOver, IsFile, DecidesOtherForm, ChecksAll, Completes}
+use Rattle.wasabi_app.specs.Ends.{Status, HasOutput, Answers, checked, instrumented, Ends, IsKept, Decides, IsAboveCap, IsFile, DecidesOtherForm, ChecksAll, Completes}
 use Rattle.wasabi_app.proofs.Files.{one_module, unfit_not_malformed, fit_not_malformed, fit_not_unfit, valid_not_invalid}
 use Rattle.wasabi_app.proofs.Causes.{Why, Inverted, ends_inverted, check_no_line}
 
@@ -57,7 +57,7 @@ judged_by P status f (valid_module limits) bytes p = f limits bytes p
 -- what stands under the name of a read, by the status: 0 where it is good
 pub data Found (contents : Contents) (read : Read) : ℕ → Type 0 where
   none : contents read.name ≡ None → Found contents read 3
-  over : IsOver read (contents read.name) → Found contents read 3
+  over : IsAboveCap read (contents read.name) → Found contents read 3
   file : (bytes : List ℕ) (status : ℕ) → contents read.name ≡ Some bytes → length bytes ≤ read.cap → WantJudged read.want bytes status
       → Found contents read status
 

@@ -7,7 +7,7 @@ use Rattle.module_ast.specs.declared.module.Module.{Module}
 use Rattle.module_ast.specs.declared.module.Limits.{Limits}
 use Rattle.module_ast.specs.declared.module.Which.TheVariants.{Locals, Nesting}
 use Rattle.module_ast.specs.Limits.{IsWhole}
-use Rattle.module_ast.specs.Profile.{body, locals_of, counts_of, AreWithin}
+use Rattle.module_ast.specs.Profile.{body_node, locals_of, limited_counts, AreWithin}
 use Rattle.module_ast.proofs.LeastModules.{module_least}
 use Rattle.wasabi_app.specs.Files.{IsFit, wide_file}
 
@@ -27,8 +27,8 @@ locals_few bound (b ∷ bs) h w =
 pub fit_whole : (limits : Limits) (bytes : List ℕ) (m : Module) → length bytes ≤ wide_file → limits.locals ≤ 60000 → limits.nesting ≤ 1002
     → IsFit limits bytes m → IsWhole m
 fit_whole limits bytes m short locals nesting fit = record {
-  bodies = omega (arith, fit.spelled.bodies, length-map m.bodies body);
+  bodies = omega (arith, fit.spelled.bodies, length-map m.bodies body_node);
   locals = locals_few limits.locals m.bodies (omega arith) (fit.within Locals);
-  nesting = within_more limits.nesting 1002 (counts_of m Nesting) nesting (fit.within Nesting);
+  nesting = within_more limits.nesting 1002 (limited_counts m Nesting) nesting (fit.within Nesting);
   size = omega (arith, module_least bytes m fit.spelled);
 }

@@ -2,7 +2,7 @@
 use Rattle.std.specs.Prelude.{◌≡◌, ℕ, ◌<◌, ◌≤◌, ◌⊎◌, List, length, Option, Some, None}
 use Rattle.std.specs.Prelude.{Result, Ok, Err, String, string_bytes}
 use Rattle.std.specs.declared.alloc.Global.{Global}
-use Rattle.outside_io.specs.Outside.{Contents, Rose, WhereTold, Unchanged, Wrote, WrotePart, IsMissing, IsTooLong}
+use Rattle.outside_io.specs.Outside.{Contents, Rose, WhereKnown, Unchanged, Wrote, WrotePart, IsMissing, IsTooLong}
 use Rattle.module_ast.specs.declared.module.Limits.{Limits}
 use Rattle.module_ast.specs.declared.module.Module.{Module}
 use Rattle.module_ast.specs.Limits.{narrow, wide}
@@ -14,7 +14,7 @@ use Rattle.wasabi_app.specs.Files.{IsFit, IsNoModule, wide_file}
 use Rattle.wasabi_app.specs.Reads.{Read, module_read, IsRead, OfModule, Reads, IsLoaded}
 use Rattle.wasabi_app.specs.Taken.{IsTaken}
 use Rattle.wasabi_app.specs.Texts.{bad_words_text, form_text, unwritten_text, no_memory_text, wrote_text, ok_text, counts_of}
-use Rattle.wasabi_app.specs.Refusals.{status_of, text_of}
+use Rattle.wasabi_app.specs.Refusals.{refusal_status, refusal_text}
 use Rattle.wasabi_app.specs.Printing.{Seen, Printing, Said}
 use Rattle.wasabi_app.specs.Loading.{Unloaded}
 use Rattle.wasabi_app.specs.Making.{hook_count}
@@ -73,7 +73,7 @@ pub data Answers (words : List (List ℕ)) (old new : Seen) : (text : List ℕ) 
 -- the work of a command: its answer, or why it is refused
 abbrev pub ComesTo : List (List ℕ) → (old new : Seen) → Result (String Global) Refusal → Type 0
 ComesTo words old new (Ok line) = Answers words old new (string_bytes line)
-ComesTo words old new (Err refusal) = Cause words old new (status_of refusal) (text_of refusal)
+ComesTo words old new (Err refusal) = Cause words old new (refusal_status refusal) (refusal_text refusal)
 
 -- An answer's line is printed, or the status is 15 where the sink's count rose. A refusal's status stands however its
 -- line is printed. Want of memory for a line, or on the way through it, is 14.
@@ -107,11 +107,11 @@ IsKept status expected = (status ≡ expected) ⊎ ((status ≡ 4) ⊎ (status �
 
 abbrev pub Decides : List (List ℕ) → Option Contents → (Read → (found : Option (List ℕ)) → Type 0) → (status expected : ℕ) → Type 0
 Decides words held P status expected =
-    WhereTold held (λ contents. (read : Read) → Reads words held read → P read (contents read.name) → IsKept status expected)
+    WhereKnown held (λ contents. (read : Read) → Reads words held read → P read (contents read.name) → IsKept status expected)
 
 -- more bytes than the cap stand there
-abbrev pub IsOver : Read → (found : Option (List ℕ)) → Type 0
-IsOver read found = (bytes : List ℕ) × (found ≡ Some bytes) × (read.cap < length bytes)
+abbrev pub IsAboveCap : Read → (found : Option (List ℕ)) → Type 0
+IsAboveCap read found = (bytes : List ℕ) × (found ≡ Some bytes) × (read.cap < length bytes)
 
 -- a module is to be read, and this holds of its limits and the bytes
 abbrev pub IsFile : (Limits → (bytes : List ℕ) → Type 0) → Read → (found : Option (List ℕ)) → Type 0
@@ -119,17 +119,17 @@ IsFile P read found = (bytes : List ℕ) × (found ≡ Some bytes) × (length by
 
 abbrev pub DecidesOtherForm : List (List ℕ) → Option Contents → (status : ℕ) → Type 0
 DecidesOtherForm words held status =
-    WhereTold held (λ _. (line : Line) (m : Module) → IsLine words line → IsLoaded held line.subject narrow_file narrow m → ¬ IsTaken m
+    WhereKnown held (λ _. (line : Line) (m : Module) → IsLine words line → IsLoaded held line.subject narrow_file narrow m → ¬ IsTaken m
     → IsKept status 17)
 
 -- 4, 5 and 15 come only where a count of faults rose, so that without faults the status is 0, or want of memory
 abbrev pub ChecksAll : List (List ℕ) → Option Contents → (status : ℕ) → Type 0
 ChecksAll words held status =
-    WhereTold held (λ _. (subject : List ℕ) (m : Module) → IsCheck words subject → IsLoaded held subject wide_file wide m
+    WhereKnown held (λ _. (subject : List ℕ) (m : Module) → IsCheck words subject → IsLoaded held subject wide_file wide m
     → (status ≡ 15) ⊎ IsKept status 0)
 
 abbrev pub Completes : List (List ℕ) → Option Contents → (status : ℕ) → Type 0
 Completes words held status =
-    WhereTold held (λ _. (line : Line) (bytes : List ℕ) (m : Module) → IsLine words line
+    WhereKnown held (λ _. (line : Line) (bytes : List ℕ) (m : Module) → IsLine words line
     → IsRead held (module_read line.subject narrow_file narrow) bytes → IsFit narrow bytes m → IsTaken m
     → (status ≡ 5) ⊎ ((status ≡ 15) ⊎ IsKept status 0))

@@ -15,7 +15,7 @@ wide_file = 268435456
 
 -- no module of the grammar has the bytes
 abbrev pub IsNoModule : (bytes : List ℕ) → Type 0
-IsNoModule bytes = (m : grammar.Module) → IsModule bytes m → ⊥
+IsNoModule bytes = (m : grammar.ModuleNode) → IsModule bytes m → ⊥
 
 -- the bytes are a module with a floating type or instruction, or with a quantity above its limit
 abbrev pub IsUnfit : Limits → (bytes : List ℕ) → Type 0

@@ -4,30 +4,30 @@ use Rattle.wasabi_app.specs.declared.lines.Refusal.{Refusal}
 use Rattle.wasabi_app.specs.declared.lines.Refusal.TheVariants.{BadWords, Missing, TooLong, Unread, Unwritten, Malformed, Floats, OverLimit, BrokenRule, InvalidBody, OtherForm, NoMemory}
 use Rattle.wasabi_app.specs.Texts.{bad_words_text, missing_text, too_long_text, unread_text, unwritten_text, malformed_text, floats_text, limit_text, rule_text, body_text, form_text, no_memory_text}
 
-abbrev pub status_of : Refusal → ℕ
-status_of BadWords = 2
-status_of (Missing _) = 3
-status_of (TooLong _ _) = 3
-status_of (Unread _) = 4
-status_of (Unwritten _) = 5
-status_of (Malformed _ _) = 6
-status_of (Floats _ _) = 7
-status_of (OverLimit _ _ _) = 7
-status_of (BrokenRule _ _) = 8
-status_of (InvalidBody _ _) = 8
-status_of NoMemory = 14
-status_of (OtherForm _) = 17
+abbrev pub refusal_status : Refusal → ℕ
+refusal_status BadWords = 2
+refusal_status (Missing _) = 3
+refusal_status (TooLong _ _) = 3
+refusal_status (Unread _) = 4
+refusal_status (Unwritten _) = 5
+refusal_status (Malformed _ _) = 6
+refusal_status (Floats _ _) = 7
+refusal_status (OverLimit _ _ _) = 7
+refusal_status (BrokenRule _ _) = 8
+refusal_status (InvalidBody _ _) = 8
+refusal_status NoMemory = 14
+refusal_status (OtherForm _) = 17
 
-abbrev pub text_of : Refusal → List ℕ
-text_of BadWords = bad_words_text
-text_of (Missing name) = missing_text name.now
-text_of (TooLong name long) = too_long_text name.now long
-text_of (Unread name) = unread_text name.now
-text_of (Unwritten name) = unwritten_text name.now
-text_of (Malformed name section) = malformed_text name.now section
-text_of (Floats name section) = floats_text name.now section
-text_of (OverLimit name which value) = limit_text name.now which value
-text_of (BrokenRule name rule) = rule_text name.now rule
-text_of (InvalidBody name func) = body_text name.now func
-text_of NoMemory = no_memory_text
-text_of (OtherForm name) = form_text name.now
+abbrev pub refusal_text : Refusal → List ℕ
+refusal_text BadWords = bad_words_text
+refusal_text (Missing name) = missing_text name.now
+refusal_text (TooLong name long) = too_long_text name.now long
+refusal_text (Unread name) = unread_text name.now
+refusal_text (Unwritten name) = unwritten_text name.now
+refusal_text (Malformed name section) = malformed_text name.now section
+refusal_text (Floats name section) = floats_text name.now section
+refusal_text (OverLimit name which value) = limit_text name.now which value
+refusal_text (BrokenRule name rule) = rule_text name.now rule
+refusal_text (InvalidBody name func) = body_text name.now func
+refusal_text NoMemory = no_memory_text
+refusal_text (OtherForm name) = form_text name.now

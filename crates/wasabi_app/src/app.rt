@@ -4,7 +4,7 @@ ghost use Rattle.std.specs.Prelude.{◌≡◌, ◌≢◌, ◌≤◌, ◌⊎◌, 
 ghost use Rattle.outside_io.specs.Outside.{Rose, Unchanged};
 ghost use Rattle.wasabi_app.specs.Words.{Line, IsCheck, IsLine, IsRefused, texts};
 ghost use Rattle.wasabi_app.specs.Files.{IsNoModule, IsUnfit, IsInvalid};
-ghost use Rattle.wasabi_app.specs.Ends.{ComesTo, Ends, Status, IsDone, IsWritten, IsWrittenPart, IsOf, IsUnread, IsOtherForm, Decides, IsOver, IsFile, DecidesOtherForm, ChecksAll, Completes};
+ghost use Rattle.wasabi_app.specs.Ends.{ComesTo, Ends, Status, IsDone, IsWritten, IsWrittenPart, IsOf, IsUnread, IsOtherForm, Decides, IsAboveCap, IsFile, DecidesOtherForm, ChecksAll, Completes};
 ghost use Rattle.wasabi_app.specs.Printing.{Seen, seen, printing};
 
 use crate::check_mode::check;
@@ -71,7 +71,7 @@ pub fn run_app<R: Threads + Sync, S: Shelf, K: Sink>(
 
     // Which status comes where contents are told.
     ensures missing { Decides (texts words.now) (S.contents shelf.old) (λ read found. found ≡ None) result 3 }
-    ensures too_long { Decides (texts words.now) (S.contents shelf.old) IsOver result 3 }
+    ensures too_long { Decides (texts words.now) (S.contents shelf.old) IsAboveCap result 3 }
     ensures malformed_file { Decides (texts words.now) (S.contents shelf.old) (IsFile (λ limits bytes. IsNoModule bytes)) result 6 }
     ensures unfit_file { Decides (texts words.now) (S.contents shelf.old) (IsFile IsUnfit) result 7 }
     ensures invalid_file { Decides (texts words.now) (S.contents shelf.old) (IsFile IsInvalid) result 8 }

@@ -5,14 +5,15 @@ ghost use Rattle.module_ast.specs.declared.module.Module.{Module};
 ghost use Rattle.module_ast.specs.Canonical.{module_bytes};
 ghost use Rattle.module_ast.specs.Decoding.{Gram};
 ghost use Rattle.module_ast.specs.Profile.{IsWithin};
+ghost use Rattle.module_ast.specs.Texts.{Text};
 ghost use Rattle.module_ast.specs.Limits.{narrow};
 ghost use Rattle.instrument.specs.Nops.{IsNopChoice, IsNops, narrow_file, nop_module};
 ghost use Rattle.instrument.specs.Accepted.{IsInstrumented};
 ghost use Rattle.wasabi_app.specs.Ends.{ComesTo};
-ghost use Rattle.wasabi_app.specs.Making.{hook_count, IsMade, Unmade};
+ghost use Rattle.wasabi_app.specs.Making.{hook_count, IsOutputMade, Unmade};
 ghost use Rattle.wasabi_app.specs.Printing.{seen};
 ghost use Rattle.wasabi_app.specs.Reading.{line_of};
-ghost use Rattle.wasabi_app.specs.Refusals.{status_of, text_of};
+ghost use Rattle.wasabi_app.specs.Refusals.{refusal_status, refusal_text};
 ghost use Rattle.wasabi_app.specs.Words.{IsLine};
 
 use crate::lines::{Refusal, wrote_line};
@@ -21,6 +22,7 @@ use crate::words::Line;
 use hook_select::Hooks;
 use instrument::nops::{nops_of, write_nops};
 use module_ast::module::{Limits, Module};
+use module_ast::name::Name;
 use outside_io::{Shelf, WriteFault};
 use std::alloc::{AllocError, Global};
 use std::thread::Threads;
@@ -70,8 +72,8 @@ struct Made {
 fn make<'w>(alloc: Global, line: &Line<'w>, m: &Module) -> Result<Made, Refusal<'w>>
     requires choice { IsNopChoice line.now.hooks }
     requires short { length (module_bytes m.now) ≤ narrow_file }
-    ensures ok { IfOk result (λ made. IsMade m.now line.now.hooks made.output.items (string_bytes made.text)) }
-    ensures refused { IfErr result (λ r. Unmade line.now.subject.now m.now (status_of r) (text_of r)) }
+    ensures ok { IfOk result (λ made. IsOutputMade m.now line.now.hooks made.output.items (string_bytes made.text)) }
+    ensures refused { IfErr result (λ r. Unmade line.now.subject.now m.now (refusal_status r) (refusal_text r)) }
 {
     let Some(nops) = nops_of(m) else {
         return Err(Refusal::OtherForm { name: line.subject });
@@ -89,13 +91,13 @@ fn make<'w>(alloc: Global, line: &Line<'w>, m: &Module) -> Result<Made, Refusal<
 // How many hooks the output of a file of so many nops has.
 fn hooks_in(count: u32, hooks: &Hooks) -> usize
     requires { IsNopChoice hooks.now }
-    ensures { (m : Module) (name : List ℕ) → IsNops m name count → result ≡ hook_count m hooks.now }
+    ensures { (m : Module) (name : Text) → IsNops m name count → result ≡ hook_count m hooks.now }
 {
     if hooks.nop && count > 0 { 1 } else { 0 }
 }
 
 // The output for a file of so many nops under this name.
-fn write(alloc: Global, name: &str, count: u32, hooks: &Hooks) -> Result<Vec<u8>, AllocError>
+fn write(alloc: Global, name: &Name, count: u32, hooks: &Hooks) -> Result<Vec<u8>, AllocError>
     requires short { length (module_bytes (nop_module name.now count)) ≤ narrow_file }
     requires choice { IsNopChoice hooks.now }
     ensures { IfOk result (λ output. (file : List ℕ) (m : Module) → Gram file m → IsWithin narrow m → IsNops m name.now count → IsInstrumented file hooks.now output.items) }

@@ -2,7 +2,7 @@
 
 ghost use Rattle.std.specs.Prelude.{◌≡◌, IfOk, IfSome, Some, string_bytes};
 ghost use Rattle.wasabi_app.specs.Texts.{wrote_text, ok_text, which_name, no_memory_text};
-ghost use Rattle.wasabi_app.specs.Refusals.{status_of, text_of};
+ghost use Rattle.wasabi_app.specs.Refusals.{refusal_status, refusal_text};
 
 use module_ast::module::Which;
 use std::alloc::{AllocError, Global};
@@ -54,7 +54,7 @@ pub(crate) enum Refusal<'w> {
 impl Refusal<'_> {
     /// The status of the program.
     pub(crate) fn status(&self) -> u8
-        ensures { result ≡ status_of self.now }
+        ensures { result ≡ refusal_status self.now }
     {
         match self {
             Refusal::BadWords => 2,
@@ -71,7 +71,7 @@ impl Refusal<'_> {
 
     /// The line that says why.
     pub(crate) fn line(&self, alloc: Global) -> Result<String, AllocError>
-        ensures { IfOk result (λ line. string_bytes line ≡ text_of self.now) }
+        ensures { IfOk result (λ line. string_bytes line ≡ refusal_text self.now) }
     {
         match *self {
             Refusal::BadWords => String::from_str(alloc, "error 2: bad words\n"),

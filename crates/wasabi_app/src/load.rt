@@ -7,7 +7,7 @@ ghost use Rattle.wasabi_app.specs.Files.{IsFit, wide_file};
 ghost use Rattle.wasabi_app.specs.Loading.{Refutes, Unloaded};
 ghost use Rattle.wasabi_app.specs.Printing.{seen};
 ghost use Rattle.wasabi_app.specs.Reads.{IsLoaded, module_read};
-ghost use Rattle.wasabi_app.specs.Refusals.{status_of, text_of};
+ghost use Rattle.wasabi_app.specs.Refusals.{refusal_status, refusal_text};
 
 use crate::lines::Refusal;
 use module_ast::module::{Limits, Module};
@@ -33,7 +33,7 @@ pub(crate) fn load<'w, R: Threads + Sync, S: Shelf>(
     ensures ok { IfOk result (λ v. IsLoaded (S.contents shelf.old) name.now cap limits.now v) }
     ensures refused { IfErr result (λ r. Unloaded (module_read name.now cap limits.now)
         (seen (S.contents shelf.old) (S.read_faults shelf.old) (S.write_faults shelf.old))
-        (seen (S.contents shelf.new) (S.read_faults shelf.new) (S.write_faults shelf.new)) (status_of r) (text_of r)) }
+        (seen (S.contents shelf.new) (S.read_faults shelf.new) (S.write_faults shelf.new)) (refusal_status r) (refusal_text r)) }
     ensures kept { Unchanged (S.contents shelf.old) (S.contents shelf.new) }
     ensures read_count { S.read_faults shelf.old ≤ S.read_faults shelf.new }
     ensures write_count { S.write_faults shelf.new ≡ S.write_faults shelf.old }
@@ -59,7 +59,7 @@ fn valid_module<'w, R: Threads + Sync>(
     requires nesting { limits.now.nesting ≤ 1002 }
     requires locals { limits.now.locals ≤ 60000 }
     ensures ok { IfOk result (λ v. IsFit limits.now bytes.now v × IsValid v) }
-    ensures refused { IfErr result (λ r. Refutes name.now limits.now bytes.now (status_of r) (text_of r)) }
+    ensures refused { IfErr result (λ r. Refutes name.now limits.now bytes.now (refusal_status r) (refusal_text r)) }
 {
     let module = fit_module(alloc, name, bytes, limits)?;
     match validate(rt, alloc, module, 1) {
@@ -80,7 +80,7 @@ fn fit_module<'w>(
     requires short { length bytes.now ≤ wide_file }
     requires nesting { limits.now.nesting ≤ 1002 }
     ensures ok { IfOk result (λ m. IsFit limits.now bytes.now m) }
-    ensures refused { IfErr result (λ r. Refutes name.now limits.now bytes.now (status_of r) (text_of r)) }
+    ensures refused { IfErr result (λ r. Refutes name.now limits.now bytes.now (refusal_status r) (refusal_text r)) }
 {
     match decode(alloc, bytes, limits) {
         Ok(module) => Ok(module),

@@ -2,7 +2,7 @@
 
 ghost use Rattle.std.specs.Prelude.{◌≤◌, ◌⊎◌};
 ghost use Rattle.wasabi_app.specs.Texts.{no_memory_text};
-ghost use Rattle.wasabi_app.specs.Refusals.{status_of, text_of};
+ghost use Rattle.wasabi_app.specs.Refusals.{refusal_status, refusal_text};
 ghost use Rattle.wasabi_app.specs.Printing.{Said, printing};
 
 use crate::lines::{NO_MEMORY, Refusal};
@@ -27,7 +27,7 @@ pub(crate) fn say<K: Sink>(out: &mut K, line: &str, whole: u8, failed: u8) -> u8
 pub(crate) fn refuse<K: Sink>(alloc: Global, out: &mut K, refusal: &Refusal<'_>) -> u8
     ensures said { let old = printing (K.written out.old) (K.faults out.old) in
         let new = printing (K.written out.new) (K.faults out.new) in
-        Said (text_of refusal.now) (status_of refusal.now) (status_of refusal.now) old new result
+        Said (refusal_text refusal.now) (refusal_status refusal.now) (refusal_status refusal.now) old new result
         ⊎ Said no_memory_text 14 14 old new result }
     ensures print_count { K.faults out.old ≤ K.faults out.new }
 {

@@ -4,7 +4,7 @@ use Rattle.module_ast.specs.declared.module.Module.{Module}
 use Rattle.module_ast.specs.declared.module.Limits.{Limits}
 use Rattle.module_ast.specs.declared.module.Which.{Which}
 use Rattle.module_ast.specs.Canonical.{module_bytes, without_customs}
-use Rattle.module_ast.specs.Profile.{tree_of, section_floats, bound_of, counts_of, AreWithin, IsWithin, IsFirstAbove}
+use Rattle.module_ast.specs.Profile.{tree_of, section_floats, bound_of, limited_counts, AreWithin, IsWithin, IsFirstAbove}
 use Rattle.module_ast.specs.Decoding.{Gram, FileFloats, FileExceeds}
 use Rattle.module_ast.specs.Fits.{Fits}
 use Rattle.module_ast.proofs.WrittenModules.{module_spelled}
@@ -35,8 +35,8 @@ module _ (m : Module) (fits : Fits m) where
   never_exceeds : (limits : Limits) (which : Which) (value : ℕ) → IsWithin limits (without_customs m) → FileExceeds limits (module_bytes m) which value → ⊥
   never_exceeds limits which value w h =
       let same : h.0 ≡ without_customs m = decoded_one h.0 h.1 in
-      none_above (bound_of limits which) (counts_of (without_customs m) which) value (w which)
-      (subst (λ d. IsFirstAbove (bound_of limits which) (counts_of d which) value) same h.2.0)
+      none_above (bound_of limits which) (limited_counts (without_customs m) which) value (w which)
+      (subst (λ d. IsFirstAbove (bound_of limits which) (limited_counts d which) value) same h.2.0)
 
 pub decoded_again : EncodedIsDecoded
 decoded_again m fits = record {

@@ -6,7 +6,7 @@ use Rattle.leb_binary.specs.Reading.{IsByte}
 use Rattle.leb_binary.specs.Fronts.{OneFront}
 use Rattle.module_ast.specs.Grammar as grammar
 use Rattle.module_ast.specs.Grammar.{IsExpr}
-use Rattle.module_ast.specs.Profile.{code}
+use Rattle.module_ast.specs.Profile.{code_node}
 use Rattle.code_decode.specs.Answers.{IsExprAnswer}
 use Rattle.code_decode.specs.declared.expr.Expr.{Expr}
 use Rattle.code_decode.specs.declared.expr.Expr.TheVariants.{Built, Floats, Deep}
@@ -14,10 +14,10 @@ use Rattle.module_ast.proofs.Compose.{whole_none, whole_missing, whole_some}
 use Rattle.wasm_decode.specs.Built.{IsBuilt}
 
 -- the tree of an expression that was read
-pub expr_front : (bound : ℕ) (e : Expr) (bytes rest : List ℕ) → IsExprAnswer bound e bytes rest → (t : grammar.Tree) × IsFront IsExpr bytes rest t × IsBuilt bound e t
-expr_front bound (Built c) bytes rest a = (code c, a.0, (refl, a.1))
+pub expr_front : (bound : ℕ) (e : Expr) (bytes rest : List ℕ) → IsExprAnswer bound e bytes rest → (t : grammar.CodeNode) × IsFront IsExpr bytes rest t × IsBuilt bound e t
+expr_front bound (Built c) bytes rest a = (code_node c, a.0, (refl, a.1))
 expr_front bound Floats bytes rest a = a
-expr_front bound (Deep found) bytes rest (t, f, e, l) = (code t, f, (t, refl, e, l))
+expr_front bound (Deep found) bytes rest (t, f, e, l) = (code_node t, f, (t, refl, e, l))
 
 -- no more bytes are left behind an item than before it
 pub front_shorter : {A : Type 0} (item : List ℕ → A → Type 0) (bytes rest : List ℕ) (x : A) → IsFront item bytes rest x → length rest ≤ length bytes

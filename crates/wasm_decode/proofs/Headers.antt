@@ -3,7 +3,7 @@ use Rattle.std.proofs.Common.{◌≡◌, ℕ, ◌<◌, List, [], ◌∷◌, ◌+
 use Rattle.std.proofs.lemmas.List.{take-append-drop}
 use Rattle.leb_binary.specs.Leb.{IsFront, HasNoFront}
 use Rattle.leb_binary.specs.Reading.{IsByte}
-use Rattle.module_ast.specs.Grammar.{AreItems, Section, IsSection, AreOrdered, Module, header, module_of, HasSections, HasBodies, IsModule, HasNext, FailsInSection}
+use Rattle.module_ast.specs.Grammar.{AreItems, Section, IsSection, AreOrdered, ModuleNode, header, module_of, HasSections, HasBodies, IsModule, HasNext, FailsInSection}
 use Rattle.wasm_decode.specs.Files.{AreBytes, FailsAt}
 
 -- bytes, by their places
@@ -45,5 +45,5 @@ fails_in_section bytes rest id e (before, good, more, d, items, ordered, stuck) 
 pub has_sections : (bytes rest : List ℕ) (ss : List Section) → bytes ≡ header ++ rest → AreItems IsSection rest ss → AreOrdered 0 ss → HasSections bytes ss
 has_sections bytes rest ss e items ordered = (rest, e, items, ordered)
 
-pub is_module : (bytes : List ℕ) (ss : List Section) (m : Module) → HasSections bytes ss → m ≡ module_of ss → HasBodies (module_of ss) → IsModule bytes m
+pub is_module : (bytes : List ℕ) (ss : List Section) (m : ModuleNode) → HasSections bytes ss → m ≡ module_of ss → HasBodies (module_of ss) → IsModule bytes m
 is_module bytes ss m h e b = record { sections = ss; spelled = h; collected = e; bodies = subst HasBodies (sym e) b }

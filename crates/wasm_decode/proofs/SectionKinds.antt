@@ -3,7 +3,7 @@ use Rattle.std.proofs.Common.{◌≡◌, ℕ, ◌<◌, ◌≤◌, ◌⊎◌, inl
 use Rattle.std.specs.Prelude.{max}
 use Rattle.leb_binary.specs.Leb.{IsFront}
 use Rattle.leb_binary.specs.Reading.{IsByte}
-use Rattle.module_ast.specs.Grammar.{Kind, Content, Section, Module, IsContent, IsSized, IsSection, HasNext, AreOrdered, id_of, with_section, with_sections, module_of, empty_module, custom_section, type_section, import_section, function_section, table_section, memory_section, global_section, export_section, start_section, element_section, code_section, data_section}
+use Rattle.module_ast.specs.Grammar.{Kind, Content, Section, ModuleNode, IsContent, IsSized, IsSection, HasNext, AreOrdered, id_of, with_section, with_sections, module_of, empty_module, custom_section, type_section, import_section, function_section, table_section, memory_section, global_section, export_section, start_section, element_section, code_section, data_section}
 use Rattle.code_decode.proofs.Items.{same_kind}
 use Rattle.wasm_decode.specs.Files.{last_of}
 
@@ -41,7 +41,7 @@ ordered_last : (last : ℕ) (ss : List Section) (s : Section) → AreOrdered las
 ordered_last last [] s o = o.0
 ordered_last last (t ∷ ts) s o = ordered_last (max last (id_of t.0)) ts s o.1
 
-sections_more : (m : Module) (ss : List Section) (s : Section) → with_sections m (ss ++ s ∷ []) ≡ with_section s (with_sections m ss)
+sections_more : (m : ModuleNode) (ss : List Section) (s : Section) → with_sections m (ss ++ s ∷ []) ≡ with_section s (with_sections m ss)
 sections_more m [] s = refl
 sections_more m (t ∷ ts) s = sections_more (with_section t m) ts s
 

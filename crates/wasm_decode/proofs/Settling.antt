@@ -14,9 +14,9 @@ use Rattle.module_ast.specs.declared.module.Range.{Range}
 use Rattle.module_ast.specs.Grammar as grammar
 use Rattle.module_ast.specs.Grammar.{Kind, local_count, custom_section, type_section, import_section, function_section, table_section, memory_section, global_section, export_section, start_section, element_section, code_section, data_section}
 use Rattle.module_ast.specs.Profile as profile
-use Rattle.module_ast.specs.Profile.{tree_of, locals_of, counts_of, AreWithin, IsFirstAbove}
+use Rattle.module_ast.specs.Profile.{tree_of, locals_of, limited_counts, AreWithin, IsFirstAbove}
 use Rattle.wasm_decode.specs.declared.draft.Draft.{Draft}
-use Rattle.wasm_decode.specs.Forms.{Form, drafted, first_above, StandFor}
+use Rattle.wasm_decode.specs.Forms.{Form, draft_items, first_above, ItemsStandFor}
 use Rattle.wasm_decode.specs.Kinds.{func_type_form, import_form, global_form, element_form, segment_form, body_form}
 use Rattle.wasm_decode.specs.Drafts.{IsDraft, HaveFewLocals}
 use Rattle.wasm_decode.specs.Counts.{AreFew}
@@ -62,23 +62,23 @@ none_parts (Some x) b h = cc
 
 -- ---- parts with code
 
-pub stood : {T G : Type 0} (f : Form T G) (bound : ℕ) (a : Bool) (xs : List T) (deep : Option ℕ) (gs : List G) → StandFor f bound a xs deep gs → a ≡ false → StandFor f bound false xs deep gs
+pub stood : {T G : Type 0} (f : Form T G) (bound : ℕ) (a : Bool) (xs : List T) (deep : Option ℕ) (gs : List G) → ItemsStandFor f bound a xs deep gs → a ≡ false → ItemsStandFor f bound false xs deep gs
 stood f bound true xs deep gs p h = cc
 stood f bound false xs deep gs p h = p
 
 choose : {T G : Type 0} (f : Form T G) (x : T) → Bool → T
 choose f x b = cond b (f.blank x) x
 
-pub drafted_none : {T G : Type 0} (f : Form T G) (bound : ℕ) (ys : List T) → first_above bound (map f.nests ys) ≡ None → map (drafted f bound) ys ≡ ys
+pub drafted_none : {T G : Type 0} (f : Form T G) (bound : ℕ) (ys : List T) → first_above bound (map f.nests ys) ≡ None → map (draft_items f bound) ys ≡ ys
 unfolding choose
 drafted_none f bound [] h = refl
 drafted_none f bound (y ∷ ys) h =
     let k = none_choice (nat_lt bound (f.nests y)) (f.nests y) (first_above bound (map f.nests ys)) h in
-    ap (λ b. choose f y b ∷ map (drafted f bound) ys) k.0 ∙ ap (λ l. y ∷ l) (drafted_none f bound ys k.1)
+    ap (λ b. choose f y b ∷ map (draft_items f bound) ys) k.0 ∙ ap (λ l. y ∷ l) (drafted_none f bound ys k.1)
 
 -- ---- few locals
 
-groups_count : (gs : List Group) → local_count (map profile.group gs) ≡ locals_of gs
+groups_count : (gs : List Group) → local_count (map profile.group_node gs) ≡ locals_of gs
 groups_count [] = refl
 groups_count (g ∷ gs) = ap (λ n. g.count + n) (groups_count gs)
 
@@ -86,19 +86,19 @@ pub body_groups : (b : Bool) (x : Body) → (cond b (body_form.blank x) x).group
 body_groups true x = refl
 body_groups false x = refl
 
-few_drafted : (bound : ℕ) (ys : List Body) → HaveFewLocals (map profile.body ys) → AreFew (map (drafted body_form bound) ys)
+few_drafted : (bound : ℕ) (ys : List Body) → HaveFewLocals (map profile.body_node ys) → AreFew (map (draft_items body_form bound) ys)
 few_drafted bound [] h = tt
 few_drafted bound (y ∷ ys) h =
     (let e = ap locals_of (body_groups (nat_lt bound (body_form.nests y)) y) in let k = groups_count y.groups in omega (arith, e, k, h.0), few_drafted bound ys h.1)
 
-pub few_in : (bound : ℕ) (d : Draft) (g : grammar.Module) → IsDraft bound d g → d.bodies.floats ≡ false → AreFew d.bodies.items.items
+pub few_in : (bound : ℕ) (d : Draft) (g : grammar.ModuleNode) → IsDraft bound d g → d.bodies.floats ≡ false → AreFew d.bodies.items.items
 few_in bound d g h e =
     let (ys, v, w, a) = stood body_form bound d.bodies.floats d.bodies.items.items d.bodies.deep g.bodies (h code_section).0.0 e in
     subst AreFew (sym w) (few_drafted bound ys (subst HaveFewLocals v (h code_section).1))
 
 -- ---- the module
 
-abbrev tree_by : List grammar.FuncType → List grammar.Import → List ℕ → List Range → List Range → List grammar.GlobalDef → List grammar.Export → Option ℕ → List grammar.Element → List grammar.Body → List grammar.Segment → List Text → grammar.Module
+abbrev tree_by : List grammar.FuncTypeNode → List grammar.ImportNode → List ℕ → List Range → List Range → List grammar.GlobalNode → List grammar.ExportNode → Option ℕ → List grammar.ElementNode → List grammar.BodyNode → List grammar.SegmentNode → List Text → grammar.ModuleNode
 tree_by a b c d e f g h i j k l = record {
   types = a;
   imports = b;
@@ -115,7 +115,7 @@ tree_by a b c d e f g h i j k l = record {
 }
 
 -- two trees of one module, part by part
-record SameParts (m n : grammar.Module) : Type 0 where
+record SameParts (m n : grammar.ModuleNode) : Type 0 where
   types : m.types ≡ n.types
   imports : m.imports ≡ n.imports
   funcs : m.funcs ≡ n.funcs
@@ -129,7 +129,7 @@ record SameParts (m n : grammar.Module) : Type 0 where
   segments : m.segments ≡ n.segments
   customs : m.customs ≡ n.customs
 
-same_module : (m n : grammar.Module) → SameParts m n → m ≡ n
+same_module : (m n : grammar.ModuleNode) → SameParts m n → m ≡ n
 same_module m n s =
     ap (λ v. tree_by v m.imports m.funcs m.tables m.memories m.globals m.exports m.start m.elements m.bodies m.segments m.customs) s.types
     ∙ ap (λ v. tree_by n.types v m.funcs m.tables m.memories m.globals m.exports m.start m.elements m.bodies m.segments m.customs) s.imports
@@ -149,16 +149,16 @@ abbrev with_code : Draft → List GlobalDef → List Element → List Body → L
 with_code d gs es bs ss = record (module_in d) { globals = gs; elements = es; bodies = bs; segments = ss }
 
 -- the module that a draft stands for
-pub record IsSettled (bound : ℕ) (d : Draft) (g : grammar.Module) : Type 0 where
+pub record IsSettled (bound : ℕ) (d : Draft) (g : grammar.ModuleNode) : Type 0 where
   pub module_of : Module
   pub tree : tree_of module_of ≡ g
   pub draft : module_in d ≡ without_deep bound module_of
-  pub deep : deep_in d ≡ first_above bound (counts_of module_of Nesting)
+  pub deep : deep_in d ≡ first_above bound (limited_counts module_of Nesting)
 
 pub first_four : (bound : ℕ) (a b c d : List ℕ) → or_else (first_above bound a) (or_else (first_above bound b) (or_else (first_above bound c) (first_above bound d))) ≡ first_above bound (a ++ b ++ c ++ d)
 first_four bound a b c d = sym (simp (append_assoc, first_append) refl)
 
-pub settled : (bound : ℕ) (d : Draft) (g : grammar.Module) → IsDraft bound d g → FloatsNowhere d → IsSettled bound d g
+pub settled : (bound : ℕ) (d : Draft) (g : grammar.ModuleNode) → IsDraft bound d g → FloatsNowhere d → IsSettled bound d g
 settled bound d g h n =
     let (gs, ge, gd, ga) = stood global_form bound d.globals.floats d.globals.items.items d.globals.deep g.globals (h global_section).0 n.globals in
     let (es, ee, ed, ea) = stood element_form bound d.elements.floats d.elements.items.items d.elements.deep g.elements (h element_section).0 n.elements in
@@ -168,13 +168,13 @@ settled bound d g h n =
     record {
       module_of = m;
       tree = same_module (tree_of m) g (record {
-        types = sym (all_items func_type_form.floats profile.func_type bound d.types.floats d.types.items.items d.types.deep g.types (h type_section).0 n.types);
-        imports = sym (all_items import_form.floats profile.import_of bound d.imports.floats d.imports.items.items d.imports.deep g.imports (h import_section).0 n.imports);
+        types = sym (all_items func_type_form.floats profile.func_type_node bound d.types.floats d.types.items.items d.types.deep g.types (h type_section).0 n.types);
+        imports = sym (all_items import_form.floats profile.import_node bound d.imports.floats d.imports.items.items d.imports.deep g.imports (h import_section).0 n.imports);
         funcs = sym (plain_items (λ (x : ℕ). x) bound d.funcs.floats d.funcs.items.items d.funcs.deep g.funcs (h function_section).0 ∙ map_same d.funcs.items.items);
         tables = sym (plain_items (λ (x : Range). x) bound d.tables.floats d.tables.items.items d.tables.deep g.tables (h table_section).0 ∙ map_same d.tables.items.items);
         memories = sym (plain_items (λ (x : Range). x) bound d.memories.floats d.memories.items.items d.memories.deep g.memories (h memory_section).0 ∙ map_same d.memories.items.items);
         globals = sym ge;
-        exports = sym (plain_items profile.export bound d.exports.floats d.exports.items.items d.exports.deep g.exports (h export_section).0);
+        exports = sym (plain_items profile.export_node bound d.exports.floats d.exports.items.items d.exports.deep g.exports (h export_section).0);
         start = h start_section;
         elements = sym ee;
         bodies = sym be;
@@ -182,9 +182,9 @@ settled bound d g h n =
         customs = h custom_section;
       });
       draft = ap (λ v. with_code d v d.elements.items.items d.bodies.items.items d.segments.items.items) gd
-          ∙ ap (λ v. with_code d (map (drafted global_form bound) gs) v d.bodies.items.items d.segments.items.items) ed
-          ∙ ap (λ v. with_code d (map (drafted global_form bound) gs) (map (drafted element_form bound) es) v d.segments.items.items) bd
-          ∙ ap (λ v. with_code d (map (drafted global_form bound) gs) (map (drafted element_form bound) es) (map (drafted body_form bound) bs) v) sd;
+          ∙ ap (λ v. with_code d (map (draft_items global_form bound) gs) v d.bodies.items.items d.segments.items.items) ed
+          ∙ ap (λ v. with_code d (map (draft_items global_form bound) gs) (map (draft_items element_form bound) es) v d.segments.items.items) bd
+          ∙ ap (λ v. with_code d (map (draft_items global_form bound) gs) (map (draft_items element_form bound) es) (map (draft_items body_form bound) bs) v) sd;
       deep = ap (λ v. or_else v (or_else d.elements.deep (or_else d.bodies.deep d.segments.deep))) ga
           ∙ ap (λ v. or_else (first_above bound (map global_form.nests gs)) (or_else v (or_else d.bodies.deep d.segments.deep))) ea
           ∙ ap (λ v. or_else (first_above bound (map global_form.nests gs)) (or_else (first_above bound (map element_form.nests es)) (or_else v d.segments.deep))) ba

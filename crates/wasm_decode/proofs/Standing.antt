@@ -4,7 +4,7 @@ use Rattle.std.specs.Prelude.{map, Bool, true, false, Option, Some, None, cond, 
 use Rattle.std.proofs.lemmas.Bool.{le-ltb, lt-ltb}
 use Rattle.std.proofs.lemmas.List.{map-append}
 use Rattle.code_decode.proofs.Stand.{some_more, some_last}
-use Rattle.wasm_decode.specs.Forms.{Form, drafted, first_above, first_of, StandFor}
+use Rattle.wasm_decode.specs.Forms.{Form, draft_items, first_above, first_of, ItemsStandFor}
 
 -- ---- the first number above a bound, with one number more behind
 
@@ -33,31 +33,31 @@ module _ {T G : Type 0} (f : Form T G) (bound : ℕ) where
   abbrev draft_by : T → Bool → T
   draft_by x b = cond b (f.blank x) x
 
-  drafted_whole : (x : T) → f.nests x ≤ bound → drafted f bound x ≡ x
+  drafted_whole : (x : T) → f.nests x ≤ bound → draft_items f bound x ≡ x
   drafted_whole x h = ap (draft_by x) (le-ltb bound (f.nests x) h)
 
-  drafted_deep : (x : T) → bound < f.nests x → drafted f bound x ≡ f.blank x
+  drafted_deep : (x : T) → bound < f.nests x → draft_items f bound x ≡ f.blank x
   drafted_deep x h = ap (draft_by x) (lt-ltb bound (f.nests x) h)
 
   -- of what was read
-  more : (xs : List T) (x y : T) (deep : Option ℕ) (gs : List G) (g : G) (deeper : Option ℕ) → StandFor f bound false xs deep gs → g ≡ f.view y → x ≡ drafted f bound y → ((ys : List T) → deep ≡ first_above bound (map f.nests ys) → deeper ≡ first_above bound (map f.nests ys ++ f.nests y ∷ [])) → StandFor f bound false (xs ++ x ∷ []) deeper (gs ++ g ∷ [])
+  more : (xs : List T) (x y : T) (deep : Option ℕ) (gs : List G) (g : G) (deeper : Option ℕ) → ItemsStandFor f bound false xs deep gs → g ≡ f.view y → x ≡ draft_items f bound y → ((ys : List T) → deep ≡ first_above bound (map f.nests ys) → deeper ≡ first_above bound (map f.nests ys ++ f.nests y ∷ [])) → ItemsStandFor f bound false (xs ++ x ∷ []) deeper (gs ++ g ∷ [])
   more xs x y deep gs g deeper (ys, e, d, a) h k j = (
     ys ++ y ∷ [],
     ap (λ l. l ++ g ∷ []) e ∙ ap (λ v. map f.view ys ++ v ∷ []) h ∙ sym (map-append f.view ys (y ∷ [])),
-    ap (λ l. l ++ x ∷ []) d ∙ ap (λ v. map (drafted f bound) ys ++ v ∷ []) k ∙ sym (map-append (drafted f bound) ys (y ∷ [])),
+    ap (λ l. l ++ x ∷ []) d ∙ ap (λ v. map (draft_items f bound) ys ++ v ∷ []) k ∙ sym (map-append (draft_items f bound) ys (y ∷ [])),
     j ys a ∙ ap (first_above bound) (sym (map-append f.nests ys (y ∷ []))),
   )
 
-  pub stand_push : (floats : Bool) (xs : List T) (x : T) (deep : Option ℕ) (gs : List G) (g : G) → StandFor f bound floats xs deep gs → g ≡ f.view x → f.nests x ≤ bound → StandFor f bound floats (xs ++ x ∷ []) deep (gs ++ g ∷ [])
+  pub stand_push : (floats : Bool) (xs : List T) (x : T) (deep : Option ℕ) (gs : List G) (g : G) → ItemsStandFor f bound floats xs deep gs → g ≡ f.view x → f.nests x ≤ bound → ItemsStandFor f bound floats (xs ++ x ∷ []) deep (gs ++ g ∷ [])
   stand_push true xs x deep gs g h e l = some_more f.floats gs g h
   stand_push false xs x deep gs g h e l =
       more xs x x deep gs g deep h e (sym (drafted_whole x l)) (λ ys a. a ∙ sym (first_within bound (map f.nests ys) (f.nests x) l))
 
-  pub stand_deep : (floats : Bool) (xs : List T) (x y : T) (deep : Option ℕ) (found : ℕ) (gs : List G) (g : G) → StandFor f bound floats xs deep gs → g ≡ f.view y → x ≡ f.blank y → found ≡ f.nests y → bound < found → StandFor f bound floats (xs ++ x ∷ []) (first_of deep found) (gs ++ g ∷ [])
+  pub stand_deep : (floats : Bool) (xs : List T) (x y : T) (deep : Option ℕ) (found : ℕ) (gs : List G) (g : G) → ItemsStandFor f bound floats xs deep gs → g ≡ f.view y → x ≡ f.blank y → found ≡ f.nests y → bound < found → ItemsStandFor f bound floats (xs ++ x ∷ []) (first_of deep found) (gs ++ g ∷ [])
   stand_deep true xs x y deep found gs g h e k n l = some_more f.floats gs g h
   stand_deep false xs x y deep found gs g h e k n l =
       let l2 : bound < f.nests y = omega (arith, n, l) in
       more xs x y deep gs g (first_of deep found) h e (k ∙ sym (drafted_deep y l2)) (λ ys a. ap (λ d. first_of d found) a ∙ ap (λ m. first_of (first_above bound (map f.nests ys)) m) n ∙ sym (first_beyond bound (map f.nests ys) (f.nests y) l2))
 
-  pub stand_float : (xs : List T) (deep : Option ℕ) (gs : List G) (g : G) → f.floats g ≡ true → StandFor f bound true xs deep (gs ++ g ∷ [])
+  pub stand_float : (xs : List T) (deep : Option ℕ) (gs : List G) (g : G) → f.floats g ≡ true → ItemsStandFor f bound true xs deep (gs ++ g ∷ [])
   stand_float xs deep gs g h = some_last f.floats gs g h

@@ -3,11 +3,11 @@ use Rattle.std.specs.Prelude.{◌≡◌, ℕ, ◌<◌, ◌≤◌, true}
 use Rattle.module_ast.specs.Tree.{Tree}
 use Rattle.module_ast.specs.Grammar as grammar
 use Rattle.module_ast.specs.Positions.{code_nesting}
-use Rattle.module_ast.specs.Profile.{code, code_floats}
+use Rattle.module_ast.specs.Profile.{code_node, code_floats}
 use Rattle.code_decode.specs.declared.expr.Expr.{Expr}
 use Rattle.code_decode.specs.declared.expr.Expr.TheVariants.{Built, Floats, Deep}
 
-abbrev pub IsBuilt : (bound : ℕ) → Expr → grammar.Tree → Type 0
-IsBuilt bound (Built c) t = (t ≡ code c) × (code_nesting c ≤ bound)
+abbrev pub IsBuilt : (bound : ℕ) → Expr → grammar.CodeNode → Type 0
+IsBuilt bound (Built c) t = (t ≡ code_node c) × (code_nesting c ≤ bound)
 IsBuilt bound Floats t = code_floats t ≡ true
-IsBuilt bound (Deep found) t = (c : Tree) × (t ≡ code c) × (found ≡ code_nesting c) × (bound < found)
+IsBuilt bound (Deep found) t = (c : Tree) × (t ≡ code_node c) × (found ≡ code_nesting c) × (bound < found)

@@ -11,8 +11,8 @@ pub record Form (T G : Type 0) : Type 0 where
   pub blank : T → T
 
 -- an item, without its code where that nests deeper than the bound
-abbrev pub drafted : {T G : Type 0} → Form T G → (bound : ℕ) → T → T
-drafted f bound x = cond (nat_lt bound (f.nests x)) (f.blank x) x
+abbrev pub draft_items : {T G : Type 0} → Form T G → (bound : ℕ) → T → T
+draft_items f bound x = cond (nat_lt bound (f.nests x)) (f.blank x) x
 
 -- the first number above a bound
 abbrev pub first_above : (bound : ℕ) → List ℕ → Option ℕ
@@ -25,7 +25,7 @@ first_of None found = Some found
 first_of (Some first) found = Some first
 
 -- the values of items, or whether one has a floating node
-abbrev pub StandFor : {T G : Type 0} → Form T G → (bound : ℕ) → (floats : Bool) → List T → (deep : Option ℕ) → List G → Type 0
-StandFor f bound true xs deep gs = some_in f.floats gs ≡ true
-StandFor {T} f bound false xs deep gs =
-    (ys : List T) × (gs ≡ map f.view ys) × (xs ≡ map (drafted f bound) ys) × (deep ≡ first_above bound (map f.nests ys))
+abbrev pub ItemsStandFor : {T G : Type 0} → Form T G → (bound : ℕ) → (floats : Bool) → List T → (deep : Option ℕ) → List G → Type 0
+ItemsStandFor f bound true xs deep gs = some_in f.floats gs ≡ true
+ItemsStandFor {T} f bound false xs deep gs =
+    (ys : List T) × (gs ≡ map f.view ys) × (xs ≡ map (draft_items f bound) ys) × (deep ≡ first_above bound (map f.nests ys))

@@ -2,7 +2,7 @@
 use Rattle.std.specs.Prelude.{◌≡◌, ℕ, map, Option, Some, None, false}
 use Rattle.module_ast.specs.declared.module.Module.{Module}
 use Rattle.wasm_decode.specs.declared.draft.Draft.{Draft}
-use Rattle.wasm_decode.specs.Forms.{drafted}
+use Rattle.wasm_decode.specs.Forms.{draft_items}
 use Rattle.wasm_decode.specs.Kinds.{global_form, element_form, segment_form, body_form}
 
 -- what the draft has, as a module
@@ -25,10 +25,10 @@ module_in d = record {
 -- the module, without the code that nests deeper than the bound
 abbrev pub without_deep : (bound : ℕ) → Module → Module
 without_deep bound m = record m {
-  globals = map (drafted global_form bound) m.globals;
-  elements = map (drafted element_form bound) m.elements;
-  bodies = map (drafted body_form bound) m.bodies;
-  segments = map (drafted segment_form bound) m.segments;
+  globals = map (draft_items global_form bound) m.globals;
+  elements = map (draft_items element_form bound) m.elements;
+  bodies = map (draft_items body_form bound) m.bodies;
+  segments = map (draft_items segment_form bound) m.segments;
 }
 
 -- no part has a floating node

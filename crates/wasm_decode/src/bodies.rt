@@ -29,7 +29,7 @@ fn make_body(
     groups: Option<Vec<Group>>,
     code: Expr,
 ) -> Result<Piece<Body>, AllocError>
-    ensures { (bound : ℕ) (gs : List grammar.Group) (t : grammar.Tree) → MatchOption groups (some_in group_floats gs ≡ true) (λ v. gs ≡ map profile.group v.items) → IsBuilt bound code t → IfOk result (λ p. IsPiece body_form bound p (body_by gs t)) }
+    ensures { (bound : ℕ) (gs : List grammar.GroupNode) (t : grammar.CodeNode) → MatchOption groups (some_in group_floats gs ≡ true) (λ v. gs ≡ map profile.group_node v.items) → IsBuilt bound code t → IfOk result (λ p. IsPiece body_form bound p (body_by gs t)) }
 {
     let Some(groups) = groups else {
         return Ok(Piece::Floats);
@@ -49,7 +49,7 @@ fn make_body(
 pub fn read_body(alloc: Global, content: &[u8], nesting: u32) -> Result<Piece<Body>, Fault>
     requires bytes { length content.now ≤ 268435456 }
     requires nesting { nesting ≤ 1002 }
-    ensures ok { IfOk result (λ p. (b : grammar.Body) × IsBody content.now b × IsPiece body_form nesting p b) }
+    ensures ok { IfOk result (λ p. (b : grammar.BodyNode) × IsBody content.now b × IsPiece body_form nesting p b) }
     ensures malformed { IsErrOf result Fault.Malformed → IsNoBody content.now }
 {
     let mut cursor = Cursor::new(content);
@@ -68,7 +68,7 @@ pub struct Bodies;
 impl Entry for Bodies {
     type Value = Body;
 
-    ghost Shape = { grammar.Body };
+    ghost Shape = { grammar.BodyNode };
 
     ghost is = { IsSized IsBody };
 

@@ -25,7 +25,7 @@ use std::alloc::{AllocError, Global};
 
 // A global of its parts.
 fn global(alloc: Global, ty: Option<GlobalType>, init: Expr) -> Result<Piece<GlobalDef>, AllocError>
-    ensures { (bound : ℕ) (g : grammar.GlobalType) (t : grammar.Tree) → MatchOption ty (is_floating g.ty ≡ true) (λ x. g ≡ profile.global_type x) → IsBuilt bound init t → IfOk result (λ p. IsPiece global_form bound p (global_by g t)) }
+    ensures { (bound : ℕ) (g : grammar.GlobalTypeNode) (t : grammar.CodeNode) → MatchOption ty (is_floating g.ty ≡ true) (λ x. g ≡ profile.global_type_node x) → IsBuilt bound init t → IfOk result (λ p. IsPiece global_form bound p (global_by g t)) }
 {
     let Some(ty) = ty else {
         return Ok(Piece::Floats);
@@ -46,7 +46,7 @@ pub struct Globals;
 impl Entry for Globals {
     type Value = GlobalDef;
 
-    ghost Shape = { grammar.GlobalDef };
+    ghost Shape = { grammar.GlobalNode };
 
     ghost is = { IsGlobal };
 
@@ -69,7 +69,7 @@ fn element(
     offset: Expr,
     funcs: Seq<u32>,
 ) -> Result<Piece<Element>, AllocError>
-    ensures { (bound : ℕ) (t : grammar.Tree) → IsBuilt bound offset t → IfOk result (λ p. IsPiece element_form bound p (element_by table t funcs)) }
+    ensures { (bound : ℕ) (t : grammar.CodeNode) → IsBuilt bound offset t → IfOk result (λ p. IsPiece element_form bound p (element_by table t funcs)) }
 {
     match offset {
         Expr::Built(offset) => Ok(Piece::Whole(Element {
@@ -98,7 +98,7 @@ pub struct Elements;
 impl Entry for Elements {
     type Value = Element;
 
-    ghost Shape = { grammar.Element };
+    ghost Shape = { grammar.ElementNode };
 
     ghost is = { IsElement };
 
@@ -142,7 +142,7 @@ fn segment(
     offset: Expr,
     bytes: Seq<u8>,
 ) -> Result<Piece<Segment>, AllocError>
-    ensures { (bound : ℕ) (t : grammar.Tree) → IsBuilt bound offset t → IfOk result (λ p. IsPiece segment_form bound p (segment_by memory t bytes)) }
+    ensures { (bound : ℕ) (t : grammar.CodeNode) → IsBuilt bound offset t → IfOk result (λ p. IsPiece segment_form bound p (segment_by memory t bytes)) }
 {
     match offset {
         Expr::Built(offset) => Ok(Piece::Whole(Segment {
@@ -171,7 +171,7 @@ pub struct Segments;
 impl Entry for Segments {
     type Value = Segment;
 
-    ghost Shape = { grammar.Segment };
+    ghost Shape = { grammar.SegmentNode };
 
     ghost is = { IsSegment };
 

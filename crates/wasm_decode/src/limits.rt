@@ -1,7 +1,7 @@
 // Which quantities of a module are above their limits.
 
 ghost use Rattle.std.specs.Prelude.{◌≡◌, ◌<◌, ◌≤◌, ◌^◌, ◌++◌, ℕ, List, length, map, MatchOption};
-ghost use Rattle.module_ast.specs.Profile.{AreWithin, IsFirstAbove, IsFirstExceeded, bound_of, counts_of, order_of, locals_of};
+ghost use Rattle.module_ast.specs.Profile.{AreWithin, IsFirstAbove, IsFirstExceeded, bound_of, limited_counts, order_of, locals_of};
 ghost use Rattle.module_ast.specs.declared.module.FuncType.{FuncType};
 ghost use Rattle.module_ast.specs.declared.module.Body.{Body};
 ghost use Rattle.module_ast.specs.declared.module.Which.{Which};
@@ -52,7 +52,7 @@ fn first_locals(bodies: &[Body], bound: u32) -> Option<u64>
 /// The first of functions, types, parameters and locals that is above its limit, and its number.
 pub fn first_exceeded(kept: &Module, limits: &Limits) -> Option<(Which, u64)>
     requires few { AreFew kept.now.bodies }
-    ensures { MatchOption result ((w : Which) → order_of w < 4 → AreWithin (bound_of limits.now w) (counts_of kept.now w)) (λ p. (order_of p.0 < 4) × IsFirstExceeded limits.now kept.now p.0 p.1) }
+    ensures { MatchOption result ((w : Which) → order_of w < 4 → AreWithin (bound_of limits.now w) (limited_counts kept.now w)) (λ p. (order_of p.0 < 4) × IsFirstExceeded limits.now kept.now p.0 p.1) }
 {
     let functions = Counts::of(kept).funcs as u64;
     if functions > limits.functions as u64 {

@@ -29,7 +29,7 @@ pub fn read_name(alloc: Global, cursor: &mut Cursor) -> Result<Name, Fault>
 
 // What is imported (5.5.5); `None` is a global of a floating type.
 fn item(cursor: &mut Cursor) -> Result<Option<Item>, Bad>
-    ensures ok { IfOk result (λ o. (i : grammar.Item) × IsFront IsItem cursor.old.left cursor.new.left i × MatchOption o (item_floats i ≡ true) (λ x. i ≡ profile.item x)) }
+    ensures ok { IfOk result (λ o. (i : grammar.ItemNode) × IsFront IsItem cursor.old.left cursor.new.left i × MatchOption o (item_floats i ≡ true) (λ x. i ≡ profile.item_node x)) }
     ensures bad { OnErr result (HasNoFront IsItem cursor.old.left) }
 {
     let byte = cursor.byte()?;
@@ -60,7 +60,7 @@ pub struct Imports;
 impl Entry for Imports {
     type Value = Import;
 
-    ghost Shape = { grammar.Import };
+    ghost Shape = { grammar.ImportNode };
 
     ghost is = { IsImport };
 
@@ -99,7 +99,7 @@ pub struct Exports;
 impl Entry for Exports {
     type Value = Export;
 
-    ghost Shape = { grammar.Export };
+    ghost Shape = { grammar.ExportNode };
 
     ghost is = { IsExport };
 

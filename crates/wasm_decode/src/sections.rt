@@ -2,8 +2,8 @@
 
 ghost use Rattle.std.specs.Prelude.{◌≡◌, ◌≤◌, ℕ, List, length, IfOk, IsErrOf};
 ghost use Rattle.leb_binary.specs.Leb.{IsFront};
-ghost use Rattle.module_ast.specs.Grammar.{Module, Section, IsU32, IsVec, IsSized, IsCustom, IsContent, id_of, with_section};
-ghost use Rattle.wasm_decode.specs.Drafts.{IsRead, IsDraft};
+ghost use Rattle.module_ast.specs.Grammar.{ModuleNode, Section, IsU32, IsVec, IsSized, IsCustom, IsContent, id_of, with_section};
+ghost use Rattle.wasm_decode.specs.Drafts.{IsVectorRead, IsDraft};
 
 use crate::bodies::Bodies;
 use crate::codes::{Elements, Globals, Segments};
@@ -20,7 +20,7 @@ use std::alloc::Global;
 fn whole<E: Entry>(alloc: Global, content: &[u8], nesting: u32) -> Result<Part<E::Value>, Fault>
     requires bytes { length content.now ≤ 268435456 }
     requires nesting { nesting ≤ 1002 }
-    ensures ok { IfOk result (λ p. (gs : List E.Shape) × IsVec E.is content.now gs × IsRead E.form nesting p gs) }
+    ensures ok { IfOk result (λ p. (gs : List E.Shape) × IsVec E.is content.now gs × IsVectorRead E.form nesting p gs) }
     ensures malformed { IsErrOf result Fault.Malformed → (gs : List E.Shape) → IsVec E.is content.now gs → ⊥ }
 {
     let mut cursor = Cursor::new(content);
@@ -67,7 +67,7 @@ pub fn read_content(
 ) -> Result<(), Fault>
     requires bytes { length content.now ≤ 268435456 }
     requires nesting { nesting ≤ 1002 }
-    ensures ok { IfOk result (λ _. (s : Section) × (id ≡ id_of s.0) × IsContent s.0 content.now s.1 × ((m : Module) → IsDraft nesting draft.old m → IsDraft nesting draft.new (with_section s m))) }
+    ensures ok { IfOk result (λ _. (s : Section) × (id ≡ id_of s.0) × IsContent s.0 content.now s.1 × ((m : ModuleNode) → IsDraft nesting draft.old m → IsDraft nesting draft.new (with_section s m))) }
     ensures malformed { IsErrOf result Fault.Malformed → (s : Section) → id ≡ id_of s.0 → IsContent s.0 content.now s.1 → ⊥ }
 {
     match id {
@@ -102,7 +102,7 @@ pub fn read_section(
 ) -> Result<(), Fault>
     requires bytes { length cursor.now.left ≤ 268435456 }
     requires nesting { nesting ≤ 1002 }
-    ensures ok { IfOk result (λ _. (s : Section) × (id ≡ id_of s.0) × IsFront (IsSized (IsContent s.0)) cursor.old.left cursor.new.left s.1 × ((m : Module) → IsDraft nesting draft.old m → IsDraft nesting draft.new (with_section s m))) }
+    ensures ok { IfOk result (λ _. (s : Section) × (id ≡ id_of s.0) × IsFront (IsSized (IsContent s.0)) cursor.old.left cursor.new.left s.1 × ((m : ModuleNode) → IsDraft nesting draft.old m → IsDraft nesting draft.new (with_section s m))) }
     ensures malformed { IsErrOf result Fault.Malformed → (s : Section) (rest : List ℕ) → id ≡ id_of s.0 → IsFront (IsSized (IsContent s.0)) cursor.old.left rest s.1 → ⊥ }
 {
     let size = cursor.read_u32()?;

@@ -3,7 +3,7 @@
 ghost use Rattle.std.specs.Prelude.{◌≡◌, ◌≤◌, ℕ, MatchOption, IfOk, IsErrOf};
 ghost use Rattle.module_ast.specs.Grammar as grammar;
 ghost use Rattle.module_ast.specs.Grammar.{Kind, id_of};
-ghost use Rattle.module_ast.specs.Profile.{FloatsFirstIn, IsFirstExceeded, IsWithin, counts_of, tree_of};
+ghost use Rattle.module_ast.specs.Profile.{FloatsFirstIn, IsFirstExceeded, IsWithin, limited_counts, tree_of};
 ghost use Rattle.module_ast.specs.declared.module.Which.{Which};
 ghost use Rattle.module_ast.specs.declared.module.Which.TheVariants.{Nesting};
 ghost use Rattle.module_ast.specs.declared.module.Module.{Module};
@@ -20,7 +20,7 @@ use module_ast::seq::Seq;
 
 // The first section that has a floating node.
 fn first_float(draft: &Draft) -> Option<u16>
-    ensures { (bound : ℕ) (m : grammar.Module) → IsDraft bound draft.now m → MatchOption result (FloatsNowhere draft.now) (λ id. (kind : Kind) × FloatsFirstIn m kind × (id ≡ id_of kind)) }
+    ensures { (bound : ℕ) (m : grammar.ModuleNode) → IsDraft bound draft.now m → MatchOption result (FloatsNowhere draft.now) (λ id. (kind : Kind) × FloatsFirstIn m kind × (id ≡ id_of kind)) }
 {
     if draft.types.floats {
         return Some(1);
@@ -88,10 +88,10 @@ fn into_module(draft: Draft) -> Module
 // and `deep` is the first nesting of that code.
 fn within(kept: Module, deep: Option<u32>, limits: &Limits) -> Result<Module, DecodeFault>
     requires few { AreFew kept.bodies }
-    ensures ok { IfOk result (λ r. (m : Module) → kept ≡ without_deep limits.now.nesting m → deep ≡ first_above limits.now.nesting (counts_of m Nesting) → (r ≡ m) × IsWithin limits.now m) }
+    ensures ok { IfOk result (λ r. (m : Module) → kept ≡ without_deep limits.now.nesting m → deep ≡ first_above limits.now.nesting (limited_counts m Nesting) → (r ≡ m) × IsWithin limits.now m) }
     ensures malformed { (n : ℕ) → IsErrOf result (DecodeFault.Malformed n) → ⊥ }
     ensures float { (n : ℕ) → IsErrOf result (DecodeFault.Float n) → ⊥ }
-    ensures limit { (w : Which) (v : ℕ) → IsErrOf result (DecodeFault.Limit w v) → (m : Module) → kept ≡ without_deep limits.now.nesting m → deep ≡ first_above limits.now.nesting (counts_of m Nesting) → IsFirstExceeded limits.now m w v }
+    ensures limit { (w : Which) (v : ℕ) → IsErrOf result (DecodeFault.Limit w v) → (m : Module) → kept ≡ without_deep limits.now.nesting m → deep ≡ first_above limits.now.nesting (limited_counts m Nesting) → IsFirstExceeded limits.now m w v }
 {
     if let Some((which, value)) = first_exceeded(&kept, limits) {
         return Err(DecodeFault::Limit { which, value });
@@ -108,11 +108,11 @@ fn within(kept: Module, deep: Option<u32>, limits: &Limits) -> Result<Module, De
 
 /// The module that was read, within the limits.
 pub fn settle(draft: Draft, limits: &Limits) -> Result<Module, DecodeFault>
-    requires drafted { (g : grammar.Module) × IsDraft limits.now.nesting draft g }
-    ensures ok { IfOk result (λ m. (g : grammar.Module) → IsDraft limits.now.nesting draft g → (tree_of m ≡ g) × IsWithin limits.now m) }
+    requires drafted { (g : grammar.ModuleNode) × IsDraft limits.now.nesting draft g }
+    ensures ok { IfOk result (λ m. (g : grammar.ModuleNode) → IsDraft limits.now.nesting draft g → (tree_of m ≡ g) × IsWithin limits.now m) }
     ensures malformed { (n : ℕ) → IsErrOf result (DecodeFault.Malformed n) → ⊥ }
-    ensures float { (n : ℕ) → IsErrOf result (DecodeFault.Float n) → (g : grammar.Module) → IsDraft limits.now.nesting draft g → (kind : Kind) × FloatsFirstIn g kind × (n ≡ id_of kind) }
-    ensures limit { (w : Which) (v : ℕ) → IsErrOf result (DecodeFault.Limit w v) → (g : grammar.Module) → IsDraft limits.now.nesting draft g → (m : Module) × (tree_of m ≡ g) × IsFirstExceeded limits.now m w v }
+    ensures float { (n : ℕ) → IsErrOf result (DecodeFault.Float n) → (g : grammar.ModuleNode) → IsDraft limits.now.nesting draft g → (kind : Kind) × FloatsFirstIn g kind × (n ≡ id_of kind) }
+    ensures limit { (w : Which) (v : ℕ) → IsErrOf result (DecodeFault.Limit w v) → (g : grammar.ModuleNode) → IsDraft limits.now.nesting draft g → (m : Module) × (tree_of m ≡ g) × IsFirstExceeded limits.now m w v }
 {
     if let Some(section) = first_float(&draft) {
         return Err(DecodeFault::Float { section });

@@ -4,7 +4,7 @@ ghost use Rattle.std.specs.Prelude.{◌≡◌, ℕ, true, MatchOption, IfOk, OnE
 ghost use Rattle.leb_binary.specs.Leb.{IsFront, HasNoFront};
 ghost use Rattle.module_ast.specs.Grammar as grammar;
 ghost use Rattle.module_ast.specs.Grammar.{IsU32, IsFuncType, IsMemoryType, IsTableType, IsMutability, IsGlobalType};
-ghost use Rattle.module_ast.specs.Profile.{is_floating, global_type};
+ghost use Rattle.module_ast.specs.Profile.{is_floating, global_type_node};
 ghost use Rattle.module_ast.specs.declared.module.Range.{Range};
 ghost use Rattle.wasm_decode.specs.Kinds.{index_form, range_form, func_type_form};
 ghost use Rattle.code_decode.proofs.Items.{one_u32, one_func_type, one_memory_type, one_table_type};
@@ -42,7 +42,7 @@ pub struct FuncTypes;
 impl Entry for FuncTypes {
     type Value = FuncType;
 
-    ghost Shape = { grammar.FuncType };
+    ghost Shape = { grammar.FuncTypeNode };
 
     ghost is = { IsFuncType };
 
@@ -149,7 +149,7 @@ fn mutability(cursor: &mut Cursor) -> Result<bool, Bad>
 
 /// Takes the type of a global (5.3.7); `None` is of a floating one. After an `Err` it is not told where the cursor stands.
 pub fn global_type(cursor: &mut Cursor) -> Result<Option<GlobalType>, Bad>
-    ensures ok { IfOk result (λ o. (g : grammar.GlobalType) × IsFront IsGlobalType cursor.old.left cursor.new.left g × MatchOption o (is_floating g.ty ≡ true) (λ t. g ≡ global_type t)) }
+    ensures ok { IfOk result (λ o. (g : grammar.GlobalTypeNode) × IsFront IsGlobalType cursor.old.left cursor.new.left g × MatchOption o (is_floating g.ty ≡ true) (λ t. g ≡ global_type_node t)) }
     ensures bad { OnErr result (HasNoFront IsGlobalType cursor.old.left) }
 {
     let ty = val_type(cursor)?;

@@ -4,7 +4,7 @@
 ghost use Rattle.std.specs.Prelude.{◌≡◌, ◌<◌, ◌≤◌, ◌^◌, ℕ, length, All, IfOk, IsErrOf};
 ghost use Rattle.module_ast.specs.declared.module.Body.{Body};
 ghost use Rattle.module_ast.specs.declared.module.Which.TheVariants.{Nesting};
-ghost use Rattle.module_ast.specs.Profile.{locals_of, counts_of, AreWithin};
+ghost use Rattle.module_ast.specs.Profile.{locals_of, limited_counts, AreWithin};
 ghost use Rattle.module_ast.specs.Canonical.{module_bytes};
 ghost use Rattle.wasm_encode.specs.declared.EncodeFault.TheVariants.{TooLarge, NoMemory};
 
@@ -51,7 +51,7 @@ pub fn encode(alloc: Global, m: &Module, max: u64) -> Result<Vec<u8>, EncodeFaul
     requires most { max ≤ 268435456 }
     requires bodies { length m.now.funcs ≡ length m.now.bodies }
     requires locals { All (λ (b : Body). locals_of b.groups < 2 ^ 32) m.now.bodies }
-    requires nesting { AreWithin 1002 (counts_of m.now Nesting) }
+    requires nesting { AreWithin 1002 (limited_counts m.now Nesting) }
     requires room { length (module_bytes m.now) < 2 ^ 63 }
     ensures ok { IfOk result (λ bytes. bytes.items ≡ module_bytes m.now) }
     ensures few { IfOk result (λ bytes. length bytes.items ≤ max) }

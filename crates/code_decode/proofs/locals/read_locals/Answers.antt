@@ -1,6 +1,6 @@
 use Rattle.std.proofs.Common.{◌≤◌, ◌<◌, ◌^◌, arith, [], ◌∷◌, ◌++◌, length-append}
 use Rattle.module_ast.specs.Grammar.{IsGroup, local_count}
-use Rattle.module_ast.specs.Profile.{group}
+use Rattle.module_ast.specs.Profile.{group_node}
 use Rattle.module_ast.proofs.Compose.{read_more, vec_none, vec_stuck, vec_some}
 use Rattle.code_decode.specs.Locals.{group_floats}
 use Rattle.code_decode.proofs.Bodies.{local_count_push, locals_some, locals_none, locals_many}
@@ -24,11 +24,11 @@ loop-i-preserved c =
       | in-Some+in_ok-push-in-Some w ↦
           let r = rw w.in-Some.is at c.in_ok-count.ensures.ok in
           rw (w.items-is, w.floats-is, w.in_ok-push-in-Some.ensures.items)
-          (i.0 ++ r.0 ∷ [], read_more IsGroup _ _ _ i.0 r.0 i.1 r.1, omega (arith, length-append i.0 (r.0 ∷ []), i.2), stand_push group_floats group _ _ _ i.0 r.0 i.3 (group_stands r.0 _ _ r.2 r.3), omega (arith, i.4, r.2, local_count_push i.0 r.0), omega (arith, i.5))
+          (i.0 ++ r.0 ∷ [], read_more IsGroup _ _ _ i.0 r.0 i.1 r.1, omega (arith, length-append i.0 (r.0 ∷ []), i.2), stand_push group_floats group_node _ _ _ i.0 r.0 i.3 (group_stands r.0 _ _ r.2 r.3), omega (arith, i.4, r.2, local_count_push i.0 r.0), omega (arith, i.5))
       | in-None w ↦
           let r = rw w.in-None.is at c.in_ok-count.ensures.ok in
           rw (w.items-is, w.floats-is)
-          (i.0 ++ r.0 ∷ [], read_more IsGroup _ _ _ i.0 r.0 i.1 r.1, omega (arith, length-append i.0 (r.0 ∷ []), i.2), stand_float group_floats group c.loop-i.items.items i.0 r.0 r.3, omega (arith, i.4, r.2, local_count_push i.0 r.0), omega (arith, i.5))
+          (i.0 ++ r.0 ∷ [], read_more IsGroup _ _ _ i.0 r.0 i.1 r.1, omega (arith, length-append i.0 (r.0 ∷ []), i.2), stand_float group_floats group_node c.loop-i.items.items i.0 r.0 r.3, omega (arith, i.4, r.2, local_count_push i.0 r.0), omega (arith, i.5))
     ]
 
 pub returns-then-total-clause-malformed : goal.returns-then-total-clause-malformed

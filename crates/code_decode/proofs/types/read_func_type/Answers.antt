@@ -1,5 +1,5 @@
 use Rattle.std.proofs.Common.{ℕ, List, arith, ap, ◌∙◌}
-use Rattle.module_ast.specs.Grammar.{FuncType, NumberType, IsValType, IsVec, Both, integer}
+use Rattle.module_ast.specs.Grammar.{FuncTypeNode, NumberType, IsValType, IsVec, Both, integer}
 use Rattle.std.specs.Prelude.{map}
 use Rattle.module_ast.specs.Profile.{is_floating, some_in}
 use Rattle.module_ast.proofs.Compose.{both_none_first, both_none_second, both_some, one_vec, op_some, op_none, op_end}
@@ -8,16 +8,16 @@ use Rattle.std.proofs.lemmas.Bool.{or_left, or_right}
 use Rattle.code_decode.proofs.Faults.{passed_on}
 use Rattle.code_decode.proofs.types.read_func_type.Goals as goal
 
-params : FuncType → List NumberType
+params : FuncTypeNode → List NumberType
 params f = f.params
 
-results : FuncType → List NumberType
+results : FuncTypeNode → List NumberType
 results f = f.results
 
-abbrev type_by : List NumberType → List NumberType → FuncType
+abbrev type_by : List NumberType → List NumberType → FuncTypeNode
 type_by p r = record { params = p; results = r }
 
-abbrev AreBoth : List ℕ → FuncType → Type 0
+abbrev AreBoth : List ℕ → FuncTypeNode → Type 0
 AreBoth rest f = Both (IsVec IsValType) (IsVec IsValType) rest f.params f.results
 
 pub returns-in_err-form-clause-malformed : goal.returns-in_err-form-clause-malformed

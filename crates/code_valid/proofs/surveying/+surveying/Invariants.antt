@@ -4,7 +4,7 @@ use Rattle.module_ast.specs.Seen.{before, code_of}
 use Rattle.module_ast.specs.Positions.{code_size}
 use Rattle.module_ast.specs.declared.code.Instr.TheVariants.{If}
 use Rattle.code_valid.specs.Survey.{survey}
-use Rattle.code_valid.specs.Control.{here, with_here, context_in}
+use Rattle.code_valid.specs.Control.{innermost_stack, with_innermost_stack, context_in}
 use Rattle.code_valid.proofs.surveying.+surveying.Given as goal
 
 abbrev pub decreases-survey_code : goal.decreases-survey_code
@@ -21,8 +21,8 @@ decreases-survey_instr l = 4 * weight (before l.instr.now done) + 1
 
 abbrev pub invariant-survey_code-loop-instr : goal.invariant-survey_code-loop-instr
 invariant-survey_code-loop-instr l = record {
-  same : l.blocks ≡ with_here (here l.blocks) l.initial.blocks;
-  so_far : survey (context_in l.env l.initial.blocks) l.initial.blocks.innermost.base (code_of (drop l.instr-index l.instr-items)) (here l.blocks) l.walk ≡ survey (context_in l.env l.initial.blocks) l.initial.blocks.innermost.base l.code (here l.initial.blocks) l.initial.walk;
+  same : l.blocks ≡ with_innermost_stack (innermost_stack l.blocks) l.initial.blocks;
+  so_far : survey (context_in l.env l.initial.blocks) l.initial.blocks.innermost.base (code_of (drop l.instr-index l.instr-items)) (innermost_stack l.blocks) l.walk ≡ survey (context_in l.env l.initial.blocks) l.initial.blocks.innermost.base l.code (innermost_stack l.initial.blocks) l.initial.walk;
   lighter : weight (code_of (drop l.instr-index l.instr-items)) ≤ weight l.code;
   position : l.walk.position + code_size (code_of (drop l.instr-index l.instr-items)) ≡ l.initial.walk.position + code_size l.code;
 }

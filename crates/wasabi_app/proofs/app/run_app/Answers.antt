@@ -1,7 +1,7 @@
 -- How the command ended says each clause.
 use Rattle.std.proofs.Common.{◌≡◌, None, arith}
 use Rattle.wasabi_app.specs.Files.{IsNoModule, IsUnfit, IsInvalid}
-use Rattle.wasabi_app.specs.Ends.{IsOver}
+use Rattle.wasabi_app.specs.Ends.{IsAboveCap}
 use Rattle.wasabi_app.proofs.Causes.{ends_inverted, why_of, any_shelf, check_keeps, is_written, is_kept}
 use Rattle.wasabi_app.proofs.Told.{none, over, malformed, unfit, invalid, decides, decides_file, decides_other_form, checks_all, completes}
 use Rattle.wasabi_app.proofs.app.run_app.Goals as goal
@@ -61,7 +61,7 @@ pub returns-clause-missing : goal.returns-clause-missing
 returns-clause-missing g c = decides _ _ _ _ (c.tell.ensures.ended _ _ _ c.answer-ending.ensures.ended) (λ read found. found ≡ None) 3 (λ k. omega arith) (λ contents read p. none p)
 
 pub returns-clause-too_long : goal.returns-clause-too_long
-returns-clause-too_long g c = decides _ _ _ _ (c.tell.ensures.ended _ _ _ c.answer-ending.ensures.ended) IsOver 3 (λ k. omega arith) (λ contents read p. over p)
+returns-clause-too_long g c = decides _ _ _ _ (c.tell.ensures.ended _ _ _ c.answer-ending.ensures.ended) IsAboveCap 3 (λ k. omega arith) (λ contents read p. over p)
 
 pub returns-clause-malformed_file : goal.returns-clause-malformed_file
 returns-clause-malformed_file g c = decides_file _ _ _ _ (c.tell.ensures.ended _ _ _ c.answer-ending.ensures.ended) (λ limits bytes. IsNoModule bytes) 6 (λ k. omega arith) (λ limits bytes p. malformed p)

@@ -13,4 +13,4 @@ pub returns-in_ok-init-in-Deep : goal.returns-in_ok-init-in-Deep
 returns-in_ok-init-in-Deep c = λ bound g t p q.
     let r = rw c.in-Deep.is at q in
     let e = rw c.in-Some.is at p in
-    (global_of c.in-Some.ty r.0, ap (λ v. global_by v t) e ∙ ap (λ u. global_by (profile.global_type c.in-Some.ty) u) r.1, ap (λ u. global_of c.in-Some.ty u) c.in_ok-init-in-Deep.ensures, r.2, r.3)
+    (global_of c.in-Some.ty r.0, ap (λ v. global_by v t) e ∙ ap (λ u. global_by (profile.global_type_node c.in-Some.ty) u) r.1, ap (λ u. global_of c.in-Some.ty u) c.in_ok-init-in-Deep.ensures, r.2, r.3)

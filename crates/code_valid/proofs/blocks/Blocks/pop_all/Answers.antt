@@ -1,7 +1,7 @@
 use Rattle.std.proofs.Common.{arith, ◌∙◌, ◌-◌, ap, sym, take}
 use Rattle.std.proofs.lemmas.Result.{err_from_is_err_and}
-use Rattle.code_valid.specs.Checking.{pop_all}
-use Rattle.code_valid.specs.Control.{here}
+use Rattle.code_valid.specs.Checking.{take_types}
+use Rattle.code_valid.specs.Control.{innermost_stack}
 use Rattle.code_valid.proofs.Moves.{pop_more, pop_fails, on_refusal, refused, kept}
 use Rattle.code_valid.proofs.blocks.Blocks.pop_all.Goals as goal
 
@@ -11,7 +11,7 @@ loop-left-preserved c =
     record {
       within = omega arith;
       so_far = c.loop-left.invariant.so_far ∙ pop_more _ c.loop-left.left _ _ _ _ (omega arith) (omega arith) h.1
-          ∙ ap (λ z. pop_all (take (c.loop-left.left - 1) c.args.types.now) (here z)) (sym h.2);
+          ∙ ap (λ z. take_types (take (c.loop-left.left - 1) c.args.types.now) (innermost_stack z)) (sym h.2);
       same = kept c.args.self.now c.loop-left.self c.pop.new.self h.0 c.loop-left.invariant.same h.2;
     }
 

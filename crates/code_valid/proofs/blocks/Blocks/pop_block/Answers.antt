@@ -1,6 +1,6 @@
 use Rattle.std.proofs.Common.{ap}
 use Rattle.std.proofs.lemmas.Result.{err_from_is_err_and}
-use Rattle.code_valid.specs.Control.{parted}
+use Rattle.code_valid.specs.Control.{control_of}
 use Rattle.code_valid.proofs.Moves.{by_mismatch, refused}
 use Rattle.code_valid.proofs.Parted.{closed, not_closed}
 use Rattle.code_valid.proofs.blocks.Blocks.pop_block.Goals as goal
@@ -15,4 +15,4 @@ pub returns-clause-ends : goal.returns-clause-ends
 returns-clause-ends c = rw (← c.self.view_is) ((closed c.self.inside.stack c.self.invariant c.in_ok-pop_block.field-0 c.pop_block.new.self c.in_ok-pop_block.ensures.ok).0)
 
 pub returns-clause-outer : goal.returns-clause-outer
-returns-clause-outer c = rw (← c.self.view_is) (ap parted (closed c.self.inside.stack c.self.invariant c.in_ok-pop_block.field-0 c.pop_block.new.self c.in_ok-pop_block.ensures.ok).1)
+returns-clause-outer c = rw (← c.self.view_is) (ap control_of (closed c.self.inside.stack c.self.invariant c.in_ok-pop_block.field-0 c.pop_block.new.self c.in_ok-pop_block.ensures.ok).1)

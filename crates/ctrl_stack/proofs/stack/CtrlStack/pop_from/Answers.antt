@@ -1,7 +1,7 @@
 use Rattle.std.proofs.Common.{◌≡◌, ◌-◌, Option, sym, ap, ◌∙◌, arith, length, drop}
 use Rattle.std.specs.Prelude.{reverse, option_map}
 use Rattle.std.proofs.lemmas.List.{length-reverse}
-use Rattle.ctrl_stack.specs.Stack.{Stack, base_of, dead_of, lowered, pop_at_base}
+use Rattle.ctrl_stack.specs.Stack.{Stack, base_of, dead_of, lowest_operands, pop_at_base}
 use Rattle.wasm_num.specs.declared.ValType.{ValType}
 use Rattle.ctrl_stack.proofs.Pops.{pop-lowered, pop-lowered_base, with_operands}
 use Rattle.ctrl_stack.proofs.stack.CtrlStack.pop_from.Goals as goal
@@ -14,7 +14,7 @@ returns-in_err-ty c =
     rw c.from_residual.ensures
     (pop-lowered c.args.self.now c.self.inside.operands.items c.args.height c.index.result.now c.args.expected
     (ap (λ (s : Stack). s.operands) (sym c.self.view_is)) (omega (arith, base)) (omega (arith, size, length-reverse c.self.inside.operands.items)) c.requires c.index.ensures
-    ∙ ap (option_map (λ (y : Option ValType). (y, lowered (c.args.height - 1) c.args.self.now))) (sym c.meet.ensures ∙ c.in_err-ty.was))
+    ∙ ap (option_map (λ (y : Option ValType). (y, lowest_operands (c.args.height - 1) c.args.self.now))) (sym c.meet.ensures ∙ c.in_err-ty.was))
 
 pub returns-in_ok-ty : goal.returns-in_ok-ty
 returns-in_ok-ty c =
@@ -24,7 +24,7 @@ returns-in_ok-ty c =
       omega arith,
       pop-lowered c.args.self.now c.self.inside.operands.items c.args.height c.index.result.now c.args.expected
           (ap (λ (s : Stack). s.operands) (sym c.self.view_is)) (omega (arith, base)) (omega (arith, size, length-reverse c.self.inside.operands.items)) c.requires c.index.ensures
-          ∙ ap (option_map (λ (y : Option ValType). (y, lowered (c.args.height - 1) c.args.self.now))) (sym c.meet.ensures ∙ c.in_ok-ty.was),
+          ∙ ap (option_map (λ (y : Option ValType). (y, lowest_operands (c.args.height - 1) c.args.self.now))) (sym c.meet.ensures ∙ c.in_ok-ty.was),
     )
 
 pub returns-then-dead : goal.returns-then-dead

@@ -4,7 +4,7 @@ use Rattle.std.proofs.lemmas.List.{reverse-append, length-reverse}
 use Rattle.std.proofs.lemmas.Bool.{eqb-false}
 use Rattle.wasm_num.specs.declared.ValType.{ValType}
 use Rattle.ctrl_stack.specs.declared.frame.Frame.{Frame}
-use Rattle.ctrl_stack.specs.Stack.{Stack, AreNested}
+use Rattle.ctrl_stack.specs.Stack.{Stack, AreBasesOrdered}
 use Rattle.ctrl_stack.proofs.Answered.{PopsAll, pops_all_some, opened_nested, opened_view, with_block_some}
 use Rattle.ctrl_stack.proofs.stack.CtrlStack.push_block.Goals as goal
 
@@ -21,7 +21,7 @@ invariant_of-self-2 c =
     let put : new ≡ take c.in_ok-base.base items ++ map Some a = c.in_ok-put_above.ensures.ok ∙ ap (λ ts. take c.in_ok-base.base items ++ map Some ts) c.as_slice-2.ensures in
     let frames : reverse c.push.new.self.items ≡ frame ∷ reverse fs =
     ap reverse (c.in_ok-push.ensures.items ∙ ap (λ xs. xs ++ frame ∷ []) c.reserve.ensures.items) ∙ reverse-append fs (frame ∷ []) in
-    subst (λ gs. AreNested gs (length new)) (sym frames) (opened_nested c.args.kind a c.args.results c.in_ok-base.base s fs items new c.self.view_is got.0 got.1 put c.self.invariant)
+    subst (λ gs. AreBasesOrdered gs (length new)) (sym frames) (opened_nested c.args.kind a c.args.results c.in_ok-base.base s fs items new c.self.view_is got.0 got.1 put c.self.invariant)
 
 pub returns-clause-ok : goal.returns-clause-ok
 returns-clause-ok c =

@@ -1,5 +1,5 @@
 use Rattle.std.proofs.Common.{arith}
-use Rattle.outside_io.specs.Calls.{made}
+use Rattle.outside_io.specs.Calls.{calls_made}
 use Rattle.outside_io.proofs.Counting.{listed_below-length, listed_below-next, made-next}
 use Rattle.outside_io.proofs.calls.Calls.count.Goals as goal
 
@@ -7,7 +7,7 @@ use Rattle.outside_io.proofs.calls.Calls.count.Goals as goal
 pub returns-in_err-number-clause-room : goal.returns-in_err-number-clause-room
 returns-in_err-number-clause-room c =
     let fails = c.self.inside.fails in
-    rw (← c.self.view_is) (omega (arith, fails.ok, fails.small, listed_below-length fails.items (made c.self.inside.next)))
+    rw (← c.self.view_is) (omega (arith, fails.ok, fails.small, listed_below-length fails.items (calls_made c.self.inside.next)))
 
 -- the call that was made is counted where it is listed
 pub returns-clause-made : goal.returns-clause-made
@@ -19,4 +19,4 @@ returns-clause-made c =
 pub returns-clause-room : goal.returns-clause-room
 returns-clause-room c =
     let fails = c.self.inside.fails in
-    omega (arith, fails.ok, fails.small, listed_below-length fails.items (made c.checked_add-self-inside.result))
+    omega (arith, fails.ok, fails.small, listed_below-length fails.items (calls_made c.checked_add-self-inside.result))

@@ -1,6 +1,6 @@
 use Rattle.std.proofs.Common.{arith, ℕ, List, subst, rules}
 use Rattle.leb_binary.proofs.Fronts.{one_unsigned}
-use Rattle.module_ast.specs.Grammar.{Both, Element, Tree, IsU32, IsVec, IsExpr}
+use Rattle.module_ast.specs.Grammar.{Both, ElementNode, CodeNode, IsU32, IsVec, IsExpr}
 use Rattle.module_ast.proofs.Compose.{both_none_first, both_none_second, both_some}
 use Rattle.code_decode.proofs.Unique.{one_expr}
 use Rattle.wasm_decode.specs.Makes.{element_by}
@@ -10,19 +10,19 @@ use Rattle.wasm_decode.proofs.Fronts.{expr_front, front_shorter}
 use Rattle.wasm_decode.proofs.codes.ElementsEntry.read.Goals as goal
 
 -- the offset and the functions
-abbrev Behind : List ℕ → Tree × List ℕ → Type 0
+abbrev Behind : List ℕ → CodeNode × List ℕ → Type 0
 Behind rest p = Both IsExpr (IsVec IsU32) rest p.0 p.1
 
-abbrev table_of : Element → ℕ
+abbrev table_of : ElementNode → ℕ
 table_of e = e.table
 
-abbrev behind_of : Element → Tree × List ℕ
+abbrev behind_of : ElementNode → CodeNode × List ℕ
 behind_of e = (e.offset, e.funcs)
 
-abbrev offset_of : Tree × List ℕ → Tree
+abbrev offset_of : CodeNode × List ℕ → CodeNode
 offset_of p = p.0
 
-abbrev funcs_of : Tree × List ℕ → List ℕ
+abbrev funcs_of : CodeNode × List ℕ → List ℕ
 funcs_of p = p.1
 
 pub returns-in_err-table-clause-malformed : goal.returns-in_err-table-clause-malformed

@@ -1,15 +1,15 @@
 use Rattle.std.proofs.Common.{arith, rules}
-use Rattle.module_ast.specs.Grammar.{GlobalDef, GlobalType, Tree, IsGlobalType, IsExpr}
+use Rattle.module_ast.specs.Grammar.{GlobalNode, GlobalTypeNode, CodeNode, IsGlobalType, IsExpr}
 use Rattle.module_ast.proofs.Compose.{both_none_first, both_none_second, both_some}
 use Rattle.code_decode.proofs.Items.{one_global_type}
 use Rattle.wasm_decode.specs.Makes.{global_by}
 use Rattle.wasm_decode.proofs.Fronts.{expr_front, front_shorter}
 use Rattle.wasm_decode.proofs.codes.GlobalsEntry.read.Goals as goal
 
-abbrev type_of : GlobalDef → GlobalType
+abbrev type_of : GlobalNode → GlobalTypeNode
 type_of g = g.ty
 
-abbrev init_of : GlobalDef → Tree
+abbrev init_of : GlobalNode → CodeNode
 init_of g = g.init
 
 pub returns-in_err-ty-clause-malformed : goal.returns-in_err-ty-clause-malformed

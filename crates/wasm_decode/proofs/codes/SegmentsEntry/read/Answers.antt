@@ -1,6 +1,6 @@
 use Rattle.std.proofs.Common.{arith, ℕ, List, subst, rules}
 use Rattle.leb_binary.proofs.Fronts.{one_unsigned}
-use Rattle.module_ast.specs.Grammar.{Both, Segment, Tree, IsU32, IsVec, IsByte, IsExpr}
+use Rattle.module_ast.specs.Grammar.{Both, SegmentNode, CodeNode, IsU32, IsVec, IsByte, IsExpr}
 use Rattle.module_ast.proofs.Compose.{both_none_first, both_none_second, both_some}
 use Rattle.code_decode.proofs.Unique.{one_expr}
 use Rattle.wasm_decode.specs.Makes.{segment_by}
@@ -10,19 +10,19 @@ use Rattle.wasm_decode.proofs.Fronts.{expr_front, front_shorter}
 use Rattle.wasm_decode.proofs.codes.SegmentsEntry.read.Goals as goal
 
 -- the offset and the bytes
-abbrev Behind : List ℕ → Tree × List ℕ → Type 0
+abbrev Behind : List ℕ → CodeNode × List ℕ → Type 0
 Behind rest p = Both IsExpr (IsVec IsByte) rest p.0 p.1
 
-abbrev memory_of : Segment → ℕ
+abbrev memory_of : SegmentNode → ℕ
 memory_of d = d.memory
 
-abbrev behind_of : Segment → Tree × List ℕ
+abbrev behind_of : SegmentNode → CodeNode × List ℕ
 behind_of d = (d.offset, d.bytes)
 
-abbrev offset_of : Tree × List ℕ → Tree
+abbrev offset_of : CodeNode × List ℕ → CodeNode
 offset_of p = p.0
 
-abbrev bytes_of : Tree × List ℕ → List ℕ
+abbrev bytes_of : CodeNode × List ℕ → List ℕ
 bytes_of p = p.1
 
 pub returns-in_err-memory-clause-malformed : goal.returns-in_err-memory-clause-malformed

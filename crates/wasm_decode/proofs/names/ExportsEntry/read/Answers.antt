@@ -3,7 +3,7 @@ use Rattle.leb_binary.specs.Texts.{Text}
 use Rattle.leb_binary.specs.Leb.{IsName}
 use Rattle.leb_binary.proofs.Fronts.{one_name}
 use Rattle.module_ast.specs.declared.module.ExportKind.{ExportKind}
-use Rattle.module_ast.specs.Grammar.{Both, IsU32, Export, IsExportKind}
+use Rattle.module_ast.specs.Grammar.{Both, IsU32, ExportNode, IsExportKind}
 use Rattle.module_ast.proofs.Compose.{both_none_first, both_none_second, both_some}
 use Rattle.code_decode.proofs.Items.{one_export_kind}
 use Rattle.wasm_decode.proofs.names.ExportsEntry.read.Goals as goal
@@ -12,13 +12,13 @@ use Rattle.wasm_decode.proofs.names.ExportsEntry.read.Goals as goal
 abbrev Behind : List ℕ → ExportKind × ℕ → Type 0
 Behind rest p = Both IsExportKind IsU32 rest p.0 p.1
 
-abbrev name_of : Export → Text
+abbrev name_of : ExportNode → Text
 name_of e = e.name
 
-abbrev behind_of : Export → ExportKind × ℕ
+abbrev behind_of : ExportNode → ExportKind × ℕ
 behind_of e = (e.kind, e.index)
 
-abbrev export_by : Text → ExportKind → ℕ → Export
+abbrev export_by : Text → ExportKind → ℕ → ExportNode
 export_by n k i = record { name = n; kind = k; index = i }
 
 pub returns-in_err-name-clause-malformed : goal.returns-in_err-name-clause-malformed

@@ -2,21 +2,21 @@ use Rattle.std.proofs.Common.{ℕ, List, ap, arith, rules}
 use Rattle.leb_binary.specs.Texts.{Text}
 use Rattle.leb_binary.specs.Leb.{IsName}
 use Rattle.leb_binary.proofs.Fronts.{one_name}
-use Rattle.module_ast.specs.Grammar.{Both, Item, Import, IsItem}
+use Rattle.module_ast.specs.Grammar.{Both, ItemNode, ImportNode, IsItem}
 use Rattle.module_ast.proofs.Compose.{both_none_first, both_none_second, both_some}
 use Rattle.wasm_decode.proofs.names.ImportsEntry.read.Goals as goal
 
 -- the second name, and what is imported
-abbrev Behind : List ℕ → Text × Item → Type 0
+abbrev Behind : List ℕ → Text × ItemNode → Type 0
 Behind rest p = Both IsName IsItem rest p.0 p.1
 
-abbrev module_of : Import → Text
+abbrev module_of : ImportNode → Text
 module_of i = i.module_name
 
-abbrev behind_of : Import → Text × Item
+abbrev behind_of : ImportNode → Text × ItemNode
 behind_of i = (i.name, i.item)
 
-abbrev import_by : Text → Text → Item → Import
+abbrev import_by : Text → Text → ItemNode → ImportNode
 import_by m n i = record { module_name = m; name = n; item = i }
 
 pub returns-in_err-module-clause-malformed : goal.returns-in_err-module-clause-malformed
@@ -24,11 +24,11 @@ returns-in_err-module-clause-malformed c = λ e. both_none_first IsName Behind m
 
 pub returns-in_err-name-clause-malformed : goal.returns-in_err-name-clause-malformed
 returns-in_err-name-clause-malformed c = λ e.
-    both_none_second IsName Behind module_of behind_of _ _ _ one_name c.in_ok-module.ensures.ok (both_none_first IsName IsItem (λ (p : Text × Item). p.0) (λ (p : Text × Item). p.1) _ (c.in_err-name.ensures.malformed (search rules)))
+    both_none_second IsName Behind module_of behind_of _ _ _ one_name c.in_ok-module.ensures.ok (both_none_first IsName IsItem (λ (p : Text × ItemNode). p.0) (λ (p : Text × ItemNode). p.1) _ (c.in_err-name.ensures.malformed (search rules)))
 
 pub returns-in_err-item-clause-malformed : goal.returns-in_err-item-clause-malformed
 returns-in_err-item-clause-malformed c = λ e.
-    both_none_second IsName Behind module_of behind_of _ _ _ one_name c.in_ok-module.ensures.ok (both_none_second IsName IsItem (λ (p : Text × Item). p.0) (λ (p : Text × Item). p.1) _ _ _ one_name c.in_ok-name.ensures.ok c.in_err-item.ensures.bad)
+    both_none_second IsName Behind module_of behind_of _ _ _ one_name c.in_ok-module.ensures.ok (both_none_second IsName IsItem (λ (p : Text × ItemNode). p.0) (λ (p : Text × ItemNode). p.1) _ _ _ one_name c.in_ok-name.ensures.ok c.in_err-item.ensures.bad)
 
 pub returns-in-Some-clause-ok : goal.returns-in-Some-clause-ok
 returns-in-Some-clause-ok c =
