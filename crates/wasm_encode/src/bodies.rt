@@ -1,6 +1,8 @@
 // The code section (5.5.13), in which each body has its size in front.
 
-ghost use Rattle.std.specs.Prelude.{◌≡◌, ◌++◌, ◌<◌, ◌^◌, OnOk, length};
+ghost use Rattle.std.specs.Prelude.{◌≡◌, ◌++◌, ◌<◌, ◌^◌, OnOk, All, length};
+ghost use Rattle.module_ast.specs.declared.module.Body.{Body};
+ghost use Rattle.module_ast.specs.Fits.{FitsCode};
 ghost use Rattle.module_ast.specs.Canonical.{body_bytes, sized_bytes, vec_bytes, vec_section};
 
 use crate::numbers::{put_size, put_sized, unsigned_length};
@@ -11,7 +13,8 @@ use std::alloc::{AllocError, Global};
 // How many bytes a body has, its size included.
 fn body_length(body: &Body) -> u64
     requires { length (sized_bytes (body_bytes body.now)) < 2 ^ 63 }
-    ensures { result ≡ length (sized_bytes (body_bytes body.now)) }
+    ensures length { result ≡ length (sized_bytes (body_bytes body.now)) }
+    ensures fit { FitsCode body.now.code }
 {
     let size = body.spelled_length();
     unsigned_length(size) + size
@@ -20,7 +23,8 @@ fn body_length(body: &Body) -> u64
 /// How many bytes the bodies have, with their number in front. It is the one call that counts them.
 pub fn bodies_length(bodies: &[Body]) -> u64
     requires { length (vec_bytes (λ b. sized_bytes (body_bytes b)) bodies.now) < 2 ^ 63 }
-    ensures { result ≡ length (vec_bytes (λ b. sized_bytes (body_bytes b)) bodies.now) }
+    ensures length { result ≡ length (vec_bytes (λ b. sized_bytes (body_bytes b)) bodies.now) }
+    ensures fit { All (λ (b : Body). FitsCode b.code) bodies.now }
 {
     let mut total = unsigned_length(bodies.len() as u64);
     for body in bodies {

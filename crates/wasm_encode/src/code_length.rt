@@ -1,9 +1,10 @@
 // How many bytes instructions have.
 
-ghost use Rattle.std.specs.Prelude.{◌≡◌, [], ◌∷◌, ◌++◌, ◌+◌, ◌<◌, ◌≤◌, ◌^◌, length};
+ghost use Rattle.std.specs.Prelude.{◌≡◌, [], ◌∷◌, ◌++◌, ◌+◌, ◌<◌, ◌≤◌, ◌^◌, All, length};
 ghost use Rattle.leb_binary.specs.Shortest.{unsigned_bytes, signed_bytes};
 ghost use Rattle.module_ast.specs.Tree.{Tree, done};
 ghost use Rattle.module_ast.specs.Seen.{before};
+ghost use Rattle.module_ast.specs.Fits.{FitsIndex, FitsCode};
 ghost use Rattle.module_ast.specs.Canonical.{vec_bytes, mem_arg_bytes, code_bytes, expr_bytes};
 
 use crate::numbers::{signed_length, unsigned_length};
@@ -21,7 +22,8 @@ fn indexed_length(index: u32) -> u64
 // A branch by a table.
 fn table_branch_length(labels: &[u32], last: u32) -> u64
     requires { 1 + length (vec_bytes unsigned_bytes labels.now ++ unsigned_bytes last) < 2 ^ 63 }
-    ensures { result ≡ 1 + length (vec_bytes unsigned_bytes labels.now ++ unsigned_bytes last) }
+    ensures length { result ≡ 1 + length (vec_bytes unsigned_bytes labels.now ++ unsigned_bytes last) }
+    ensures fit { All FitsIndex labels.now }
 {
     vec_length(labels) + indexed_length(last)
 }
@@ -44,7 +46,8 @@ fn const_length(value: i64) -> u64
 #[cycle(code_length)]
 pub fn code_length(code: &Code) -> u64
     requires { length (code_bytes code.now) < 2 ^ 63 }
-    ensures { result ≡ length (code_bytes code.now) }
+    ensures length { result ≡ length (code_bytes code.now) }
+    ensures fit { FitsCode code.now }
 {
     let mut total = 0;
     for instr in code.as_slice() {
@@ -57,7 +60,8 @@ pub fn code_length(code: &Code) -> u64
 #[cycle(code_length)]
 fn instr_length(instr: &Instr) -> u64
     requires { length (code_bytes (before instr.now done)) < 2 ^ 63 }
-    ensures { (t : Tree) → result + length (code_bytes t) ≡ length (code_bytes (before instr.now t)) }
+    ensures length { (t : Tree) → result + length (code_bytes t) ≡ length (code_bytes (before instr.now t)) }
+    ensures fit { (t : Tree) → FitsCode t → FitsCode (before instr.now t) }
 {
     match instr {
         Instr::Unreachable => 1,
@@ -92,7 +96,8 @@ fn instr_length(instr: &Instr) -> u64
 /// How many bytes instructions have with the `end` behind them (5.4.9).
 pub fn expr_length(code: &Code) -> u64
     requires { length (expr_bytes code.now) < 2 ^ 63 }
-    ensures { result ≡ length (expr_bytes code.now) }
+    ensures length { result ≡ length (expr_bytes code.now) }
+    ensures fit { FitsCode code.now }
 {
     code_length(code) + 1
 }

@@ -4,8 +4,9 @@
 ghost use Rattle.std.specs.Prelude.{◌≡◌, ◌<◌, ◌≤◌, ◌^◌, ℕ, length, All, IfOk, IsErrOf};
 ghost use Rattle.module_ast.specs.declared.module.Body.{Body};
 ghost use Rattle.module_ast.specs.declared.module.Which.TheVariants.{Nesting};
-ghost use Rattle.module_ast.specs.Profile.{locals_of, limited_counts, AreWithin};
-ghost use Rattle.module_ast.specs.Canonical.{module_bytes};
+ghost use Rattle.module_ast.specs.Grammar.{IsModule};
+ghost use Rattle.module_ast.specs.Profile.{locals_of, limited_counts, AreWithin, tree_of};
+ghost use Rattle.module_ast.specs.Canonical.{module_bytes, without_customs};
 ghost use Rattle.wasm_encode.specs.declared.EncodeFault.TheVariants.{TooLarge, NoMemory};
 
 mod bodies;
@@ -44,6 +45,7 @@ impl From<AllocError> for EncodeFault {
 }
 
 /// The canonical bytes of a module (5): every number in its shortest spelling, no section without entries, no custom one.
+/// They are in the grammar, as the module without its custom sections.
 ///
 /// `max` is how many bytes there may be. Where there are more, the answer is `TooLarge` with their number, and nothing
 /// is allocated; so `NoMemory` comes only where they are few enough.
@@ -54,6 +56,7 @@ pub fn encode(alloc: Global, m: &Module, max: u64) -> Result<Vec<u8>, EncodeFaul
     requires nesting { AreWithin 1002 (limited_counts m.now Nesting) }
     requires room { length (module_bytes m.now) < 2 ^ 63 }
     ensures ok { IfOk result (λ bytes. bytes.items ≡ module_bytes m.now) }
+    ensures grammar { IfOk result (λ bytes. IsModule bytes.items (tree_of (without_customs m.now))) }
     ensures few { IfOk result (λ bytes. length bytes.items ≤ max) }
     ensures large { (n : ℕ) → IsErrOf result (TooLarge n) → (n ≡ length (module_bytes m.now)) × (max < n) }
     ensures memory { IsErrOf result NoMemory → length (module_bytes m.now) ≤ max }

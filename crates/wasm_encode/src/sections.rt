@@ -1,6 +1,7 @@
 // The entries of the sections (5.5), and the start section.
 
 ghost use Rattle.std.specs.Prelude.{◌≡◌, ◌++◌, ◌<◌, ◌^◌, OnOk, length};
+ghost use Rattle.module_ast.specs.Fits.{FitsCode, FitsOption, FitsImport, FitsGlobal, FitsExport, FitsElement, FitsSegment};
 ghost use Rattle.module_ast.specs.Canonical.{sized_bytes, import_bytes, global_bytes, kind_byte, export_bytes, element_bytes, group_bytes, body_bytes, segment_bytes, start_bytes};
 
 use crate::code::put_expr;
@@ -32,6 +33,8 @@ fn put_name(out: &mut Vec<u8>, name: &Name) -> Result<(), AllocError>
 impl Encode for Import {
     ghost bytes = { import_bytes };
 
+    ghost fits = { FitsImport };
+
     fn spelled_length(&self) -> u64 {
         name_length(&self.module) + name_length(&self.name) + self.item.spelled_length()
     }
@@ -46,6 +49,8 @@ impl Encode for Import {
 // 5.5.9
 impl Encode for GlobalDef {
     ghost bytes = { global_bytes };
+
+    ghost fits = { FitsGlobal };
 
     fn spelled_length(&self) -> u64 {
         self.ty.spelled_length() + expr_length(&self.init)
@@ -73,6 +78,8 @@ fn kind_byte(kind: ExportKind) -> u8
 impl Encode for Export {
     ghost bytes = { export_bytes };
 
+    ghost fits = { FitsExport };
+
     fn spelled_length(&self) -> u64 {
         name_length(&self.name) + 1 + unsigned_length(u64::from(self.index))
     }
@@ -87,6 +94,8 @@ impl Encode for Export {
 // 5.5.12
 impl Encode for Element {
     ghost bytes = { element_bytes };
+
+    ghost fits = { FitsElement };
 
     fn spelled_length(&self) -> u64 {
         unsigned_length(u64::from(self.table))
@@ -105,6 +114,8 @@ impl Encode for Element {
 impl Encode for Segment {
     ghost bytes = { segment_bytes };
 
+    ghost fits = { FitsSegment };
+
     fn spelled_length(&self) -> u64 {
         unsigned_length(u64::from(self.memory))
             + expr_length(&self.offset)
@@ -122,6 +133,8 @@ impl Encode for Segment {
 impl Encode for Group {
     ghost bytes = { group_bytes };
 
+    ghost fits = { λ _. Unit {0} };
+
     fn spelled_length(&self) -> u64 {
         unsigned_length(u64::from(self.count)) + 1
     }
@@ -137,6 +150,8 @@ impl Encode for Group {
 impl Encode for Body {
     ghost bytes = { body_bytes };
 
+    ghost fits = { λ b. FitsCode b.code };
+
     fn spelled_length(&self) -> u64 {
         vec_length(self.groups.as_slice()) + expr_length(&self.code)
     }
@@ -149,7 +164,8 @@ impl Encode for Body {
 
 /// How many bytes the start section has.
 pub fn start_length(start: Option<u32>) -> u64
-    ensures { result ≡ length (start_bytes start) }
+    ensures length { result ≡ length (start_bytes start) }
+    ensures fit { FitsOption start }
 {
     let Some(func) = start else {
         return 0;

@@ -1,6 +1,7 @@
 // The section of tables (5.5.7), whose limits have a byte before them.
 
-ghost use Rattle.std.specs.Prelude.{◌≡◌, ◌++◌, ◌<◌, ◌^◌, OnOk, length};
+ghost use Rattle.std.specs.Prelude.{◌≡◌, ◌++◌, ◌<◌, ◌^◌, OnOk, All, length};
+ghost use Rattle.module_ast.specs.Fits.{FitsRange};
 ghost use Rattle.module_ast.specs.Canonical.{table_bytes, vec_bytes, vec_section};
 
 use crate::numbers::{put_size, unsigned_length};
@@ -11,7 +12,8 @@ use std::alloc::AllocError;
 // How many bytes the tables have, with their number in front.
 fn tables_length(tables: &[Range]) -> u64
     requires { length (vec_bytes table_bytes tables.now) < 2 ^ 63 }
-    ensures { result ≡ length (vec_bytes table_bytes tables.now) }
+    ensures length { result ≡ length (vec_bytes table_bytes tables.now) }
+    ensures fit { All FitsRange tables.now }
 {
     let mut total = unsigned_length(tables.len() as u64);
     for table in tables {
@@ -23,7 +25,8 @@ fn tables_length(tables: &[Range]) -> u64
 /// How many bytes the section has.
 pub fn table_section_length(tables: &[Range]) -> u64
     requires { length (vec_section 4 table_bytes tables.now) < 2 ^ 63 }
-    ensures { result ≡ length (vec_section 4 table_bytes tables.now) }
+    ensures length { result ≡ length (vec_section 4 table_bytes tables.now) }
+    ensures fit { All FitsRange tables.now }
 {
     if tables.is_empty() {
         return 0;

@@ -1,6 +1,7 @@
 // Value types, function types, limits and the types of globals (5.3).
 
 ghost use Rattle.std.specs.Prelude.{◌≡◌, [], ◌∷◌, ◌++◌, ◌<◌, ◌^◌, OnOk, length};
+ghost use Rattle.module_ast.specs.Fits.{FitsRange, FitsItem};
 ghost use Rattle.module_ast.specs.Canonical.{val_type_byte, val_type_bytes, block_type_bytes, func_type_bytes, limits_bytes, table_bytes, global_type_bytes, item_bytes};
 
 use crate::numbers::unsigned_length;
@@ -34,6 +35,8 @@ pub fn block_type_byte(ty: BlockType) -> u8
 impl Encode for ValType {
     ghost bytes = { val_type_bytes };
 
+    ghost fits = { λ _. Unit {0} };
+
     fn spelled_length(&self) -> u64 {
         1
     }
@@ -47,6 +50,8 @@ impl Encode for ValType {
 // 5.3.3
 impl Encode for FuncType {
     ghost bytes = { func_type_bytes };
+
+    ghost fits = { λ _. Unit {0} };
 
     fn spelled_length(&self) -> u64 {
         1 + vec_length(self.params.as_slice()) + vec_length(self.results.as_slice())
@@ -62,6 +67,8 @@ impl Encode for FuncType {
 // 5.3.4, which is the type of a memory too (5.3.5)
 impl Encode for Range {
     ghost bytes = { limits_bytes };
+
+    ghost fits = { FitsRange };
 
     fn spelled_length(&self) -> u64 {
         let least = 1 + unsigned_length(u64::from(self.min));
@@ -89,7 +96,8 @@ impl Encode for Range {
 /// How many bytes the type of a table has.
 pub fn table_length(range: &Range) -> u64
     requires { length (table_bytes range.now) < 2 ^ 63 }
-    ensures { result ≡ length (table_bytes range.now) }
+    ensures length { result ≡ length (table_bytes range.now) }
+    ensures fit { FitsRange range.now }
 {
     1 + range.spelled_length()
 }
@@ -106,6 +114,8 @@ pub fn put_table(out: &mut Vec<u8>, range: &Range) -> Result<(), AllocError>
 impl Encode for GlobalType {
     ghost bytes = { global_type_bytes };
 
+    ghost fits = { λ _. Unit {0} };
+
     fn spelled_length(&self) -> u64 {
         2
     }
@@ -120,6 +130,8 @@ impl Encode for GlobalType {
 // 5.5.5, the description of an import
 impl Encode for Item {
     ghost bytes = { item_bytes };
+
+    ghost fits = { FitsItem };
 
     fn spelled_length(&self) -> u64 {
         match self {

@@ -1,7 +1,8 @@
 // Vectors (5.1.3) and sections (5.5.2) of entries of any kind.
 
-ghost use Rattle.std.specs.Prelude.{◌≡◌, ◌++◌, ◌<◌, ◌^◌, ℕ, List, OnOk, length};
+ghost use Rattle.std.specs.Prelude.{◌≡◌, ◌++◌, ◌<◌, ◌^◌, ℕ, List, OnOk, All, length};
 ghost use Rattle.leb_binary.specs.Shortest.{unsigned_bytes};
+ghost use Rattle.module_ast.specs.Fits.{FitsIndex};
 ghost use Rattle.module_ast.specs.Canonical.{vec_bytes, vec_section};
 
 use crate::numbers::{put_size, unsigned_length};
@@ -12,10 +13,14 @@ use std::alloc::AllocError;
 pub trait Encode {
     ghost bytes: { Self → List ℕ };
 
+    // That its numbers are of their sizes, as its types have them.
+    ghost fits: { Self → Type 0 };
+
     /// How many bytes the spelling has.
     fn spelled_length(&self) -> u64
         requires { length (bytes self.now) < 2 ^ 63 }
-        ensures { result ≡ length (bytes self.now) };
+        ensures length { result ≡ length (bytes self.now) }
+        ensures fit { fits self.now };
 
     /// Adds the spelling. An error is that of the allocator.
     fn put(&self, out: &mut Vec<u8>) -> Result<(), AllocError>
@@ -24,6 +29,8 @@ pub trait Encode {
 
 impl Encode for u32 {
     ghost bytes = { unsigned_bytes };
+
+    ghost fits = { FitsIndex };
 
     fn spelled_length(&self) -> u64 {
         unsigned_length(u64::from(*self))
@@ -37,7 +44,8 @@ impl Encode for u32 {
 /// How many bytes the entries have, with their number in front.
 pub fn vec_length<T: Encode>(entries: &[T]) -> u64
     requires { length (vec_bytes T.bytes entries.now) < 2 ^ 63 }
-    ensures { result ≡ length (vec_bytes T.bytes entries.now) }
+    ensures length { result ≡ length (vec_bytes T.bytes entries.now) }
+    ensures fit { All T.fits entries.now }
 {
     let mut total = unsigned_length(entries.len() as u64);
     for entry in entries {
@@ -60,7 +68,8 @@ pub fn put_vec<T: Encode>(out: &mut Vec<u8>, entries: &[T]) -> Result<(), AllocE
 /// How many bytes a section of these entries has, with its id and size.
 pub fn section_length<T: Encode>(id: u8, entries: &[T]) -> u64
     requires { length (vec_section id T.bytes entries.now) < 2 ^ 63 }
-    ensures { result ≡ length (vec_section id T.bytes entries.now) }
+    ensures length { result ≡ length (vec_section id T.bytes entries.now) }
+    ensures fit { All T.fits entries.now }
 {
     if entries.is_empty() {
         return 0;

@@ -1,6 +1,9 @@
 // Whole modules (5.5.16).
 
-ghost use Rattle.std.specs.Prelude.{◌≡◌, ◌<◌, ◌^◌, IfOk, length};
+ghost use Rattle.std.specs.Prelude.{◌≡◌, ◌<◌, ◌^◌, IfOk, All, length};
+ghost use Rattle.module_ast.specs.declared.module.Body.{Body};
+ghost use Rattle.module_ast.specs.Fits.{FitsCode, Fits};
+ghost use Rattle.module_ast.specs.Profile.{locals_of};
 ghost use Rattle.module_ast.specs.Canonical.{body_bytes, sized_bytes, vec_bytes, module_bytes};
 
 use crate::bodies::{code_section_length, put_code_section};
@@ -13,8 +16,12 @@ use std::alloc::{AllocError, Global};
 /// How many canonical bytes the module has, whose bodies have this many with their number in front.
 pub fn module_length(m: &Module, bodies: u64) -> u64
     requires bodies { bodies ≡ length (vec_bytes (λ b. sized_bytes (body_bytes b)) m.now.bodies) }
+    requires code { All (λ (b : Body). FitsCode b.code) m.now.bodies }
+    requires locals { All (λ (b : Body). locals_of b.groups < 2 ^ 32) m.now.bodies }
+    requires counts { length m.now.funcs ≡ length m.now.bodies }
     requires room { length (module_bytes m.now) < 2 ^ 63 }
-    ensures { result ≡ length (module_bytes m.now) }
+    ensures length { result ≡ length (module_bytes m.now) }
+    ensures fit { length (module_bytes m.now) < 2 ^ 32 → Fits m.now }
 {
     8 + section_length(1, m.types.as_slice())
         + section_length(2, m.imports.as_slice())

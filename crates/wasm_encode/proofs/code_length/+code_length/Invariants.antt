@@ -1,6 +1,7 @@
 use Rattle.std.proofs.Common.{◌≡◌, ◌+◌, ◌*◌, ◌≤◌, length, drop}
 use Rattle.module_ast.specs.Tree.{weight, done}
 use Rattle.module_ast.specs.Seen.{before, code_of}
+use Rattle.module_ast.specs.Fits.{FitsCode}
 use Rattle.module_ast.specs.Canonical.{code_bytes}
 use Rattle.wasm_encode.proofs.code_length.+code_length.Given as goal
 
@@ -14,4 +15,5 @@ abbrev pub invariant-code_length-loop-instr : goal.invariant-code_length-loop-in
 invariant-code_length-loop-instr l = record {
   whole : l.total + length (code_bytes (code_of (drop l.instr-index l.instr-items))) ≡ length (code_bytes l.code);
   rest : weight (code_of (drop l.instr-index l.instr-items)) ≤ weight l.code;
+  fit : FitsCode (code_of (drop l.instr-index l.instr-items)) → FitsCode l.code;
 }
