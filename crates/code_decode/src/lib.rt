@@ -1,13 +1,20 @@
 // The decoder of bodies, constant expressions and types: exact both ways.
 #![tactic(auto)]
 
-pub mod body;
-pub mod class;
-pub mod expr;
-pub mod fault;
+mod body;
+mod class;
+mod expr;
+mod fault;
 pub mod laws;
-pub mod locals;
+mod locals;
 #[cfg(test)]
 mod tests;
-pub mod token;
-pub mod types;
+mod token;
+mod types;
+
+pub use crate::body::{BodyFault, decode_body};
+pub use crate::expr::{Expr, read_expr};
+pub use crate::fault::Fault;
+pub use crate::locals::read_locals;
+pub use crate::token::read_indices;
+pub use crate::types::{read_func_type, val_type};

@@ -82,7 +82,10 @@ fn plain(alloc: Global, word: Word) -> Result<Instr, AllocError> {
         Br(label) => Instr::Br(label),
         BrIf(label) => Instr::BrIf(label),
         BrTable(first, other) => {
-            Instr::BrTable(Labels::from_vec(alloc, Vec::from_slice(alloc, &[first])?)?, other)
+            Instr::BrTable(
+                Labels::from_vec(alloc, Vec::from_slice(alloc, &[first])?)?,
+                other,
+            )
         }
         Return => Instr::Return,
         Call(func) => Instr::Call(func),

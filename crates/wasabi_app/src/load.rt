@@ -14,8 +14,7 @@ use module_ast::module::{Limits, Module};
 use outside_io::{ReadFault, Shelf};
 use std::alloc::Global;
 use std::thread::Threads;
-use wasm_decode::decode;
-use wasm_decode::fault::DecodeFault;
+use wasm_decode::{DecodeFault, decode};
 use wasm_valid::{Invalid, ValidModule, validate};
 
 /// The valid module that stands under a name, of at most `cap` bytes, within these limits. No name is changed.

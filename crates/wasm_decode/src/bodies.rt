@@ -14,9 +14,7 @@ ghost use Rattle.wasm_decode.specs.Parts.{IsPiece};
 ghost use Rattle.code_decode.proofs.Items.{one_sized_tree, whole_one, one_body};
 
 use crate::part::{Entry, Piece};
-use code_decode::expr::{Expr, read_expr};
-use code_decode::fault::Fault;
-use code_decode::locals::read_locals;
+use code_decode::{Expr, Fault, read_expr, read_locals};
 use leb_binary::Cursor;
 use module_ast::code::Code;
 use module_ast::module::{Body, Group};

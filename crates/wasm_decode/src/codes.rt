@@ -14,9 +14,7 @@ ghost use Rattle.code_decode.proofs.Items.{one_global, one_element, one_segment}
 
 use crate::part::{Entry, Piece};
 use crate::types::global_type;
-use code_decode::expr::{Expr, read_expr};
-use code_decode::fault::Fault;
-use code_decode::token::read_indices;
+use code_decode::{Expr, Fault, read_expr, read_indices};
 use leb_binary::Cursor;
 use module_ast::code::Code;
 use module_ast::module::{Element, GlobalDef, GlobalType, Segment};

@@ -10,7 +10,7 @@ ghost use Rattle.wasm_decode.specs.Files.{AreBytes, FailsAt};
 use crate::draft::Draft;
 use crate::fault::DecodeFault;
 use crate::sections::read_section;
-use code_decode::fault::Fault;
+use code_decode::Fault;
 use leb_binary::Cursor;
 use std::alloc::Global;
 

@@ -8,22 +8,22 @@ ghost use Rattle.module_ast.specs.Decoding.{Gram, FileFloats, FileExceeds};
 ghost use Rattle.module_ast.specs.declared.module.Which.{Which};
 ghost use Rattle.wasm_decode.specs.declared.fault.DecodeFault.{DecodeFault};
 
-pub mod bodies;
-pub mod codes;
-pub mod draft;
-pub mod fault;
-pub mod files;
+mod bodies;
+mod codes;
+mod draft;
+mod fault;
+mod files;
 pub mod laws;
-pub mod limits;
-pub mod names;
-pub mod part;
-pub mod sections;
-pub mod settle;
+mod limits;
+mod names;
+mod part;
+mod sections;
+mod settle;
 #[cfg(test)]
 mod tests;
-pub mod types;
+mod types;
 
-use crate::fault::DecodeFault;
+pub use crate::fault::DecodeFault;
 use crate::files::{behind_header, read_sections};
 use crate::settle::settle;
 use leb_binary::Cursor;

@@ -11,7 +11,7 @@ ghost use Rattle.code_decode.proofs.Items.{one_import, one_export};
 
 use crate::part::{Entry, Piece};
 use crate::types::{global_type, limits, table_type};
-use code_decode::fault::Fault;
+use code_decode::Fault;
 use leb_binary::{Bad, Cursor};
 use module_ast::module::{Export, ExportKind, Import, Item};
 use module_ast::name::Name;

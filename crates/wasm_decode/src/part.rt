@@ -7,7 +7,7 @@ ghost use Rattle.module_ast.specs.Grammar.{IsVec};
 ghost use Rattle.wasm_decode.specs.Forms.{Form, first_of};
 ghost use Rattle.wasm_decode.specs.Parts.{IsPiece, IsPart};
 
-use code_decode::fault::Fault;
+use code_decode::Fault;
 use leb_binary::Cursor;
 use std::alloc::Global;
 

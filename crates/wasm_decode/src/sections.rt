@@ -11,7 +11,7 @@ use crate::draft::Draft;
 use crate::names::{Exports, Imports, read_name};
 use crate::part::{Entry, Part, read_vec};
 use crate::types::{FuncTypes, Indices, Memories, Tables};
-use code_decode::fault::Fault;
+use code_decode::Fault;
 use leb_binary::Cursor;
 use module_ast::name::Name;
 use std::alloc::Global;

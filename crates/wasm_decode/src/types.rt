@@ -10,8 +10,7 @@ ghost use Rattle.wasm_decode.specs.Kinds.{index_form, range_form, func_type_form
 ghost use Rattle.code_decode.proofs.Items.{one_u32, one_func_type, one_memory_type, one_table_type};
 
 use crate::part::{Entry, Piece};
-use code_decode::fault::Fault;
-use code_decode::types::{read_func_type, val_type};
+use code_decode::{Fault, read_func_type, val_type};
 use leb_binary::{Bad, Cursor};
 use module_ast::module::{FuncType, GlobalType, Range};
 use std::alloc::Global;
