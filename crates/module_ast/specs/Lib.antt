@@ -1,6 +1,7 @@
 pub mod Tree
 pub mod Seen
 pub mod Falls
+pub mod Rows
 pub mod Opcodes
 pub mod Shapes
 pub mod Spaces

@@ -1,3 +1,4 @@
 pub mod Shapes
 pub mod Numbers
 pub mod Names
+pub mod Rows
