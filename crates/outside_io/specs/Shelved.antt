@@ -30,8 +30,8 @@ map_contents held name =
     option_map (λ bytes. bytes.items) (lookup (is_at (λ key. slice_cmp nat_cmp name (string_bytes key))) held)
 
 -- a shelf in memory tells what is under each name
-abbrev pub known_contents : List (String Global × Vec ℕ Global) → Option Contents
-known_contents held = Some (map_contents held)
+abbrev pub contents_of : List (String Global × Vec ℕ Global) → Option Contents
+contents_of held = Some (map_contents held)
 
 -- the answer of a read that does not fail: by what is under the name, and by the cap
 abbrev pub AnswersRead : {Z : Type 0} → Option (List ℕ) → ℕ → Result (Vec ℕ Z) ReadFault → Type 0

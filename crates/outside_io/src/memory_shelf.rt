@@ -2,7 +2,7 @@
 
 ghost use Rattle.std.specs.Prelude.{◌≡◌, Some, None, OnOk, OnErr};
 ghost use Rattle.outside_io.specs.Outside.{Wrote, Unchanged};
-ghost use Rattle.outside_io.specs.Shelved.{map_contents, known_contents, AnswersRead};
+ghost use Rattle.outside_io.specs.Shelved.{map_contents, contents_of, AnswersRead};
 
 use crate::calls::{Calls, Fail, front};
 use crate::{NoMemory, ReadFault, Shelf, WriteFault};
@@ -42,7 +42,7 @@ impl MemoryShelf {
     ghost use Rattle.std.specs.Prelude.{option_map, OnOk, OnErr, List, ℕ, ◌+◌};
     ghost use Rattle.outside_io.specs.Calls.{listed_calls_made};
     ghost use Rattle.outside_io.specs.Outside.{Wrote, Unchanged};
-    ghost use Rattle.outside_io.specs.Shelved.{map_contents, known_contents};
+    ghost use Rattle.outside_io.specs.Shelved.{map_contents, contents_of};
 
     /// An empty shelf, of which these calls fail.
     pub fn new(alloc: Global, fails: Vec<Fail>) -> MemoryShelf
@@ -64,8 +64,8 @@ impl MemoryShelf {
 
     /// Puts bytes under a name, and counts no call. Where memory ends, all is as before.
     pub fn add(&mut self, name: &str, bytes: &[u8]) -> Result<(), NoMemory>
-        ensures added { OnOk result (Wrote name.now bytes.now (known_contents self.old.held) (known_contents self.new.held)) }
-        ensures unchanged { OnErr result (Unchanged (known_contents self.old.held) (known_contents self.new.held)) }
+        ensures added { OnOk result (Wrote name.now bytes.now (contents_of self.old.held) (contents_of self.new.held)) }
+        ensures unchanged { OnErr result (Unchanged (contents_of self.old.held) (contents_of self.new.held)) }
         ensures calls { self.new.calls ≡ self.old.calls }
         ensures read_count { self.new.read_faults ≡ self.old.read_faults }
         ensures write_count { self.new.write_faults ≡ self.old.write_faults }
@@ -89,9 +89,9 @@ impl Shelf for MemoryShelf {
     ghost use Rattle.std.specs.Prelude.{ℕ, ◌+◌, ◌≤◌, if◌then◌else◌, IfOk, OnOk, OnErr, IsErrOf, IsSome, vec_len, is_some, take, ◌⊎◌};
     ghost use Rattle.outside_io.specs.Outside.{Holds, IsMissing, IsTooLong, Rose, Unchanged, Wrote, WrotePart};
     ghost use Rattle.outside_io.specs.Calls.{failing_next, listed_calls_made, CountsCall};
-    ghost use Rattle.outside_io.specs.Shelved.{map_contents, known_contents, AnswersRead};
+    ghost use Rattle.outside_io.specs.Shelved.{map_contents, contents_of, AnswersRead};
 
-    ghost contents = { λ s. known_contents s.held };
+    ghost contents = { λ s. contents_of s.held };
 
     ghost read_faults = { λ s. s.read_faults };
 
@@ -100,14 +100,14 @@ impl Shelf for MemoryShelf {
     /// The bytes under a name, at most `cap` many: `Failed` exactly where the call is listed, `Missing` and `TooLong`
     /// exactly where a call that is not listed finds no bytes or more than `cap`.
     fn read(&mut self, alloc: Global, name: &str, cap: u64) -> Result<Vec<u8>, ReadFault>
-        ensures given { IfOk result (λ bytes. Holds (known_contents self.old.held) name.now bytes.items) }
+        ensures given { IfOk result (λ bytes. Holds (contents_of self.old.held) name.now bytes.items) }
         ensures within { IfOk result (λ bytes. vec_len bytes ≤ cap) }
         ensures missing { IsErrOf result ReadFault.Missing →
-            IsMissing (known_contents self.old.held) name.now self.old.read_faults self.new.read_faults }
+            IsMissing (contents_of self.old.held) name.now self.old.read_faults self.new.read_faults }
         ensures too_long { (long : ℕ) → IsErrOf result (ReadFault.TooLong long) →
-            IsTooLong (known_contents self.old.held) name.now cap long self.old.read_faults self.new.read_faults }
+            IsTooLong (contents_of self.old.held) name.now cap long self.old.read_faults self.new.read_faults }
         ensures failed { IsErrOf result ReadFault.Failed → Rose self.old.read_faults self.new.read_faults }
-        ensures kept { Unchanged (known_contents self.old.held) (known_contents self.new.held) }
+        ensures kept { Unchanged (contents_of self.old.held) (contents_of self.new.held) }
         ensures read_count { self.old.read_faults ≤ self.new.read_faults }
         ensures write_count { self.new.write_faults ≡ self.old.write_faults }
 
@@ -127,8 +127,8 @@ impl Shelf for MemoryShelf {
     /// Puts bytes under a name. A call that is listed keeps the first bytes, as many as are listed, and answers
     /// `Failed`; where memory ends, the contents are as before.
     fn write(&mut self, name: &str, bytes: &[u8]) -> Result<(), WriteFault>
-        ensures written { OnOk result (Wrote name.now bytes.now (known_contents self.old.held) (known_contents self.new.held)) }
-        ensures part { OnErr result (WrotePart name.now bytes.now (known_contents self.old.held) (known_contents self.new.held)) }
+        ensures written { OnOk result (Wrote name.now bytes.now (contents_of self.old.held) (contents_of self.new.held)) }
+        ensures part { OnErr result (WrotePart name.now bytes.now (contents_of self.old.held) (contents_of self.new.held)) }
         ensures failed { IsErrOf result WriteFault.Failed → Rose self.old.write_faults self.new.write_faults }
         ensures read_count { self.new.read_faults ≡ self.old.read_faults }
         ensures write_count { self.old.write_faults ≤ self.new.write_faults }
@@ -139,8 +139,8 @@ impl Shelf for MemoryShelf {
         ensures listed { IsSome (failing_next self.old.calls) → IsErrOf result WriteFault.Failed ⊎ IsErrOf result WriteFault.NoMemory }
         ensures unlisted { IsErrOf result WriteFault.Failed → IsSome (failing_next self.old.calls) }
         ensures front { (kept : ℕ) → failing_next self.old.calls ≡ Some kept → IsErrOf result WriteFault.Failed →
-            Wrote name.now (take kept bytes.now) (known_contents self.old.held) (known_contents self.new.held) }
-        ensures no_memory { IsErrOf result WriteFault.NoMemory → Unchanged (known_contents self.old.held) (known_contents self.new.held) }
+            Wrote name.now (take kept bytes.now) (contents_of self.old.held) (contents_of self.new.held) }
+        ensures no_memory { IsErrOf result WriteFault.NoMemory → Unchanged (contents_of self.old.held) (contents_of self.new.held) }
     {
         match self.calls.count() {
             Some(kept) => {
@@ -160,8 +160,8 @@ fn put_under(
     name: &str,
     bytes: &[u8],
 ) -> Result<(), NoMemory>
-    ensures written { OnOk result (Wrote name.now bytes.now (known_contents held.old.entries) (known_contents held.new.entries)) }
-    ensures unchanged { OnErr result (Unchanged (known_contents held.old.entries) (known_contents held.new.entries)) }
+    ensures written { OnOk result (Wrote name.now bytes.now (contents_of held.old.entries) (contents_of held.new.entries)) }
+    ensures unchanged { OnErr result (Unchanged (contents_of held.old.entries) (contents_of held.new.entries)) }
 {
     let key = String::from_str(alloc, name)?;
     let value = Vec::from_slice(alloc, bytes)?;

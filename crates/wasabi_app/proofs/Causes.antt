@@ -129,11 +129,11 @@ memory_inverted status i =
 pub ends_inverted : {words : List (List ℕ)} {old new : Seen} {before after : Printing} (status : ℕ) → Ends words old new before after status
     → Inverted words old new before after status
 ends_inverted _ (answered text a (said t)) = answer_inverted 0 text a ends.done (λ zero _ _ _. zero refl) (text, a)
-ends_inverted _ (answered text a (said_part t)) = answer_inverted 15 text a ends.unprinted (λ _ _ _ broken. broken refl) ((text, a), t.0)
+ends_inverted _ (answered text a (said_part r t)) = answer_inverted 15 text a ends.unprinted (λ _ _ _ broken. broken refl) ((text, a), r)
 ends_inverted _ (answered text a (said_no_memory t)) =
     memory_inverted 0 (answer_inverted 0 text a ends.done (λ zero _ _ _. zero refl) (text, a))
 ends_inverted _ (refused cause text r (said t)) = cause_inverted cause text r
-ends_inverted _ (refused cause text r (said_part t)) = cause_inverted cause text r
+ends_inverted _ (refused cause text r (said_part k t)) = cause_inverted cause text r
 ends_inverted _ (refused cause text r (said_no_memory t)) = memory_inverted cause (cause_inverted cause text r)
 
 -- A refusal whose line was to be printed, or for whose line there was no memory.

@@ -1,20 +1,11 @@
--- Contents that were not touched before a write, or where they are told.
-use Rattle.std.proofs.Common.{◌≡◌, ℕ, List, refl, ◌∙◌, subst, inl, inr, Option, Some, None}
-use Rattle.outside_io.specs.Outside.{Contents, Unchanged, Wrote, WrotePart, Holds, IsMissing, IsTooLong}
+-- Contents that were not touched before a write.
+use Rattle.std.proofs.Common.{ℕ, List, refl, ◌∙◌, inl, inr, Option, Some, None}
+use Rattle.outside_io.specs.Outside.{Contents, Unchanged, Wrote, WrotePart}
 
 -- what was not touched at all
 pub unchanged_same : (held : Option Contents) → Unchanged held held
 unchanged_same None = tt
 unchanged_same (Some held) = λ name. refl
-
--- what was touched neither at first nor then
-pub unchanged_both : (a b c : Option Contents) → Unchanged a b → Unchanged b c → Unchanged a c
-unchanged_both None None None p q = tt
-unchanged_both (Some a) (Some b) (Some c) p q = λ name. q name ∙ p name
-unchanged_both None (Some b) c p q = absurd p
-unchanged_both (Some a) None c p q = absurd p
-unchanged_both None None (Some c) p q = absurd q
-unchanged_both (Some a) (Some b) None p q = absurd q
 
 -- a write, or a part of one, after contents that were not touched
 pub wrote_after : (name bytes : List ℕ) (a b c : Option Contents) → Unchanged a b → Wrote name bytes b c → Wrote name bytes a c

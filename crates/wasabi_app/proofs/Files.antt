@@ -1,18 +1,16 @@
 -- The bytes of a file are of one kind alone.
-use Rattle.std.proofs.Common.{◌≡◌, ℕ, ◌<◌, ◌≤◌, inl, inr, List, [], ◌∷◌, length, sym, ap, ◌∙◌, subst, arith, true, false}
-use Rattle.module_ast.specs.Texts.{Text}
+use Rattle.std.proofs.Common.{◌≡◌, ℕ, ◌≤◌, inl, inr, List, [], ◌∷◌, length, sym, subst, arith, true, false}
 use Rattle.module_ast.specs.declared.module.Module.{Module}
 use Rattle.module_ast.specs.Grammar.{IsFault}
 use Rattle.module_ast.specs.Canonical.{module_bytes}
 use Rattle.module_ast.specs.Decoding.{Gram}
-use Rattle.module_ast.specs.Profile.{tree_of, section_floats, bound_of, limited_counts, AreWithin, IsWithin, IsFirstAbove}
-use Rattle.module_ast.specs.Limits.{narrow}
+use Rattle.module_ast.specs.Profile.{tree_of, section_floats, bound_of, limited_counts, AreWithin, IsFirstAbove}
 use Rattle.module_ast.proofs.ModuleTrees.{modules_unique, modules_plain}
 use Rattle.module_ast.proofs.LeastModules.{module_least}
 use Rattle.code_decode.proofs.Modules.{trees_one, faults_have_no_tree}
 use Rattle.module_ast.specs.declared.module.Limits.{Limits}
 use Rattle.module_ast.specs.Validity.{IsValid, IsFirstBroken, IsFirstInvalid, Rule}
-use Rattle.instrument.specs.Nops.{IsNops, nop_module, narrow_file}
+use Rattle.instrument.specs.Nops.{narrow_file}
 use Rattle.wasabi_app.specs.Files.{IsFit, IsNoModule, IsUnfit, IsInvalid}
 
 -- bytes with a fault are no module
@@ -65,8 +63,3 @@ body_invalid m func first valid = first.4 (valid.bodies first.0)
 -- the canonical bytes of a file's module are as few as the narrow limits want
 pub canonical_short : (bytes : List ℕ) (m : Module) → length bytes ≤ narrow_file → Gram bytes m → length (module_bytes m) ≤ narrow_file
 canonical_short bytes m s g = omega (arith, module_least bytes m g, s)
-
--- so are those of the module of nops that it is
-pub nops_short : (bytes : List ℕ) (m : Module) (name : Text) (count : ℕ) → length bytes ≤ narrow_file → Gram bytes m
-    → IsNops m name count → length (module_bytes (nop_module name count)) ≤ narrow_file
-nops_short bytes m name count s g n = subst (λ x. length (module_bytes x) ≤ narrow_file) n (canonical_short bytes m s g)

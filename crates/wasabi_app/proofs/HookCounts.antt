@@ -1,11 +1,10 @@
 -- How many hooks the output of a module of nops has.
-use Rattle.std.proofs.Common.{◌≡◌, ℕ, suc, ◌<◌, List, inl, inr, sym, ◌∙◌, subst, ap, length, arith, Bool, true, false}
+use Rattle.std.proofs.Common.{◌≡◌, ℕ, suc, ◌<◌, List, inl, inr, sym, ◌∙◌, subst, ap, length, arith, true, false}
 use Rattle.module_ast.specs.Texts.{Text}
 use Rattle.module_ast.specs.declared.module.Module.{Module}
-use Rattle.module_ast.specs.Canonical.{without_customs}
 use Rattle.hook_select.specs.declared.Hooks.{Hooks}
 use Rattle.hook_mono.specs.Needed.{needed_keys}
-use Rattle.instrument.specs.Nops.{IsNops, IsNopChoice, nop_module, nop_group, no_groups}
+use Rattle.instrument.specs.Nops.{IsNops, IsNopChoice, nop_module, nop_group}
 use Rattle.instrument.proofs.NopOutput.{needed_hooked, needed_none, needed_empty}
 use Rattle.wasabi_app.specs.Making.{hook_count}
 

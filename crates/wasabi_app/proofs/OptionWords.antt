@@ -1,11 +1,11 @@
 -- What options say, and when words are a command.
-use Rattle.std.proofs.Common.{◌≡◌, ℕ, ◌≤◌, ◌+◌, ◌-◌, inl, inr, List, [], ◌∷◌, refl, length, take, drop, ap, get_or, codes, sym, ◌∙◌, subst, arith, String, string_bytes, Option, Some, None, MatchOption}
+use Rattle.std.proofs.Common.{◌≡◌, ℕ, ◌≤◌, ◌-◌, inl, inr, List, [], ◌∷◌, refl, length, take, drop, ap, get_or, codes, sym, ◌∙◌, subst, arith, String, string_bytes, Option, Some, None, MatchOption}
 use Rattle.std.proofs.lemmas.List.{take_rest}
 use Rattle.std.specs.declared.alloc.Global.{Global}
 use Rattle.hook_select.specs.declared.Hooks.{Hooks}
 use Rattle.hook_select.specs.Groups.{reads, read_list}
 use Rattle.instrument.specs.Nops.{IsNopChoice, nop_group, no_groups}
-use Rattle.wasabi_app.specs.Words.{Options, Line, IsList, Adds, AreOptions, Asks, IsCheck, IsLine, IsRefused, to_check, to_instrument, IsValue, no_options, texts}
+use Rattle.wasabi_app.specs.Words.{Options, Line, IsList, Adds, AreOptions, IsLine, IsRefused, to_check, to_instrument, IsValue, no_options, texts}
 use Rattle.wasabi_app.specs.declared.words.Options.{Options as ReadOptions}
 use Rattle.wasabi_app.specs.declared.words.Command.{Command}
 use Rattle.wasabi_app.specs.declared.words.Command.TheVariants.{Check, Instrument}

@@ -66,7 +66,7 @@ pub answers_written : (words : List (List ℕ)) (old new : Seen) (line : Line) (
     → Wrote line.target output old.contents new.contents → Answers words old new text
 answers_written words old new line m output text l is made w =
     let h = has_output words old line m output text l is made in
-    subst (Answers words old new) (ap (wrote_text (length output)) h.1 ∙ sym made.told) (instrumented line output h.0 w)
+    subst (Answers words old new) (ap (wrote_text (length output)) h.1 ∙ sym made.line) (instrumented line output h.0 w)
 
 -- or that could not be
 pub refuses_unwritten : (words : List (List ℕ)) (old new : Seen) (line : Line) (m : Module) (output text : List ℕ) → IsLine words line

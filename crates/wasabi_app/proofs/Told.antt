@@ -1,6 +1,6 @@
 -- Where contents are told, what stands there decides the status.
-use Rattle.std.proofs.Common.{◌≡◌, ◌≢◌, ℕ, ◌<◌, ◌≤◌, ◌⊎◌, inl, inr, List, [], ◌∷◌, length, refl, sym, ◌∙◌, ap, subst, arith, Option, Some, None}
-use Rattle.outside_io.specs.Outside.{Contents}
+use Rattle.std.proofs.Common.{◌≡◌, ◌≢◌, ℕ, ◌≤◌, ◌⊎◌, inl, inr, List, [], ◌∷◌, length, refl, sym, ap, subst, arith, Option, Some, None}
+use Rattle.outside_io.specs.Outside.{Contents, WhereKnown}
 use Rattle.module_ast.specs.declared.module.Limits.{Limits}
 use Rattle.module_ast.specs.declared.module.Module.{Module}
 use Rattle.module_ast.specs.Decoding.{Gram}
@@ -9,14 +9,14 @@ use Rattle.module_ast.specs.Limits.{narrow, wide}
 use Rattle.instrument.specs.Nops.{narrow_file}
 use Rattle.instrument.proofs.NopValid.{dressed_valid}
 use Rattle.wasabi_app.specs.Words.{Line, IsLine, IsCheck, IsRefused, Task, to_check, to_instrument, AsksFor}
-use Rattle.wasabi_app.specs.Files.{IsFit, IsValidFile, IsNoModule, IsUnfit, IsInvalid, wide_file}
+use Rattle.wasabi_app.specs.Files.{IsValidFile, IsNoModule, IsUnfit, IsInvalid, wide_file}
 use Rattle.wasabi_app.specs.Taken.{IsTaken}
-use Rattle.wasabi_app.specs.Reads.{Want, valid_module, Read, module_read, reads_of, IsRead, OfModule, IsGood, IsReached, Reads, IsLoaded}
+use Rattle.wasabi_app.specs.Reads.{Want, valid_module, Read, module_read, reads_of, OfModule, IsGood, IsReached, Reads, IsLoaded}
 use Rattle.wasabi_app.specs.Printing.{Seen, seen, Printing}
 use Rattle.wasabi_app.specs.Ends as ends
-use Rattle.wasabi_app.specs.Ends.{Status, HasOutput, Answers, checked, instrumented, Ends, IsKept, Decides, IsAboveCap, IsFile, DecidesOtherForm, ChecksAll, Completes}
+use Rattle.wasabi_app.specs.Ends.{Status, HasOutput, Answers, checked, instrumented, Ends, IsKept, Decides, IsAboveCap, IsFile, IsOtherForm, ChecksAll, Completes}
 use Rattle.wasabi_app.proofs.Files.{one_module, unfit_not_malformed, fit_not_malformed, fit_not_unfit, valid_not_invalid}
-use Rattle.wasabi_app.proofs.Causes.{Why, Inverted, ends_inverted, check_no_line}
+use Rattle.wasabi_app.proofs.Causes.{Why, ends_inverted, check_no_line}
 
 -- what bytes are for a read of a module, by the status
 pub data Judged (limits : Limits) (bytes : List ℕ) : ℕ → Type 0 where
@@ -239,10 +239,10 @@ fate_other words contents line m status (made other k p has t e) l is n =
     absurd (n (subst IsTaken (same_loaded words contents other line k m p l has is) t))
 
 pub decides_other_form : {words : List (List ℕ)} {new : Seen} {before after : Printing} (held : Option Contents) (reads writes status : ℕ)
-    → Ends words (seen held reads writes) new before after status → DecidesOtherForm words held status
+    → Ends words (seen held reads writes) new before after status → WhereKnown held (λ _. IsOtherForm words held → IsKept status 17)
 decides_other_form None reads writes status x = tt
 decides_other_form {words = words} (Some contents) reads writes status x =
-    λ line m l is n. fate_other words contents line m status (ends_fate contents reads writes status x) l is n
+    λ (line, m, l, is, n). fate_other words contents line m status (ends_fate contents reads writes status x) l is n
 
 -- a valid subject that is checked
 fate_checked : (words : List (List ℕ)) (contents : Contents) (subject : List ℕ) (m : Module) (status : ℕ) → Fate words contents status → IsCheck words subject

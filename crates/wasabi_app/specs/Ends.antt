@@ -1,6 +1,5 @@
 -- How a command ends: what stands on the shelf, what is printed, and the status.
-use Rattle.std.specs.Prelude.{◌≡◌, ℕ, ◌<◌, ◌≤◌, ◌⊎◌, List, length, Option, Some, None}
-use Rattle.std.specs.Prelude.{Result, Ok, Err, String, string_bytes}
+use Rattle.std.specs.Prelude.{◌≡◌, ℕ, ◌<◌, ◌≤◌, ◌⊎◌, List, length, Option, Some, Result, Ok, Err, String, string_bytes}
 use Rattle.std.specs.declared.alloc.Global.{Global}
 use Rattle.outside_io.specs.Outside.{Contents, Rose, WhereKnown, Unchanged, Wrote, WrotePart, IsMissing, IsTooLong}
 use Rattle.module_ast.specs.declared.module.Limits.{Limits}
@@ -10,7 +9,7 @@ use Rattle.instrument.specs.Nops.{narrow_file}
 use Rattle.instrument.specs.Accepted.{IsInstrumented}
 use Rattle.wasabi_app.specs.declared.lines.Refusal.{Refusal}
 use Rattle.wasabi_app.specs.Words.{Line, IsLine, IsCheck, IsRefused}
-use Rattle.wasabi_app.specs.Files.{IsFit, IsNoModule, wide_file}
+use Rattle.wasabi_app.specs.Files.{IsFit, wide_file}
 use Rattle.wasabi_app.specs.Reads.{Read, module_read, IsRead, OfModule, Reads, IsLoaded}
 use Rattle.wasabi_app.specs.Taken.{IsTaken}
 use Rattle.wasabi_app.specs.Texts.{bad_words_text, form_text, unwritten_text, no_memory_text, wrote_text, ok_text, counts_of}
@@ -116,11 +115,6 @@ IsAboveCap read found = (bytes : List ℕ) × (found ≡ Some bytes) × (read.ca
 -- a module is to be read, and this holds of its limits and the bytes
 abbrev pub IsFile : (Limits → (bytes : List ℕ) → Type 0) → Read → (found : Option (List ℕ)) → Type 0
 IsFile P read found = (bytes : List ℕ) × (found ≡ Some bytes) × (length bytes ≤ read.cap) × OfModule P read.want bytes
-
-abbrev pub DecidesOtherForm : List (List ℕ) → Option Contents → (status : ℕ) → Type 0
-DecidesOtherForm words held status =
-    WhereKnown held (λ _. (line : Line) (m : Module) → IsLine words line → IsLoaded held line.subject narrow_file narrow m → ¬ IsTaken m
-    → IsKept status 17)
 
 -- 4, 5 and 15 come only where a count of faults rose, so that without faults the status is 0, or want of memory
 abbrev pub ChecksAll : List (List ℕ) → Option Contents → (status : ℕ) → Type 0

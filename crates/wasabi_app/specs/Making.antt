@@ -18,7 +18,7 @@ hook_count m hooks = length (needed_keys m hooks)
 pub record IsOutputMade (m : Module) (hooks : Hooks) (output text : List ℕ) : Type 0 where
   pub taken : IsTaken m
   pub instrumented : (file : List ℕ) → Gram file m → IsWithin narrow m → IsInstrumented file hooks output
-  pub told : text ≡ wrote_text (length output) (hook_count m hooks)
+  pub line : text ≡ wrote_text (length output) (hook_count m hooks)
 
 -- there is no output
 pub data Unmade (subject : List ℕ) (m : Module) : (status : ℕ) → (text : List ℕ) → Type 0 where

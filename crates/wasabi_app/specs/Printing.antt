@@ -19,20 +19,9 @@ pub record Printing : Type 0 where
 abbrev pub printing : Option (List ℕ) → (faults : ℕ) → Printing
 printing text faults = record { text = text; faults = faults }
 
--- the line was printed whole
-abbrev pub Tells : List ℕ → (old new : Printing) → Type 0
-Tells line old new = Printed line old.text new.text
-
--- a prefix of it was
-abbrev pub TellsPart : List ℕ → (old new : Printing) → Type 0
-TellsPart line old new = PrintedPart line old.text new.text
-
--- a prefix of it was, and the count rose
-abbrev pub Breaks : List ℕ → (old new : Printing) → Type 0
-Breaks line old new = Rose old.faults new.faults × TellsPart line old new
-
--- a line was to be printed: the status where it stands whole, the one where printing failed, and want of memory
+-- A line was to be printed: the status where it stands whole, the one where a prefix of it does and the count rose, and
+-- want of memory.
 pub data Said (line : List ℕ) (whole failed : ℕ) (old new : Printing) : ℕ → Type 0 where
-  said : Tells line old new → Said line whole failed old new whole
-  said_part : Breaks line old new → Said line whole failed old new failed
-  said_no_memory : TellsPart line old new → Said line whole failed old new 14
+  said : Printed line old.text new.text → Said line whole failed old new whole
+  said_part : Rose old.faults new.faults → PrintedPart line old.text new.text → Said line whole failed old new failed
+  said_no_memory : PrintedPart line old.text new.text → Said line whole failed old new 14

@@ -1,5 +1,5 @@
 -- The words of a command as they are read, a few at a time.
-use Rattle.std.specs.Prelude.{◌≡◌, ◌≢◌, ℕ, List, Option, Some, option_map, codes}
+use Rattle.std.specs.Prelude.{◌≡◌, ◌≢◌, ℕ, List, Some, option_map, codes}
 use Rattle.hook_select.specs.declared.Hooks.{Hooks}
 use Rattle.wasabi_app.specs.declared.words.Line.{Line as ReadLine}
 use Rattle.wasabi_app.specs.declared.words.Options.{Options as ReadOptions}

@@ -7,31 +7,31 @@ use Rattle.module_ast.specs.declared.module.Which.TheVariants.{Functions, Types,
 use Rattle.module_ast.specs.Positions.{code_size}
 
 -- pieces of text, one after the other
-abbrev pub joined : List (List ℕ) → List ℕ
-joined [] = []
-joined (piece ∷ []) = piece
-joined (piece ∷ pieces) = piece ++ joined pieces
+abbrev pub concat_texts : List (List ℕ) → List ℕ
+concat_texts [] = []
+concat_texts (piece ∷ []) = piece
+concat_texts (piece ∷ pieces) = piece ++ concat_texts pieces
 
 abbrev pub bad_words_text : List ℕ
 bad_words_text = codes "error 2: bad words\n"
 
 abbrev pub missing_text : (name : List ℕ) → List ℕ
-missing_text name = joined (codes "error 3: " ∷ name ∷ codes " is missing\n" ∷ [])
+missing_text name = concat_texts (codes "error 3: " ∷ name ∷ codes " is missing\n" ∷ [])
 
 abbrev pub too_long_text : (name : List ℕ) → (long : ℕ) → List ℕ
-too_long_text name long = joined (codes "error 3: " ∷ name ∷ codes " is too long: " ∷ decimal long ∷ codes "\n" ∷ [])
+too_long_text name long = concat_texts (codes "error 3: " ∷ name ∷ codes " is too long: " ∷ decimal long ∷ codes "\n" ∷ [])
 
 abbrev pub unread_text : (name : List ℕ) → List ℕ
-unread_text name = joined (codes "error 4: " ∷ name ∷ codes " can't be read\n" ∷ [])
+unread_text name = concat_texts (codes "error 4: " ∷ name ∷ codes " can't be read\n" ∷ [])
 
 abbrev pub unwritten_text : (name : List ℕ) → List ℕ
-unwritten_text name = joined (codes "error 5: " ∷ name ∷ codes " can't be written\n" ∷ [])
+unwritten_text name = concat_texts (codes "error 5: " ∷ name ∷ codes " can't be written\n" ∷ [])
 
 abbrev pub malformed_text : (name : List ℕ) → (section : ℕ) → List ℕ
-malformed_text name section = joined (codes "error 6: " ∷ name ∷ codes " is malformed in section " ∷ decimal section ∷ codes "\n" ∷ [])
+malformed_text name section = concat_texts (codes "error 6: " ∷ name ∷ codes " is malformed in section " ∷ decimal section ∷ codes "\n" ∷ [])
 
 abbrev pub floats_text : (name : List ℕ) → (section : ℕ) → List ℕ
-floats_text name section = joined (codes "error 7: " ∷ name ∷ codes " uses floats in section " ∷ decimal section ∷ codes "\n" ∷ [])
+floats_text name section = concat_texts (codes "error 7: " ∷ name ∷ codes " uses floats in section " ∷ decimal section ∷ codes "\n" ∷ [])
 
 abbrev pub which_name : Which → List ℕ
 which_name Functions = codes "functions"
@@ -42,24 +42,24 @@ which_name Nesting = codes "nesting"
 
 abbrev pub limit_text : (name : List ℕ) → Which → (value : ℕ) → List ℕ
 limit_text name which value =
-    joined (codes "error 7: " ∷ name ∷ codes " is over the limit of " ∷ which_name which ∷ codes ": " ∷ decimal value ∷
+    concat_texts (codes "error 7: " ∷ name ∷ codes " is over the limit of " ∷ which_name which ∷ codes ": " ∷ decimal value ∷
     codes "\n" ∷ [])
 
 abbrev pub rule_text : (name : List ℕ) → (rule : ℕ) → List ℕ
-rule_text name rule = joined (codes "error 8: " ∷ name ∷ codes " breaks rule " ∷ decimal rule ∷ codes "\n" ∷ [])
+rule_text name rule = concat_texts (codes "error 8: " ∷ name ∷ codes " breaks rule " ∷ decimal rule ∷ codes "\n" ∷ [])
 
 abbrev pub body_text : (name : List ℕ) → (func : ℕ) → List ℕ
-body_text name func = joined (codes "error 8: " ∷ name ∷ codes " has an invalid body: function " ∷ decimal func ∷ codes "\n" ∷ [])
+body_text name func = concat_texts (codes "error 8: " ∷ name ∷ codes " has an invalid body: function " ∷ decimal func ∷ codes "\n" ∷ [])
 
 abbrev pub no_memory_text : List ℕ
 no_memory_text = codes "error 14: out of memory\n"
 
 abbrev pub form_text : (name : List ℕ) → List ℕ
-form_text name = joined (codes "error 17: " ∷ name ∷ codes " is of a form not built yet\n" ∷ [])
+form_text name = concat_texts (codes "error 17: " ∷ name ∷ codes " is of a form not built yet\n" ∷ [])
 
 -- so many bytes, with so many hooks
 abbrev pub wrote_text : (bytes hooks : ℕ) → List ℕ
-wrote_text bytes hooks = joined (codes "wrote " ∷ decimal bytes ∷ codes " bytes with " ∷ decimal hooks ∷ codes " hooks\n" ∷ [])
+wrote_text bytes hooks = concat_texts (codes "wrote " ∷ decimal bytes ∷ codes " bytes with " ∷ decimal hooks ∷ codes " hooks\n" ∷ [])
 
 -- all positions of these bodies, the closing `end` of each included
 abbrev pub instruction_count : List Body → ℕ
@@ -94,12 +94,12 @@ counts_of m = record {
 
 abbrev pub first_counts_text : Counts → List ℕ
 first_counts_text c =
-    joined (codes "ok types " ∷ decimal c.types ∷ codes " imports " ∷ decimal c.imports ∷ codes " functions " ∷ decimal c.functions
+    concat_texts (codes "ok types " ∷ decimal c.types ∷ codes " imports " ∷ decimal c.imports ∷ codes " functions " ∷ decimal c.functions
     ∷ codes " tables " ∷ decimal c.tables ∷ codes " memories " ∷ decimal c.memories ∷ [])
 
 abbrev pub last_counts_text : Counts → List ℕ
 last_counts_text c =
-    joined (codes " globals " ∷ decimal c.globals ∷ codes " exports " ∷ decimal c.exports ∷ codes " elements " ∷ decimal c.elements
+    concat_texts (codes " globals " ∷ decimal c.globals ∷ codes " exports " ∷ decimal c.exports ∷ codes " elements " ∷ decimal c.elements
     ∷ codes " segments " ∷ decimal c.segments ∷ codes " instructions " ∷ decimal c.instructions ∷ codes "\n" ∷ [])
 
 abbrev pub ok_text : Counts → List ℕ

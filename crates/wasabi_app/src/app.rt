@@ -1,10 +1,10 @@
 // A command, from its words to its status.
 
 ghost use Rattle.std.specs.Prelude.{◌≡◌, ◌≢◌, ◌≤◌, ◌⊎◌, ℕ, List, None};
-ghost use Rattle.outside_io.specs.Outside.{Rose, Unchanged};
+ghost use Rattle.outside_io.specs.Outside.{Rose, Unchanged, WhereKnown};
 ghost use Rattle.wasabi_app.specs.Words.{Line, IsCheck, IsLine, IsRefused, texts};
 ghost use Rattle.wasabi_app.specs.Files.{IsNoModule, IsUnfit, IsInvalid};
-ghost use Rattle.wasabi_app.specs.Ends.{ComesTo, Ends, Status, IsDone, IsWritten, IsWrittenPart, IsOf, IsUnread, IsOtherForm, Decides, IsAboveCap, IsFile, DecidesOtherForm, ChecksAll, Completes};
+ghost use Rattle.wasabi_app.specs.Ends.{ComesTo, Ends, Status, IsDone, IsWritten, IsWrittenPart, IsOf, IsUnread, IsOtherForm, Decides, IsAboveCap, IsFile, IsKept, ChecksAll, Completes};
 ghost use Rattle.wasabi_app.specs.Printing.{Seen, seen, printing};
 
 use crate::check_mode::check;
@@ -75,7 +75,8 @@ pub fn run_app<R: Threads + Sync, S: Shelf, K: Sink>(
     ensures malformed_file { Decides (texts words.now) (S.contents shelf.old) (IsFile (λ limits bytes. IsNoModule bytes)) result 6 }
     ensures unfit_file { Decides (texts words.now) (S.contents shelf.old) (IsFile IsUnfit) result 7 }
     ensures invalid_file { Decides (texts words.now) (S.contents shelf.old) (IsFile IsInvalid) result 8 }
-    ensures another_form { DecidesOtherForm (texts words.now) (S.contents shelf.old) result }
+    ensures another_form { WhereKnown (S.contents shelf.old)
+        (λ _. IsOtherForm (texts words.now) (S.contents shelf.old) → IsKept result 17) }
     ensures checks { ChecksAll (texts words.now) (S.contents shelf.old) result }
     ensures complete { Completes (texts words.now) (S.contents shelf.old) result }
 {

@@ -1,7 +1,6 @@
 -- A subject that is not loaded, that has no output, or whose output was to be written.
 use Rattle.std.proofs.Common.{◌≤◌, length, sym, subst, rules}
 use Rattle.std.proofs.lemmas.Result.{err_from_is_err_and}
-use Rattle.outside_io.specs.Outside.{Rose}
 use Rattle.module_ast.specs.Canonical.{module_bytes}
 use Rattle.instrument.specs.Nops.{narrow_file}
 use Rattle.wasabi_app.specs.Reading.{line_of}

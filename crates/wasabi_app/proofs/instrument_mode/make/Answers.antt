@@ -1,5 +1,5 @@
 -- The form, the output and the line that tells of it.
-use Rattle.std.proofs.Common.{◌≡◌, length, ap, ◌∙◌, arith, rules}
+use Rattle.std.proofs.Common.{◌≡◌, length, ap, ◌∙◌, rules}
 use Rattle.wasabi_app.specs.Making.{hook_count, form, unmade_no_memory}
 use Rattle.wasabi_app.specs.Texts.{wrote_text}
 use Rattle.wasabi_app.proofs.instrument_mode.make.Goals as goal
@@ -20,5 +20,5 @@ returns-in-Ok-wrote_line-clause-ok c =
     record {
       taken = (c.in-Some.nops.name.now, c.in-Some.nops.count, c.in-Some.ensures);
       instrumented = λ file g w. c.in-Ok.ensures file c.args.m.now g w c.in-Some.ensures;
-      told = c.in-Ok-wrote_line.ensures ∙ ap (λ n. wrote_text n c.hooks_in-hooks.result) bytes ∙ ap (wrote_text (length c.in-Ok.output.items)) hooks;
+      line = c.in-Ok-wrote_line.ensures ∙ ap (λ n. wrote_text n c.hooks_in-hooks.result) bytes ∙ ap (wrote_text (length c.in-Ok.output.items)) hooks;
     }

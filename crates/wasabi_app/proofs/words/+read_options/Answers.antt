@@ -1,5 +1,4 @@
 -- The first option and its value, and what stands behind them.
-use Rattle.std.proofs.Common.{rules}
 use Rattle.wasabi_app.proofs.OptionWords.{behind_two, none_behind, options_behind}
 use Rattle.wasabi_app.proofs.words.+read_options.Goals as goal
 
