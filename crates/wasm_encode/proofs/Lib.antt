@@ -1,1 +1,2 @@
 pub mod Rooms
+mod Fitting

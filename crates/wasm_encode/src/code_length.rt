@@ -4,10 +4,10 @@ ghost use Rattle.std.specs.Prelude.{◌≡◌, [], ◌∷◌, ◌++◌, ◌+◌,
 ghost use Rattle.leb_binary.specs.Shortest.{unsigned_bytes, signed_bytes};
 ghost use Rattle.module_ast.specs.Tree.{Tree, done};
 ghost use Rattle.module_ast.specs.Seen.{before};
-ghost use Rattle.module_ast.specs.Fits.{FitsIndex, FitsCode};
+ghost use Rattle.module_ast.specs.Fits.{FitsIndex, FitsMemArg, FitsCode};
 ghost use Rattle.module_ast.specs.Canonical.{vec_bytes, mem_arg_bytes, code_bytes, expr_bytes};
 
-use crate::numbers::{signed_length, unsigned_length};
+use crate::numbers::{index_length, signed_length};
 use crate::vectors::vec_length;
 use module_ast::code::{Code, Instr};
 use module_ast::ops::MemArg;
@@ -16,7 +16,7 @@ use module_ast::ops::MemArg;
 fn indexed_length(index: u32) -> u64
     ensures { result ≡ 1 + length (unsigned_bytes index) }
 {
-    1 + unsigned_length(u64::from(index))
+    1 + index_length(index)
 }
 
 // A branch by a table.
@@ -30,9 +30,10 @@ fn table_branch_length(labels: &[u32], last: u32) -> u64
 
 // The opcode of a load or store, its alignment and its offset.
 fn access_length(arg: MemArg) -> u64
-    ensures { result ≡ 1 + length (mem_arg_bytes arg) }
+    ensures length { result ≡ 1 + length (mem_arg_bytes arg) }
+    ensures fit { FitsMemArg arg }
 {
-    1 + unsigned_length(u64::from(arg.align)) + unsigned_length(u64::from(arg.offset))
+    1 + index_length(arg.align) + index_length(arg.offset)
 }
 
 // A constant.

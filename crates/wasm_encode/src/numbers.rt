@@ -1,8 +1,9 @@
 // Sizes, bytes with their size in front, and how long numbers are.
 
-ghost use Rattle.std.specs.Prelude.{◌≡◌, ◌≤◌, ◌<◌, ◌^◌, ◌+◌, ◌++◌, OnOk, length};
+ghost use Rattle.std.specs.Prelude.{◌≡◌, ◌≤◌, ◌<◌, ◌^◌, ◌+◌, ◌++◌, OnOk, All, length};
 ghost use Rattle.leb_binary.specs.Shortest.{unsigned_bytes, signed_bytes, positive_within, negative_within};
 ghost use Rattle.module_ast.specs.Canonical.{sized_bytes};
+ghost use Rattle.module_ast.specs.Fits.{FitsIndex};
 
 use std::alloc::AllocError;
 
@@ -41,6 +42,15 @@ pub fn signed_length(v: i64) -> u64
     }
 }
 
+/// How many bytes the shortest spelling of an index has.
+pub fn index_length(index: u32) -> u64
+    ensures length { result ≡ length (unsigned_bytes index) }
+    ensures bound { result ≤ 2 ^ 32 }
+    ensures fit { FitsIndex index }
+{
+    unsigned_length(u64::from(index))
+}
+
 /// Adds a size or a count in its shortest spelling (5.2.2).
 pub fn put_size(out: &mut Vec<u8>, size: u64) -> Result<(), AllocError>
     ensures { OnOk result (out.new.items ≡ out.old.items ++ unsigned_bytes size) }
@@ -57,7 +67,8 @@ pub fn put_size(out: &mut Vec<u8>, size: u64) -> Result<(), AllocError>
 /// How many bytes these are with their number in front.
 pub fn sized_length(bytes: &[u8]) -> u64
     requires { length (sized_bytes bytes.now) < 2 ^ 63 }
-    ensures { result ≡ length (sized_bytes bytes.now) }
+    ensures length { result ≡ length (sized_bytes bytes.now) }
+    ensures fit { All (λ b. b < 256) bytes.now }
 {
     let size = bytes.len() as u64;
     unsigned_length(size) + size

@@ -6,7 +6,7 @@ ghost use Rattle.module_ast.specs.Canonical.{sized_bytes, import_bytes, global_b
 
 use crate::code::put_expr;
 use crate::code_length::expr_length;
-use crate::numbers::{put_size, put_sized, sized_length, unsigned_length};
+use crate::numbers::{index_length, put_size, put_sized, sized_length, unsigned_length};
 use crate::types::val_type_byte;
 use crate::vectors::{Encode, put_vec, vec_length};
 use leb_binary::put_u32;
@@ -81,7 +81,7 @@ impl Encode for Export {
     ghost fits = { FitsExport };
 
     fn spelled_length(&self) -> u64 {
-        name_length(&self.name) + 1 + unsigned_length(u64::from(self.index))
+        name_length(&self.name) + 1 + index_length(self.index)
     }
 
     fn put(&self, out: &mut Vec<u8>) -> Result<(), AllocError> {
@@ -98,7 +98,7 @@ impl Encode for Element {
     ghost fits = { FitsElement };
 
     fn spelled_length(&self) -> u64 {
-        unsigned_length(u64::from(self.table))
+        index_length(self.table)
             + expr_length(&self.offset)
             + vec_length(self.funcs.as_slice())
     }
@@ -117,7 +117,7 @@ impl Encode for Segment {
     ghost fits = { FitsSegment };
 
     fn spelled_length(&self) -> u64 {
-        unsigned_length(u64::from(self.memory))
+        index_length(self.memory)
             + expr_length(&self.offset)
             + sized_length(self.bytes.as_slice())
     }
@@ -136,7 +136,7 @@ impl Encode for Group {
     ghost fits = { λ _. Unit {0} };
 
     fn spelled_length(&self) -> u64 {
-        unsigned_length(u64::from(self.count)) + 1
+        index_length(self.count) + 1
     }
 
     fn put(&self, out: &mut Vec<u8>) -> Result<(), AllocError> {
@@ -170,7 +170,7 @@ pub fn start_length(start: Option<u32>) -> u64
     let Some(func) = start else {
         return 0;
     };
-    let size = unsigned_length(u64::from(func));
+    let size = index_length(func);
     1 + unsigned_length(size) + size
 }
 
@@ -182,6 +182,6 @@ pub fn put_start(out: &mut Vec<u8>, start: Option<u32>) -> Result<(), AllocError
         return Ok(());
     };
     out.push(8)?;
-    put_size(out, unsigned_length(u64::from(func)))?;
+    put_size(out, index_length(func))?;
     put_u32(out, func)
 }

@@ -4,7 +4,7 @@ ghost use Rattle.std.specs.Prelude.{◌≡◌, [], ◌∷◌, ◌++◌, ◌<◌,
 ghost use Rattle.module_ast.specs.Fits.{FitsRange, FitsItem};
 ghost use Rattle.module_ast.specs.Canonical.{val_type_byte, val_type_bytes, block_type_bytes, func_type_bytes, limits_bytes, table_bytes, global_type_bytes, item_bytes};
 
-use crate::numbers::unsigned_length;
+use crate::numbers::index_length;
 use crate::vectors::{Encode, put_vec, vec_length};
 use leb_binary::put_u32;
 use module_ast::code::BlockType;
@@ -71,10 +71,10 @@ impl Encode for Range {
     ghost fits = { FitsRange };
 
     fn spelled_length(&self) -> u64 {
-        let least = 1 + unsigned_length(u64::from(self.min));
+        let least = 1 + index_length(self.min);
         match self.max {
             None => least,
-            Some(max) => least + unsigned_length(u64::from(max)),
+            Some(max) => least + index_length(max),
         }
     }
 
@@ -135,7 +135,7 @@ impl Encode for Item {
 
     fn spelled_length(&self) -> u64 {
         match self {
-            Item::Func(ty) => 1 + unsigned_length(u64::from(*ty)),
+            Item::Func(ty) => 1 + index_length(*ty),
             Item::Table(range) => 1 + table_length(range),
             Item::Memory(range) => 1 + range.spelled_length(),
             Item::Global(ty) => 1 + ty.spelled_length(),

@@ -5,7 +5,7 @@ ghost use Rattle.leb_binary.specs.Shortest.{unsigned_bytes};
 ghost use Rattle.module_ast.specs.Fits.{FitsIndex};
 ghost use Rattle.module_ast.specs.Canonical.{vec_bytes, vec_section};
 
-use crate::numbers::{put_size, unsigned_length};
+use crate::numbers::{index_length, put_size, unsigned_length};
 use leb_binary::put_u32;
 use std::alloc::AllocError;
 
@@ -33,7 +33,7 @@ impl Encode for u32 {
     ghost fits = { FitsIndex };
 
     fn spelled_length(&self) -> u64 {
-        unsigned_length(u64::from(*self))
+        index_length(*self)
     }
 
     fn put(&self, out: &mut Vec<u8>) -> Result<(), AllocError> {

@@ -1,5 +1,16 @@
+use Rattle.std.proofs.Common.{◌<◌, ◌^◌, length, subst, sym, arith}
+use Rattle.module_ast.specs.Grammar.{IsModule}
+use Rattle.module_ast.specs.Profile.{tree_of}
+use Rattle.module_ast.specs.Canonical.{module_bytes, without_customs}
+use Rattle.module_ast.proofs.WrittenModules.{module_spelled}
 use Rattle.wasm_encode.proofs.Rooms.{bodies_room}
 use Rattle.wasm_encode.proofs.encode.Goals as goal
 
 pub bodies_length-bodies-requires : goal.bodies_length-bodies-requires
 bodies_length-bodies-requires c = rw c.as_slice.ensures (bodies_room c.args.m.now c.requires.room)
+
+pub returns-clause-grammar : goal.returns-clause-grammar
+returns-clause-grammar c =
+    let m = c.args.m.now in
+    let short : length (module_bytes m) < 2 ^ 32 = omega (arith, c.module_length-length.ensures.length, c.requires.most, c.if-length-max.false) in
+    subst (λ bytes. IsModule bytes (tree_of (without_customs m))) (sym c.in_ok-spell_module.ensures) (module_spelled m (c.module_length-length.ensures.fit short))
