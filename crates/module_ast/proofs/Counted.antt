@@ -1,5 +1,5 @@
 -- The counts of a module are those of its imports and of what it defines.
-use Rattle.std.proofs.Common.{◌≡◌, ℕ, ◌+◌, List, [], ◌∷◌, length, length-append, arith}
+use Rattle.std.proofs.Common.{◌≡◌, ◌+◌, List, [], ◌∷◌, length, length-append, arith}
 use Rattle.module_ast.specs.declared.module.GlobalDef.{GlobalDef}
 use Rattle.module_ast.specs.declared.module.Module.{Module}
 use Rattle.module_ast.specs.declared.spaces.Counts.{Counts}
