@@ -21,7 +21,8 @@ use Rattle.rewrite.specs.Setting.{Setting}
 use Rattle.rewrite.specs.Temporaries.{place_temps, body_temps, greatest, ints_in, longs_in}
 use Rattle.rewrite.specs.Rewrite.{live_code, rewritten_body}
 use Rattle.instrument.specs.Nops.{nops, nop_module, no_groups, nop_group}
-use Rattle.instrument.specs.Output.{output, output_with}
+use Rattle.hook_mono.specs.Texts.{hook_text}
+use Rattle.instrument.specs.Output.{hook_module_text, output, output_with}
 
 -- nops, the first of them at p, each behind its hook call
 abbrev pub told_nops : (p count : ℕ) → Tree

@@ -168,12 +168,12 @@ code_length told s n f h =
     omega arith
 
 -- of what the export section contains
-pub export_length : (name : Text) (index : ℕ) → length name ≤ narrow_file → index < 2 ^ 32 → length (vec_bytes export_bytes (nop_export name index ∷ [])) ≤ length name + 12
+pub export_length : (name : Text) (index : ℕ) → length name.bytes ≤ narrow_file → index < 2 ^ 32 → length (vec_bytes export_bytes (nop_export name index ∷ [])) ≤ length name.bytes + 12
 export_length name index h i =
-    let c = sized_length name (omega arith) in
+    let c = sized_length name.bytes (omega arith) in
     let u = unsigned_five index i in
     let e = ap length (append-nil (export_bytes (nop_export name index))) in
-    let l = length-append (sized_bytes name) (0 ∷ unsigned_bytes index) in
+    let l = length-append (sized_bytes name.bytes) (0 ∷ unsigned_bytes index) in
     omega arith
 
 -- The original is as long as its name and its nops together.
@@ -181,11 +181,11 @@ nops_long : (n : ℕ) → length (code_bytes (nops n done)) ≡ n
 nops_long zero = refl
 nops_long (suc n) = let r = nops_long n in omega arith
 
-name_long : (name : Text) → length name ≤ length (vec_section 7 export_bytes (nop_export name 0 ∷ []))
+name_long : (name : Text) → length name.bytes ≤ length (vec_section 7 export_bytes (nop_export name 0 ∷ []))
 name_long name =
     let content = vec_bytes export_bytes (nop_export name 0 ∷ []) in
-    let inner : length content ≡ length (unsigned_bytes 1) + length (sized_bytes name ++ 0 ∷ unsigned_bytes 0) = length-append (unsigned_bytes 1) ((sized_bytes name ++ 0 ∷ unsigned_bytes 0) ++ []) ∙ ap (λ l. length (unsigned_bytes 1) + length l) (append-nil (sized_bytes name ++ 0 ∷ unsigned_bytes 0)) in
-    omega (arith, length-append (unsigned_bytes (length content)) content, length-append (sized_bytes name) (0 ∷ unsigned_bytes 0), length-append (unsigned_bytes (length name)) name)
+    let inner : length content ≡ length (unsigned_bytes 1) + length (sized_bytes name.bytes ++ 0 ∷ unsigned_bytes 0) = length-append (unsigned_bytes 1) ((sized_bytes name.bytes ++ 0 ∷ unsigned_bytes 0) ++ []) ∙ ap (λ l. length (unsigned_bytes 1) + length l) (append-nil (sized_bytes name.bytes ++ 0 ∷ unsigned_bytes 0)) in
+    omega (arith, length-append (unsigned_bytes (length content)) content, length-append (sized_bytes name.bytes) (0 ∷ unsigned_bytes 0), length-append (unsigned_bytes (length name.bytes)) name.bytes)
 
 code_long : (n : ℕ) → n ≤ length (vec_section 10 (λ b. sized_bytes (body_bytes b)) (record { groups = []; code = nops n done } ∷ []))
 code_long n =
@@ -196,7 +196,7 @@ code_long n =
     omega (arith, nops_long n, length-append (unsigned_bytes (length content)) content, length-append (unsigned_bytes (length body)) body, length-append (code_bytes (nops n done)) (0x0B ∷ []))
 
 -- both are short where the original is
-pub original_long : (name : Text) (count : ℕ) → length name + count ≤ length (module_bytes (nop_module name count))
+pub original_long : (name : Text) (count : ℕ) → length name.bytes + count ≤ length (module_bytes (nop_module name count))
 original_long name count =
     let front = header ++ vec_section 1 func_type_bytes (nop_module name count).types ++ vec_section 3 unsigned_bytes (0 ∷ []) in
     let named = vec_section 7 export_bytes (nop_export name 0 ∷ []) in
@@ -216,7 +216,7 @@ keys_length : (told : Bool) → length (nop_keys told) ≤ 1
 keys_length true = omega arith
 keys_length false = omega arith
 
-named_length : (name : Text) (index : ℕ) → length name ≤ narrow_file → index < 2 ^ 32 → length (vec_section 7 export_bytes (nop_export name index ∷ [])) ≤ length name + 18
+named_length : (name : Text) (index : ℕ) → length name.bytes ≤ narrow_file → index < 2 ^ 32 → length (vec_section 7 export_bytes (nop_export name index ∷ [])) ≤ length name.bytes + 18
 named_length name index h i =
     let e = export_length name index h i in
     omega (arith, section_length 7 (vec_bytes export_bytes (nop_export name index ∷ [])) (omega arith))
@@ -231,9 +231,9 @@ short_by : (a b c whole : List ℕ) (name count : ℕ) → length whole ≡ leng
 short_by a b c whole name count e n k f g h = omega (arith, length-append (a ++ b) c, length-append a b)
 
 -- The bytes that are written are no more than an output may have.
-pub output_short : (told : Bool) (name : Text) (count : ℕ) → length name ≤ narrow_file → count ≤ narrow_file → length (module_bytes (nops_output told name count)) ≤ 268435456
+pub output_short : (told : Bool) (name : Text) (count : ℕ) → length name.bytes ≤ narrow_file → count ≤ narrow_file → length (module_bytes (nops_output told name count)) ≤ 268435456
 output_short told name count n c =
     let index = length (nop_keys told) in
     let s = nop_site name count in
-    short_by (front_bytes told) (vec_section 7 export_bytes (nop_export name index ∷ [])) (vec_section 10 (λ b. sized_bytes (body_bytes b)) (nop_body told s count ∷ [])) (module_bytes (nops_output told name count)) (length name) count
+    short_by (front_bytes told) (vec_section 7 export_bytes (nop_export name index ∷ [])) (vec_section 10 (λ b. sized_bytes (body_bytes b)) (nop_body told s count ∷ [])) (module_bytes (nops_output told name count)) (length name.bytes) count
     (ap length (output_sections told name count)) n c (front_length told) (named_length name index n (omega (arith, keys_length told))) (coded_length told s count (site_is_first name count) c)

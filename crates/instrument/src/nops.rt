@@ -1,6 +1,6 @@
 // Modules of one function of nops.
 
-ghost use Rattle.std.specs.Prelude.{◌≡◌, ◌≢◌, ◌≤◌, ◌<◌, ◌^◌, ◌∷◌, [], length, ℕ, MatchOption, IfOk, IsTrue, ◌↔◌};
+ghost use Rattle.std.specs.Prelude.{◌≡◌, ◌≢◌, ◌≤◌, ◌<◌, ◌^◌, ◌∷◌, [], length, ℕ, List, MatchOption, IfOk, IsTrue, ◌↔◌};
 ghost use Rattle.module_ast.specs.Seen.{code_of};
 ghost use Rattle.module_ast.specs.Texts.{Text};
 ghost use Rattle.module_ast.specs.Tree.{done};

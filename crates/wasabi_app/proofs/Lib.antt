@@ -1,5 +1,4 @@
 pub mod OptionWords
-pub mod WholeModules
 pub mod Positions
 pub mod Files
 pub mod Contents

@@ -28,7 +28,6 @@ pub(crate) fn load<'w, R: Threads + Sync, S: Shelf>(
 ) -> Result<ValidModule, Refusal<'w>>
     requires short { cap ≤ wide_file }
     requires nesting { limits.now.nesting ≤ 1002 }
-    requires locals { limits.now.locals ≤ 60000 }
     ensures ok { IfOk result (λ v. IsLoaded (S.contents shelf.old) name.now cap limits.now v) }
     ensures refused { IfErr result (λ r. Unloaded (module_read name.now cap limits.now)
         (seen (S.contents shelf.old) (S.read_faults shelf.old) (S.write_faults shelf.old))
@@ -56,7 +55,6 @@ fn valid_module<'w, R: Threads + Sync>(
 ) -> Result<ValidModule, Refusal<'w>>
     requires short { length bytes.now ≤ wide_file }
     requires nesting { limits.now.nesting ≤ 1002 }
-    requires locals { limits.now.locals ≤ 60000 }
     ensures ok { IfOk result (λ v. IsFit limits.now bytes.now v × IsValid v) }
     ensures refused { IfErr result (λ r. Refutes name.now limits.now bytes.now (refusal_status r) (refusal_text r)) }
 {

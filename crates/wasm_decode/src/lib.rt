@@ -3,6 +3,7 @@
 
 ghost use Rattle.std.specs.Prelude.{◌≡◌, ◌≤◌, ℕ, length, IfOk, IsErrOf};
 ghost use Rattle.module_ast.specs.Grammar.{IsFault};
+ghost use Rattle.module_ast.specs.Limits.{IsWhole};
 ghost use Rattle.module_ast.specs.Profile.{IsWithin};
 ghost use Rattle.module_ast.specs.Decoding.{Gram, FileFloats, FileExceeds};
 ghost use Rattle.module_ast.specs.declared.module.Which.{Which};
@@ -33,11 +34,13 @@ use std::alloc::Global;
 /// The module with these bytes (5.5.16), of at most 268,435,456.
 ///
 /// The limits are those of the counted quantities, with nesting at most 1,002. It is linear in the bytes, and nothing is
-/// reserved by a number that they state. `DecodeFault` says when each error comes.
+/// reserved by a number that they state. The module is whole: it has a body for each function, and can be written again.
+/// `DecodeFault` says when each error comes.
 pub fn decode(alloc: Global, bytes: &[u8], limits: &Limits) -> Result<Module, DecodeFault>
     requires short { length bytes.now ≤ 268435456 }
     requires nesting { limits.now.nesting ≤ 1002 }
     ensures ok { IfOk result (λ m. Gram bytes.now m × IsWithin limits.now m) }
+    ensures whole { IfOk result (λ m. IsWhole m) }
     ensures malformed { (n : ℕ) → IsErrOf result (DecodeFault.Malformed n) → IsFault bytes.now n }
     ensures float { (n : ℕ) → IsErrOf result (DecodeFault.Float n) → FileFloats bytes.now n }
     ensures limit { (which : Which) (value : ℕ) → IsErrOf result (DecodeFault.Limit which value) → FileExceeds limits.now bytes.now which value }

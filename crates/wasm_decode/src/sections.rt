@@ -2,6 +2,7 @@
 
 ghost use Rattle.std.specs.Prelude.{◌≡◌, ◌≤◌, ℕ, List, length, IfOk, IsErrOf};
 ghost use Rattle.leb_binary.specs.Leb.{IsFront};
+ghost use Rattle.leb_binary.specs.Texts.{Text};
 ghost use Rattle.module_ast.specs.Grammar.{ModuleNode, Section, IsU32, IsVec, IsSized, IsCustom, IsContent, id_of, with_section};
 ghost use Rattle.wasm_decode.specs.Drafts.{IsVectorRead, IsDraft};
 
@@ -47,7 +48,7 @@ fn start(content: &[u8]) -> Result<u32, Fault>
 // The name of a custom section (5.5.3), with any bytes behind it.
 fn custom(alloc: Global, content: &[u8]) -> Result<Name, Fault>
     ensures ok { IfOk result (λ n. IsCustom content.now n) }
-    ensures malformed { IsErrOf result Fault.Malformed → (n : List ℕ) → IsCustom content.now n → ⊥ }
+    ensures malformed { IsErrOf result Fault.Malformed → (n : Text) → IsCustom content.now n → ⊥ }
 {
     let mut cursor = Cursor::new(content);
     let name = read_name(alloc, &mut cursor)?;

@@ -2,6 +2,7 @@ use Rattle.std.proofs.Common.{◌≡◌, inl, inr, length, refl, ap, subst, arit
 use Rattle.module_ast.specs.Grammar.{AreItems, IsSection, module_of, function_section, code_section}
 use Rattle.module_ast.specs.Profile.{tree_of}
 use Rattle.std.proofs.lemmas.Result.{IfOk-weaker}
+use Rattle.module_ast.proofs.Wholes.{read_whole}
 use Rattle.wasm_decode.proofs.Headers.{fails_in_section, has_sections, is_module}
 use Rattle.wasm_decode.proofs.decode.Goals as goal
 
@@ -41,6 +42,10 @@ returns-clause-ok c =
     IfOk-weaker c.settle.result _ _ (λ m h.
     let t = h (module_of r.0) r.3 in
     (is_module _ r.0 (tree_of m) (has_sections _ _ r.0 c.in-Some.ensures.is (subst (λ l. AreItems IsSection l r.0) c.new-cursor.ensures.left r.1) r.2) t.0 (omega (arith, (r.3 function_section).1, (r.3 code_section).0.1)), t.1)) c.settle.ensures.ok
+
+pub returns-clause-whole : goal.returns-clause-whole
+returns-clause-whole c =
+    IfOk-weaker c.settle.result _ _ (λ m ok. read_whole c.args.limits.now c.args.bytes.now m c.requires.short c.requires.nesting ok.0 ok.1) (returns-clause-ok c)
 
 pub returns-clause-malformed : goal.returns-clause-malformed
 returns-clause-malformed c = λ n e. absurd (c.settle.ensures.malformed n e)

@@ -5,7 +5,7 @@ use Rattle.module_ast.specs.Limits.{IsWhole, wide}
 use Rattle.wasabi_app.specs.Texts.{counts_of, ok_text}
 use Rattle.wasabi_app.specs.Ends.{unloaded, memory_ended}
 use Rattle.wasabi_app.proofs.Outputs.{check_reads, answers_checked}
-use Rattle.wasabi_app.proofs.WholeModules.{fit_whole}
+use Rattle.module_ast.proofs.Wholes.{read_whole}
 use Rattle.wasabi_app.proofs.check_mode.check.Goals as goal
 
 pub returns-in_err-valid-clause-ended : goal.returns-in_err-valid-clause-ended
@@ -16,7 +16,7 @@ returns-in_err-valid-clause-ended g c = λ words k.
 pub count-requires : goal.count-requires
 count-requires g c =
     let is = rw c.wide.ensures at c.in_ok-valid.ensures.ok in
-    subst IsWhole (sym c.module.ensures.module) (fit_whole wide is.bytes c.in_ok-valid.valid is.read.short (omega arith) (omega arith) is.fit)
+    subst IsWhole (sym c.module.ensures.module) (read_whole wide is.bytes c.in_ok-valid.valid is.read.short (omega arith) is.fit.spelled is.fit.within)
 
 pub returns-in-Ok-clause-ended : goal.returns-in-Ok-clause-ended
 returns-in-Ok-clause-ended g c = λ words k.

@@ -2,13 +2,13 @@
 use Rattle.std.proofs.Common.{ap, subst, Err}
 use Rattle.wasabi_app.specs.Loading.{Refutes, broken_rule, invalid_body, no_memory}
 use Rattle.wasabi_app.specs.Texts.{rule_text}
-use Rattle.wasabi_app.proofs.WholeModules.{fit_whole}
+use Rattle.module_ast.proofs.Wholes.{read_whole}
 use Rattle.wasabi_app.proofs.Outputs.{valid_fit}
 use Rattle.wasabi_app.proofs.load.valid_module.Goals as goal
 
 pub validate-requires-clause-whole : goal.validate-requires-clause-whole
 validate-requires-clause-whole g c =
-    λ _ _. fit_whole c.args.limits.now c.args.bytes.now c.in_ok-module.module c.requires.short c.requires.locals c.requires.nesting c.in_ok-module.ensures.ok
+    λ _ _. read_whole c.args.limits.now c.args.bytes.now c.in_ok-module.module c.requires.short c.requires.nesting c.in_ok-module.ensures.ok.spelled c.in_ok-module.ensures.ok.within
 
 pub returns-in-Ok-clause-ok : goal.returns-in-Ok-clause-ok
 returns-in-Ok-clause-ok g c = valid_fit c.args.limits.now c.args.bytes.now c.in_ok-module.module _ c.in-Ok.ensures.same c.in_ok-module.ensures.ok c.in-Ok.ensures.valid

@@ -26,11 +26,11 @@ returns-in_err-name-clause-malformed c = λ e. both_none_first IsName Behind nam
 
 pub returns-in_err-kind-clause-malformed : goal.returns-in_err-kind-clause-malformed
 returns-in_err-kind-clause-malformed c = λ e.
-    both_none_second IsName Behind name_of behind_of _ _ _ one_name c.in_ok-name.ensures.ok (both_none_first IsExportKind IsU32 (λ (p : ExportKind × ℕ). p.0) (λ (p : ExportKind × ℕ). p.1) _ c.in_err-kind.ensures.bad)
+    both_none_second IsName Behind name_of behind_of _ _ c.in_ok-name.name one_name c.in_ok-name.ensures.ok (both_none_first IsExportKind IsU32 (λ (p : ExportKind × ℕ). p.0) (λ (p : ExportKind × ℕ). p.1) _ c.in_err-kind.ensures.bad)
 
 pub returns-in_err-index-clause-malformed : goal.returns-in_err-index-clause-malformed
 returns-in_err-index-clause-malformed c = λ e.
-    both_none_second IsName Behind name_of behind_of _ _ _ one_name c.in_ok-name.ensures.ok (both_none_second IsExportKind IsU32 (λ (p : ExportKind × ℕ). p.0) (λ (p : ExportKind × ℕ). p.1) _ _ _ one_export_kind c.in_ok-kind.ensures.ok c.in_err-index.ensures.bad.1)
+    both_none_second IsName Behind name_of behind_of _ _ c.in_ok-name.name one_name c.in_ok-name.ensures.ok (both_none_second IsExportKind IsU32 (λ (p : ExportKind × ℕ). p.0) (λ (p : ExportKind × ℕ). p.1) _ _ _ one_export_kind c.in_ok-kind.ensures.ok c.in_err-index.ensures.bad.1)
 
 pub returns-clause-ok : goal.returns-clause-ok
 returns-clause-ok c =

@@ -24,11 +24,11 @@ returns-in_err-module-clause-malformed c = λ e. both_none_first IsName Behind m
 
 pub returns-in_err-name-clause-malformed : goal.returns-in_err-name-clause-malformed
 returns-in_err-name-clause-malformed c = λ e.
-    both_none_second IsName Behind module_of behind_of _ _ _ one_name c.in_ok-module.ensures.ok (both_none_first IsName IsItem (λ (p : Text × ItemNode). p.0) (λ (p : Text × ItemNode). p.1) _ (c.in_err-name.ensures.malformed (search rules)))
+    both_none_second IsName Behind module_of behind_of _ _ c.in_ok-module.module one_name c.in_ok-module.ensures.ok (both_none_first IsName IsItem (λ (p : Text × ItemNode). p.0) (λ (p : Text × ItemNode). p.1) _ (c.in_err-name.ensures.malformed (search rules)))
 
 pub returns-in_err-item-clause-malformed : goal.returns-in_err-item-clause-malformed
 returns-in_err-item-clause-malformed c = λ e.
-    both_none_second IsName Behind module_of behind_of _ _ _ one_name c.in_ok-module.ensures.ok (both_none_second IsName IsItem (λ (p : Text × ItemNode). p.0) (λ (p : Text × ItemNode). p.1) _ _ _ one_name c.in_ok-name.ensures.ok c.in_err-item.ensures.bad)
+    both_none_second IsName Behind module_of behind_of _ _ c.in_ok-module.module one_name c.in_ok-module.ensures.ok (both_none_second IsName IsItem (λ (p : Text × ItemNode). p.0) (λ (p : Text × ItemNode). p.1) _ _ c.in_ok-name.name one_name c.in_ok-name.ensures.ok c.in_err-item.ensures.bad)
 
 pub returns-in-Some-clause-ok : goal.returns-in-Some-clause-ok
 returns-in-Some-clause-ok c =
