@@ -37,3 +37,28 @@ fn names_instructions(rt: HostRuntime) {
     assert_eq!(rt; NumOp::I64ExtendI32U.name(), "i64.extend_i32_u");
     assert_eq!(rt; NumOp::I64ShrS.name(), "i64.shr_s");
 }
+
+// Signs, widths and traps.
+#[test]
+fn computes(rt: HostRuntime) {
+    let least = Value::I32(0x8000_0000);
+    let all = Value::I32(0xffff_ffff);
+    let cases = [
+        (NumOp::I32DivS, least, all, Err(NumTrap::Overflow)),
+        (NumOp::I32RemS, least, all, Ok(Value::I32(0))),
+        (
+            NumOp::I32DivU,
+            least,
+            Value::I32(0),
+            Err(NumTrap::DivideByZero),
+        ),
+        (NumOp::I32ShrS, least, Value::I32(31), Ok(all)),
+        (NumOp::I32Rotl, least, Value::I32(33), Ok(Value::I32(1))),
+        (NumOp::I32LtS, least, Value::I32(0), Ok(Value::I32(1))),
+    ];
+    for (op, a, b, expected) in cases {
+        assert_eq!(rt; binary(op, a, b), expected);
+    }
+    assert_eq!(rt; unary(NumOp::I64ExtendI32S, all), Value::I64(u64::MAX));
+    assert_eq!(rt; unary(NumOp::I32WrapI64, Value::I64(u64::MAX)), all);
+}
