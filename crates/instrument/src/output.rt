@@ -137,12 +137,7 @@ fn bodies(alloc: Global, count: u32, told: bool) -> Result<Seq<Body>, AllocError
 
 /// The module of `count` nops under a name with the hook of nop where its nops are told. An `AllocError` comes where
 /// memory ends.
-pub fn nops_output(
-    alloc: Global,
-    name: &Name,
-    count: u32,
-    told: bool,
-) -> Result<Module, AllocError>
+pub fn nops_output(alloc: Global, name: &Name, count: u32, told: bool) -> Result<Module, AllocError>
     requires { count ≤ narrow_file }
     ensures { IfOk result (λ output. output ≡ nops_output told name.now count) }
 {

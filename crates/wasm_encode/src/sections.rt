@@ -98,9 +98,7 @@ impl Encode for Element {
     ghost fits = { FitsElement };
 
     fn spelled_length(&self) -> u64 {
-        index_length(self.table)
-            + expr_length(&self.offset)
-            + vec_length(self.funcs.as_slice())
+        index_length(self.table) + expr_length(&self.offset) + vec_length(self.funcs.as_slice())
     }
 
     fn put(&self, out: &mut Vec<u8>) -> Result<(), AllocError> {
@@ -117,9 +115,7 @@ impl Encode for Segment {
     ghost fits = { FitsSegment };
 
     fn spelled_length(&self) -> u64 {
-        index_length(self.memory)
-            + expr_length(&self.offset)
-            + sized_length(self.bytes.as_slice())
+        index_length(self.memory) + expr_length(&self.offset) + sized_length(self.bytes.as_slice())
     }
 
     fn put(&self, out: &mut Vec<u8>) -> Result<(), AllocError> {
