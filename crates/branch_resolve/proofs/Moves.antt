@@ -14,7 +14,7 @@ use Rattle.module_ast.specs.Plains.{plain_of, IsPlainInstr, goes_on_by}
 use Rattle.module_ast.specs.Positions as positions
 use Rattle.module_ast.specs.Positions.{Scope, code_size, code_places, ends_live, goes_on, at, acts, opens, alternates, closes, then_scope, else_scope}
 use Rattle.branch_resolve.specs.Scopes.{block_of, blocks_around}
-use Rattle.branch_resolve.specs.Walks.{places_from, outer_places, level_places, end_places, scope_of, scopes_of, block_sizes, other_sizes, outer_sizes, IsPartWithin, IsOtherWithin, AreSteps, AreWithin, IsOpening, kind_scope}
+use Rattle.branch_resolve.specs.Levels.{places_from, outer_places, level_places, end_places, scope_of, level_scopes, block_sizes, other_sizes, outer_sizes, IsPartWithin, IsOtherWithin, AreSteps, AreLevelsWithin, IsOpening, kind_scope}
 use Rattle.branch_resolve.specs.declared.steps.Other.{Other}
 use Rattle.branch_resolve.specs.declared.steps.Level.{Level}
 
@@ -62,10 +62,10 @@ goes None = true
 goes (Some p) = goes_on p
 
 pub act_places : (ls : List Level) (live : Bool) (p : ℕ) (i : Instr) (k : Tree) → IsPlainInstr i
-    → (q : Plain) × (plain_of i ≡ Some q) × (places_from ls live p (before i k) ≡ at p live (acts q) (scopes_of ls) ∷ places_from ls (live && goes_on_by i) (p + 1) k)
+    → (q : Plain) × (plain_of i ≡ Some q) × (places_from ls live p (before i k) ≡ at p live (acts q) (level_scopes ls) ∷ places_from ls (live && goes_on_by i) (p + 1) k)
 act_places ls live p i k h =
     let (q, o, f) = by_plain i h in
-    (q, o, ap (places_from ls live p) (f k) ∙ ap (λ g. at p live (acts q) (scopes_of ls) ∷ places_from ls (live && g) (p + 1) k) (sym (ap goes o)))
+    (q, o, ap (places_from ls live p) (f k) ∙ ap (λ g. at p live (acts q) (level_scopes ls) ∷ places_from ls (live && g) (p + 1) k) (sym (ap goes o)))
 
 -- ---- a block without an else part
 
@@ -141,14 +141,14 @@ module _ (kind : BlockKind) (p : ℕ) (code body k : Tree) (ls : List Level) (xs
       within = (subst (λ z. IsOtherWithin z l.part (code_of l.behind.now)) (sym one) (omega (arith, opening_fits, o.end, ap (λ (z : Scope). z.end) e, ap code_size behind), omega (arith, opening_fits, o.target, ap (λ (z : Scope). z.target) e)), w.within);
     }
 
-    pub open_places : (live : Bool) → l.live ≡ live → places_from ls live p code ≡ at p live (opens (scope_of l.part)) (scopes_of ls) ∷ places_from (l ∷ ls) live (p + 1) body
+    pub open_places : (live : Bool) → l.live ≡ live → places_from ls live p code ≡ at p live (opens (scope_of l.part)) (level_scopes ls) ∷ places_from (l ∷ ls) live (p + 1) body
     open_places live same =
         let s = kind_scope kind p (code_size body) in
-        let f : Scope → Option Other → Bool → Tree → List positions.Place = λ s o b k. at p live (opens s) (scopes_of ls)
-        ∷ (code_places (s ∷ scopes_of ls) live (p + 1) body ++ level_places o s b (ends_live live body) k (scopes_of ls) (outer_places ls (ends_live b k))) in
-        ap (λ z. z ++ outer_places ls (ends_live live code)) (o.places (scopes_of ls) live)
-        ∙ ap (λ z. at p live (opens s) (scopes_of ls) ∷ z) (append_assoc (code_places (s ∷ scopes_of ls) live (p + 1) body) (at s.end (ends_live live body) (closes s) (scopes_of ls) ∷ code_places (scopes_of ls) live (s.end + 1) k) (outer_places ls (ends_live live code)))
-        ∙ ap (λ z. at p live (opens s) (scopes_of ls) ∷ (code_places (s ∷ scopes_of ls) live (p + 1) body ++ end_places s live (ends_live live body) k (scopes_of ls) (outer_places ls z))) (o.live live)
+        let f : Scope → Option Other → Bool → Tree → List positions.Place = λ s o b k. at p live (opens s) (level_scopes ls)
+        ∷ (code_places (s ∷ level_scopes ls) live (p + 1) body ++ level_places o s b (ends_live live body) k (level_scopes ls) (outer_places ls (ends_live b k))) in
+        ap (λ z. z ++ outer_places ls (ends_live live code)) (o.places (level_scopes ls) live)
+        ∙ ap (λ z. at p live (opens s) (level_scopes ls) ∷ z) (append_assoc (code_places (s ∷ level_scopes ls) live (p + 1) body) (at s.end (ends_live live body) (closes s) (level_scopes ls) ∷ code_places (level_scopes ls) live (s.end + 1) k) (outer_places ls (ends_live live code)))
+        ∙ ap (λ z. at p live (opens s) (level_scopes ls) ∷ (code_places (s ∷ level_scopes ls) live (p + 1) body ++ end_places s live (ends_live live body) k (level_scopes ls) (outer_places ls z))) (o.live live)
         ∙ ap (λ z. f z None live k) (sym e)
         ∙ ap (λ z. f (scope_of l.part) z live k) (sym one)
         ∙ ap (λ z. f (scope_of l.part) l.other z k) (sym same)
@@ -190,9 +190,9 @@ module _ (p : ℕ) (body other k : Tree) (ls : List Level) (xs : List ℕ) (u : 
         next_two : (n : ℕ) → n + 2 ≡ n + 1 + 1
         next_two n = omega arith
 
-    pub two_places : (live : Bool) → l.live ≡ live → places_from ls live p (if_else ty body other k) ≡ at p live (opens (scope_of l.part)) (scopes_of ls) ∷ places_from (l ∷ ls) live (p + 1) body
+    pub two_places : (live : Bool) → l.live ≡ live → places_from ls live p (if_else ty body other k) ≡ at p live (opens (scope_of l.part)) (level_scopes ls) ∷ places_from (l ∷ ls) live (p + 1) body
     two_places live alive =
-        let sc = scopes_of ls in
+        let sc = level_scopes ls in
         let a = then_scope p body other in
         let b = else_scope p body other in
         let outer = outer_places ls (ends_live live k) in
@@ -215,8 +215,8 @@ module _ (p : ℕ) (body other k : Tree) (ls : List Level) (xs : List ℕ) (u : 
 
 module _ (old : List Level) (l : Level) (rest : List Instr) (p : ℕ) (xs : List ℕ)
     (first : old ≡ l ∷ drop 1 old) (ended : rest ≡ []) (w : AreSteps (code_of rest) p old xs) where
-  within_of : AreWithin (l ∷ drop 1 old)
-  within_of = subst AreWithin first w.within
+  within_of : AreLevelsWithin (l ∷ drop 1 old)
+  within_of = subst AreLevelsWithin first w.within
 
   sizes_left : xs ≡ outer_sizes (l ∷ drop 1 old)
   sizes_left = w.sized ∙ ap (λ z. block_sizes (code_of z) ++ outer_sizes old) ended ∙ ap outer_sizes first
@@ -235,18 +235,18 @@ module _ (old : List Level) (l : Level) (rest : List Instr) (p : ℕ) (xs : List
     close_steps = record {
       sized = sizes_left ∙ ap (λ z. other_sizes z ++ (block_sizes (code_of l.behind.now) ++ outer_sizes (drop 1 old))) one ∙ ap (λ z. block_sizes (code_of l.behind.now) ++ outer_sizes z) (sym m);
       fits = part_within.0;
-      within = subst AreWithin (sym m) within_of.1;
+      within = subst AreLevelsWithin (sym m) within_of.1;
     }
 
-    pub close_places : (live : Bool) → places_from old live p (code_of rest) ≡ at l.part.end live (closes (scope_of l.part)) (scopes_of new) ∷ places_from new l.live (l.part.end + 1) (code_of l.behind.now)
+    pub close_places : (live : Bool) → places_from old live p (code_of rest) ≡ at l.part.end live (closes (scope_of l.part)) (level_scopes new) ∷ places_from new l.live (l.part.end + 1) (code_of l.behind.now)
     close_places live =
         let behind = code_of l.behind.now in
         ended_places live
-        ∙ ap (λ z. level_places z (scope_of l.part) l.live live behind (scopes_of (drop 1 old)) (outer_places (drop 1 old) (ends_live l.live behind))) one
-        ∙ ap (λ z. end_places (scope_of l.part) l.live live behind (scopes_of z) (outer_places z (ends_live l.live behind))) (sym m)
+        ∙ ap (λ z. level_places z (scope_of l.part) l.live live behind (level_scopes (drop 1 old)) (outer_places (drop 1 old) (ends_live l.live behind))) one
+        ∙ ap (λ z. end_places (scope_of l.part) l.live live behind (level_scopes z) (outer_places z (ends_live l.live behind))) (sym m)
 
-    pub close_scopes : blocks_around (scopes_of old) ≡ block_of (scope_of l.part) ∷ blocks_around (scopes_of new)
-    close_scopes = ap (λ z. blocks_around (scopes_of z)) first ∙ ap (λ z. block_of (scope_of l.part) ∷ blocks_around (scopes_of z)) (sym m)
+    pub close_scopes : blocks_around (level_scopes old) ≡ block_of (scope_of l.part) ∷ blocks_around (level_scopes new)
+    close_scopes = ap (λ z. blocks_around (level_scopes z)) first ∙ ap (λ z. block_of (scope_of l.part) ∷ blocks_around (level_scopes z)) (sym m)
 
   module _ (o : Other) (two : l.other ≡ Some o) where
     abbrev else_level : Level
@@ -258,23 +258,23 @@ module _ (old : List Level) (l : Level) (rest : List Instr) (p : ℕ) (xs : List
     pub alternate_fits : (l.part.end + 1 ≤ 268435456) × (l.part.target ≤ 268435456) × (o.part.end + 1 ≤ 268435456) × (o.part.target ≤ 268435456)
     alternate_fits = (omega (arith, parts_within.0.0), parts_within.0.1, omega (arith, parts_within.1.0), parts_within.1.1)
 
-    pub outer_scopes : blocks_around (scopes_of old) ≡ block_of (scope_of l.part) ∷ blocks_around (scopes_of (drop 1 old))
-    outer_scopes = ap (λ z. blocks_around (scopes_of z)) first
+    pub outer_scopes : blocks_around (level_scopes old) ≡ block_of (scope_of l.part) ∷ blocks_around (level_scopes (drop 1 old))
+    outer_scopes = ap (λ z. blocks_around (level_scopes z)) first
 
     module _ (new : List Level) (m : new ≡ else_level ∷ drop 1 old) where
       pub alternate_steps : AreSteps (code_of o.code.now) (l.part.end + 1) new xs
       alternate_steps = record {
         sized = sizes_left ∙ ap (λ z. other_sizes z ++ (block_sizes (code_of l.behind.now) ++ outer_sizes (drop 1 old))) two ∙ ap (λ z. block_sizes (code_of o.code.now) ++ outer_sizes z) (sym m);
         fits = parts_within.0.0;
-        within = subst AreWithin (sym m) (parts_within.1, within_of.1);
+        within = subst AreLevelsWithin (sym m) (parts_within.1, within_of.1);
       }
 
-      pub alternate_places : (live : Bool) → places_from old live p (code_of rest) ≡ at l.part.end l.live (alternates (scope_of l.part) (scope_of o.part) live) (scopes_of (drop 1 old)) ∷ places_from new l.live (l.part.end + 1) (code_of o.code.now)
+      pub alternate_places : (live : Bool) → places_from old live p (code_of rest) ≡ at l.part.end l.live (alternates (scope_of l.part) (scope_of o.part) live) (level_scopes (drop 1 old)) ∷ places_from new l.live (l.part.end + 1) (code_of o.code.now)
       alternate_places live =
           let behind = code_of l.behind.now in
           ended_places live
-          ∙ ap (λ z. level_places z (scope_of l.part) l.live live behind (scopes_of (drop 1 old)) (outer_places (drop 1 old) (ends_live l.live behind))) two
-          ∙ ap (λ z. at l.part.end l.live (alternates (scope_of l.part) (scope_of o.part) live) (scopes_of (drop 1 old)) ∷ places_from z l.live (l.part.end + 1) (code_of o.code.now)) (sym m)
+          ∙ ap (λ z. level_places z (scope_of l.part) l.live live behind (level_scopes (drop 1 old)) (outer_places (drop 1 old) (ends_live l.live behind))) two
+          ∙ ap (λ z. at l.part.end l.live (alternates (scope_of l.part) (scope_of o.part) live) (level_scopes (drop 1 old)) ∷ places_from z l.live (l.part.end + 1) (code_of o.code.now)) (sym m)
 
-      pub inner_scopes : blocks_around (scopes_of new) ≡ block_of (scope_of o.part) ∷ blocks_around (scopes_of (drop 1 old))
-      inner_scopes = ap (λ z. blocks_around (scopes_of z)) m
+      pub inner_scopes : blocks_around (level_scopes new) ≡ block_of (scope_of o.part) ∷ blocks_around (level_scopes (drop 1 old))
+      inner_scopes = ap (λ z. blocks_around (level_scopes z)) m

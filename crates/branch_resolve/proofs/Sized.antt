@@ -7,7 +7,7 @@ use Rattle.module_ast.specs.declared.code.Instr.TheVariants.{Block, Loop, If}
 use Rattle.module_ast.specs.Tree.{Tree, done, weight}
 use Rattle.module_ast.specs.Seen.{before, code_of}
 use Rattle.module_ast.specs.Positions.{code_size, code_nesting}
-use Rattle.branch_resolve.specs.Walks.{block_sizes}
+use Rattle.branch_resolve.specs.Levels.{block_sizes}
 
 pub next_instr : (is : List Instr) (k : ℕ) (i : Instr) → k < length is → i ≡ get_or is k i → code_of (drop k is) ≡ before i (code_of (drop (k + 1) is))
 next_instr is k i h e = at_drop_more code_of is k i h ∙ ap (λ j. before j (code_of (drop (k + 1) is))) (sym e)

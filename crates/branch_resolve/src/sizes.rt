@@ -2,7 +2,7 @@
 
 ghost use Rattle.std.specs.Prelude.{◌≡◌, ◌+◌, ◌≤◌, ◌++◌, reverse, IfOk, OnOk};
 ghost use Rattle.module_ast.specs.Positions.{code_size, code_nesting};
-ghost use Rattle.branch_resolve.specs.Walks.{block_sizes};
+ghost use Rattle.branch_resolve.specs.Levels.{block_sizes};
 ghost use Rattle.module_ast.specs.Seen.{before};
 ghost use Rattle.module_ast.specs.Tree.{done};
 

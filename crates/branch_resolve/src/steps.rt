@@ -3,7 +3,7 @@
 ghost use Rattle.std.specs.Prelude.{◌≡◌, ◌≤◌, ◌<◌, ◌+◌, ◌∷◌, [], length, reverse, drop, None, Some, IfOk, OnOk, OnErr, MatchOption};
 ghost use Rattle.module_ast.specs.Seen.{code_of};
 ghost use Rattle.branch_resolve.specs.Scopes.{block_of};
-ghost use Rattle.branch_resolve.specs.Walks.{scope_of, kind_scope, then_side, else_side, AreStepsOf, IsStep, IsStepOrEnd, IsSame, IsOpening, IsOpeningTwo};
+ghost use Rattle.branch_resolve.specs.Levels.{scope_of, kind_scope, then_side, else_side, AreStepsOf, IsStep, IsStepOrEnd, IsUnread, IsOpening, IsOpeningIfElse};
 ghost use Rattle.module_ast.specs.Plains.{IsPlainInstr};
 
 use crate::Block;
@@ -145,7 +145,7 @@ impl<'m> Steps<'m> {
         requires { AreStepsOf self.old }
         ensures whole { AreStepsOf self.new }
         ensures ok { IfOk result (λ place. IsStepOrEnd self.old self.new place) }
-        ensures err { OnErr result (IsSame self.old self.new) }
+        ensures err { OnErr result (IsUnread self.old self.new) }
     {
         let Some((first, behind)) = self.rest.split_first() else {
             return Ok(self.end());
@@ -190,7 +190,7 @@ impl<'m> Steps<'m> {
         requires at { IsOpening kind (code_of self.old.rest.now) body.now (code_of behind.now) }
         ensures whole { AreStepsOf self.new }
         ensures ok { IfOk result (λ place. IsStep self.old self.new place) }
-        ensures err { OnErr result (IsSame self.old self.new) }
+        ensures err { OnErr result (IsUnread self.old self.new) }
     {
         let part = part_of(kind, self.position, self.sizes[self.unused]);
         let level = Level {
@@ -219,10 +219,10 @@ impl<'m> Steps<'m> {
         behind: &'m [Instr],
     ) -> Result<Place<'m>, AllocError>
         requires whole { AreStepsOf self.old }
-        requires at { IsOpeningTwo (code_of self.old.rest.now) body.now other.now (code_of behind.now) }
+        requires at { IsOpeningIfElse (code_of self.old.rest.now) body.now other.now (code_of behind.now) }
         ensures whole { AreStepsOf self.new }
         ensures ok { IfOk result (λ place. IsStep self.old self.new place) }
-        ensures err { OnErr result (IsSame self.old self.new) }
+        ensures err { OnErr result (IsUnread self.old self.new) }
     {
         let (part, else_part) = sides_of(
             self.position,
@@ -274,9 +274,10 @@ impl<'m> Steps<'m> {
         ensures step { IsStep self.old self.new result }
     {
         let block = level.part.block();
+        let live = self.live;
         let place = Place {
             position: block.end,
-            live: self.live,
+            live,
             opcode: Opcode::Closes(block),
         };
         pop_level(&mut self.levels);
@@ -296,9 +297,10 @@ impl<'m> Steps<'m> {
         ensures step { IsStep self.old self.new result }
     {
         let then_part = level.part.block();
+        let live = level.live;
         let place = Place {
             position: then_part.end,
-            live: level.live,
+            live,
             opcode: Opcode::Alternates {
                 then_part,
                 else_part: other.part.block(),
@@ -307,14 +309,14 @@ impl<'m> Steps<'m> {
         };
         let else_level = Level {
             part: other.part,
-            live: level.live,
+            live,
             other: None,
             behind: level.behind,
         };
         replace_innermost(&mut self.levels, else_level);
         self.rest = other.code;
         self.position = level.part.end + 1;
-        self.live = level.live;
+        self.live = live;
         place
     }
 }

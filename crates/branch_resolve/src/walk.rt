@@ -2,7 +2,8 @@
 
 ghost use Rattle.std.specs.Prelude.{◌≡◌, ◌+◌, ◌≤◌, [], IfOk, OnOk, OnErr};
 ghost use Rattle.module_ast.specs.Positions.{code_size, code_nesting, places};
-ghost use Rattle.branch_resolve.specs.Walks.{IsNextPlace, with_opened, scopes_around, opened_by, CanFollow};
+ghost use Rattle.branch_resolve.specs.Levels.{with_opened, scopes_around, block_opened, CanFollow};
+ghost use Rattle.branch_resolve.specs.Walks.{IsNextPlace};
 
 use crate::Block;
 use crate::place::{Opcode, Place};
@@ -25,7 +26,8 @@ pub struct Walk<'m> {
 }
 
 impl<'m> Model for Walk<'m> {
-    ghost use Rattle.branch_resolve.specs.Walks.{WalkState, places_left, steps_left, IsWalk};
+    ghost use Rattle.branch_resolve.specs.Levels.{places_left, steps_left, IsWalk};
+    ghost use Rattle.branch_resolve.specs.Walks.{WalkState};
 
     ghost Value = { WalkState };
 
@@ -48,7 +50,7 @@ fn enter_opened(scopes: &mut Scopes, opened: Option<Block>) -> Result<(), AllocE
 // Leaves the block that this opcode ends, if it ends one, and answers the block that it opens.
 fn follow(scopes: &mut Scopes, opcode: &Opcode) -> Option<Block>
     requires { CanFollow opcode.now scopes.old }
-    ensures opened { result ≡ opened_by opcode.now }
+    ensures opened { result ≡ block_opened opcode.now }
     ensures around { scopes.new ≡ scopes_around opcode.now scopes.old }
 {
     match opcode {

@@ -2,7 +2,7 @@ use Rattle.std.proofs.Common.{◌≡◌, None, ◌∙◌, ap, sym, reverse, refl
 use Rattle.module_ast.specs.Positions.{at, alternates}
 use Rattle.branch_resolve.specs.Scopes.{blocks_around}
 use Rattle.branch_resolve.specs.declared.steps.Level.{Level}
-use Rattle.branch_resolve.specs.Walks.{scope_of, scopes_of}
+use Rattle.branch_resolve.specs.Levels.{scope_of, level_scopes}
 use Rattle.branch_resolve.proofs.Moves.{alternate_places, alternate_fits, outer_scopes, inner_scopes, signed_is}
 use Rattle.branch_resolve.proofs.steps.Steps.alternate.Goals as goal
 
@@ -17,8 +17,8 @@ returns-clause-step c =
     let inner : Level = record { part = o.part; live = l.live; other = None; behind = l.behind } in
     let fits = alternate_fits old l s.rest.now s.position _ w.innermost w.at w.whole o w.two in
     let m : new ≡ inner ∷ drop 1 old = c.replace_innermost.ensures in
-    let outer = blocks_around (scopes_of (drop 1 old)) in (
-      at l.part.end l.live (alternates (scope_of l.part) (scope_of o.part) s.live) (scopes_of (drop 1 old)),
+    let outer = blocks_around (level_scopes (drop 1 old)) in (
+      at l.part.end l.live (alternates (scope_of l.part) (scope_of o.part) s.live) (level_scopes (drop 1 old)),
       alternate_places old l s.rest.now s.position _ w.innermost w.at w.whole o w.two new m s.live,
       (signed_is c.block-then_part.result.end l.part.end 1 (ap (λ b. b.end) c.block-then_part.ensures) fits.0, refl, (scope_of l.part, scope_of o.part, c.block-then_part.ensures, c.block.ensures, refl)),
       (

@@ -5,7 +5,7 @@ use Rattle.module_ast.specs.Seen.{code_of}
 use Rattle.branch_resolve.specs.Scopes.{blocks_around}
 use Rattle.branch_resolve.specs.declared.steps.Level.{Level}
 use Rattle.branch_resolve.specs.declared.steps.Other.{Other}
-use Rattle.branch_resolve.specs.Walks.{scope_of, scopes_of, places_from, AreSteps, then_side, else_side}
+use Rattle.branch_resolve.specs.Levels.{scope_of, level_scopes, places_from, AreSteps, then_side, else_side}
 use Rattle.branch_resolve.proofs.Moves.{sizes_of_two, second_of_two, two_places, signed_is}
 use Rattle.branch_resolve.proofs.steps.Steps.open_two.Goals as goal
 
@@ -26,7 +26,7 @@ returns-clause-ok c =
     let f : scope_of sides.1 ≡ else_scope p body other = c.sides_of.ensures.else_part ∙ ap (λ n. else_side p n c.index-2.result.now) first ∙ ap (else_side p (code_size body)) second in
     let o : Other = record { part = sides.1; code = c.as_slice.result } in
     let l : Level = record { part = sides.0; live = s.live; other = Some o; behind = c.args.behind } in
-    let x = at p s.live (opens (scope_of sides.0)) (scopes_of ls) in
+    let x = at p s.live (opens (scope_of sides.0)) (level_scopes ls) in
     let pushed = c.in_ok-push_level.ensures.ok in (
       x,
       ap (places_from ls s.live p) code
@@ -34,5 +34,5 @@ returns-clause-ok c =
           ∙ ap (λ z. x ∷ places_from z s.live (p + 1) body) (sym pushed)
           ∙ ap (λ z. x ∷ places_from (reverse c.push_level.new.levels.items) s.live (p + 1) z) (sym c.as_slice-self.ensures),
       (signed_is sides.0.begin p _ (ap (λ z. z.begin) e) w.fits, refl, (scope_of sides.0, c.block.ensures, refl)),
-      (refl, ap (λ z. blocks_around (scopes_of z)) pushed ∙ ap (λ b. b ∷ blocks_around (scopes_of ls)) (sym c.block.ensures)),
+      (refl, ap (λ z. blocks_around (level_scopes z)) pushed ∙ ap (λ b. b ∷ blocks_around (level_scopes ls)) (sym c.block.ensures)),
     )

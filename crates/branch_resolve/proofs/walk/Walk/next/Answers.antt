@@ -1,5 +1,5 @@
 use Rattle.std.proofs.Common.{◌∙◌, ap, sym, refl}
-use Rattle.branch_resolve.specs.Walks.{entry_place, places_left, steps_left}
+use Rattle.branch_resolve.specs.Levels.{entry_place, places_left, steps_left}
 use Rattle.branch_resolve.proofs.walk.Walk.next.Goals as goal
 
 pub returns-then-not-self-clause-ok : goal.returns-then-not-self-clause-ok
