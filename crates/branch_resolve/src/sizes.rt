@@ -1,0 +1,73 @@
+// How many positions the blocks of a body have inside.
+
+ghost use Rattle.std.specs.Prelude.{◌≡◌, ◌+◌, ◌≤◌, ◌++◌, reverse, IfOk, OnOk};
+ghost use Rattle.module_ast.specs.Positions.{code_size, code_nesting};
+ghost use Rattle.branch_resolve.specs.Levels.{block_sizes};
+ghost use Rattle.module_ast.specs.Seen.{before};
+ghost use Rattle.module_ast.specs.Tree.{done};
+
+use module_ast::code::{Code, Instr};
+use std::alloc::{AllocError, Global};
+
+// Notes the sizes of the blocks of this instruction, the first one last, behind those that stand there, and answers how
+// many positions it has.
+#[cycle(sizes)]
+fn note_instr(instr: &Instr, sizes: &mut Vec<u32>) -> Result<u32, AllocError>
+    requires few { code_size (before instr.now done) + 1 ≤ 268435456 }
+    requires flat { code_nesting (before instr.now done) ≤ 1002 }
+    ensures size { IfOk result (λ n. n ≡ code_size (before instr.now done)) }
+    ensures noted { OnOk result (reverse sizes.new.items ≡ block_sizes (before instr.now done) ++ reverse sizes.old.items) }
+{
+    match instr {
+        Instr::Block(_, body) | Instr::Loop(_, body) | Instr::If(_, body, None) => {
+            let size = note_sizes(body, sizes)?;
+            sizes.push(size)?;
+            Ok(size + 2)
+        }
+        Instr::If(_, body, Some(other)) => {
+            let other_size = note_sizes(other, sizes)?;
+            let size = note_sizes(body, sizes)?;
+            sizes.push(other_size)?;
+            sizes.push(size)?;
+            Ok(size + other_size + 3)
+        }
+        _ => Ok(1),
+    }
+}
+
+// The same for a sequence, its closing `end` aside.
+#[cycle(sizes)]
+fn note_sizes(code: &Code, sizes: &mut Vec<u32>) -> Result<u32, AllocError>
+    requires few { code_size code.now + 1 ≤ 268435456 }
+    requires flat { code_nesting code.now ≤ 1002 }
+    ensures size { IfOk result (λ n. n ≡ code_size code.now) }
+    ensures noted { OnOk result (reverse sizes.new.items ≡ block_sizes code.now ++ reverse sizes.old.items) }
+{
+    let instrs = code.as_slice();
+    let mut size = 0;
+    for k in (0..instrs.len()).rev() {
+        size += note_instr(&instrs[k], sizes)?;
+    }
+    Ok(size)
+}
+
+// The size of a sequence, and those of the blocks in it.
+#[derive(Debug, Drop)]
+pub struct Sizes {
+    pub whole: u32,
+    pub inside: Vec<u32>,
+}
+
+// The size of the code, and those of the blocks in it in the order of their opcodes: how many positions stand between
+// the opcode and its end. An `if` has two with an `else`.
+pub fn sizes_of(alloc: Global, code: &Code) -> Result<Sizes, AllocError>
+    requires few { code_size code.now + 1 ≤ 268435456 }
+    requires flat { code_nesting code.now ≤ 1002 }
+    ensures whole { IfOk result (λ s. s.whole ≡ code_size code.now) }
+    ensures inside { IfOk result (λ s. s.inside.items ≡ block_sizes code.now) }
+{
+    let mut inside = Vec::new(alloc);
+    let whole = note_sizes(code, &mut inside)?;
+    inside.reverse();
+    Ok(Sizes { whole, inside })
+}
