@@ -117,11 +117,11 @@ IsStep old new y =
     (x : positions.Place) × (steps_left old ≡ x ∷ steps_left new) × IsPlaceOf x y × IsMove y.opcode (steps_scopes old) (steps_scopes new) (blocks_around x.scopes)
 
 -- nothing is read
-abbrev pub IsUnread : (old new : Steps) → Type 0
-IsUnread old new = (steps_left old ≡ steps_left new) × (steps_scopes old ≡ steps_scopes new)
+abbrev pub IsUnmoved : (old new : Steps) → Type 0
+IsUnmoved old new = (steps_left old ≡ steps_left new) × (steps_scopes old ≡ steps_scopes new)
 
 abbrev pub IsStepOrEnd : (old new : Steps) → Option Place → Type 0
-IsStepOrEnd old new None = (steps_left old ≡ []) × IsUnread old new
+IsStepOrEnd old new None = (steps_left old ≡ []) × IsUnmoved old new
 IsStepOrEnd old new (Some y) = IsStep old new y
 
 -- the scope of a block of a kind that opens at p with so many positions inside

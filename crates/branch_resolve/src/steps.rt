@@ -3,7 +3,7 @@
 ghost use Rattle.std.specs.Prelude.{◌≡◌, ◌≤◌, ◌<◌, ◌+◌, ◌∷◌, [], length, reverse, drop, None, Some, IfOk, OnOk, OnErr, MatchOption};
 ghost use Rattle.module_ast.specs.Seen.{code_of};
 ghost use Rattle.branch_resolve.specs.Scopes.{block_of};
-ghost use Rattle.branch_resolve.specs.Levels.{scope_of, kind_scope, then_side, else_side, AreStepsOf, IsStep, IsStepOrEnd, IsUnread, IsOpening, IsOpeningIfElse};
+ghost use Rattle.branch_resolve.specs.Levels.{scope_of, kind_scope, then_side, else_side, AreStepsOf, IsStep, IsStepOrEnd, IsUnmoved, IsOpening, IsOpeningIfElse};
 ghost use Rattle.module_ast.specs.Plains.{IsPlainInstr};
 
 use crate::Block;
@@ -145,7 +145,7 @@ impl<'m> Steps<'m> {
         requires { AreStepsOf self.old }
         ensures whole { AreStepsOf self.new }
         ensures ok { IfOk result (λ place. IsStepOrEnd self.old self.new place) }
-        ensures err { OnErr result (IsUnread self.old self.new) }
+        ensures err { OnErr result (IsUnmoved self.old self.new) }
     {
         let Some((first, behind)) = self.rest.split_first() else {
             return Ok(self.end());
@@ -190,7 +190,7 @@ impl<'m> Steps<'m> {
         requires at { IsOpening kind (code_of self.old.rest.now) body.now (code_of behind.now) }
         ensures whole { AreStepsOf self.new }
         ensures ok { IfOk result (λ place. IsStep self.old self.new place) }
-        ensures err { OnErr result (IsUnread self.old self.new) }
+        ensures err { OnErr result (IsUnmoved self.old self.new) }
     {
         let part = part_of(kind, self.position, self.sizes[self.unused]);
         let level = Level {
@@ -222,7 +222,7 @@ impl<'m> Steps<'m> {
         requires at { IsOpeningIfElse (code_of self.old.rest.now) body.now other.now (code_of behind.now) }
         ensures whole { AreStepsOf self.new }
         ensures ok { IfOk result (λ place. IsStep self.old self.new place) }
-        ensures err { OnErr result (IsUnread self.old self.new) }
+        ensures err { OnErr result (IsUnmoved self.old self.new) }
     {
         let (part, else_part) = sides_of(
             self.position,

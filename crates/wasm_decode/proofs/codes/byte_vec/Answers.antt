@@ -1,4 +1,4 @@
-use Rattle.module_ast.specs.Grammar.{IsByte}
+use Rattle.leb_binary.specs.Reading.{IsByte}
 use Rattle.module_ast.proofs.Compose.{vec_none}
 use Rattle.wasm_decode.proofs.Bytes.{bytes_short, bytes_some}
 use Rattle.wasm_decode.proofs.codes.byte_vec.Goals as goal
