@@ -67,7 +67,7 @@ const ELSE: Block = Block {
     target: 8,
 };
 
-// The block that a place opens or closes, and how many blocks are around it.
+// The block that begins at a place, or ends there where none begins.
 fn block_of(opcode: Opcode) -> Option<Block> {
     match opcode {
         Opcode::Enters | Opcode::Acts(_) => None,
