@@ -4,7 +4,7 @@ use Rattle.module_ast.specs.declared.module.Module.{Module}
 use Rattle.hook_select.specs.declared.Hooks.{Hooks}
 use Rattle.wasm_sem.specs.declared.Script.{Script}
 use Rattle.wasm_sem.specs.Link.{instance}
-use Rattle.wasm_sem.specs.Machine.{Configuration, configuration, over, opening, run_of, is_last, is_over}
+use Rattle.wasm_sem.specs.Machine.{Configuration, configuration, over, opening_configuration, run_of, is_last, is_over}
 use Rattle.wasm_sem.specs.Events.{TraceItem}
 use Rattle.wasm_sem.specs.Trace.{trace, trace_of}
 use Rattle.wasm_sem.specs.Laws.{slots_in}
@@ -29,7 +29,7 @@ is_over_seen (configuration e frames) h = ap is_last h
 -- the table at any moment is that at any other
 slots_same : (o : Module) (s : Script) (k w : ℕ) → (env_of o s k).store.slots ≡ (env_of o s w).store.slots
 slots_same o s k w =
-    slots_seen (run_of o s k) ∙ slots_stay (instance o s) k (opening o s) ∙ sym (slots_stay (instance o s) w (opening o s)) ∙ sym (slots_seen (run_of o s w))
+    slots_seen (run_of o s k) ∙ slots_stay (instance o s) k (opening_configuration o s) ∙ sym (slots_stay (instance o s) w (opening_configuration o s)) ∙ sym (slots_seen (run_of o s w))
 
 module _ (m : Module) (hooks : Hooks) (o : Module) (s : Script) (each : EachMoment m hooks o s) where
   -- what has been told by step k is the beginning of what the matching step has told
@@ -39,7 +39,7 @@ module _ (m : Module) (hooks : Hooks) (o : Module) (s : Script) (each : EachMome
       let e : k + (w.0 - k) ≡ w.0 = omega (arith, w.1) in
       let rest = trace (instance o s) (w.0 - k) (run_of o s k) in
       let slots = (env_of o s k).store.slots in
-      let cut : trace_of o s k ++ rest ≡ trace_of o s w.0 = sym (trace_add (instance o s) k (w.0 - k) (opening o s)) ∙ ap (trace_of o s) e in (
+      let cut : trace_of o s k ++ rest ≡ trace_of o s w.0 = sym (trace_add (instance o s) k (w.0 - k) (opening_configuration o s)) ∙ ap (trace_of o s) e in (
         read (info_of m hooks) slots rest,
         sym (read_append (info_of m hooks) slots (trace_of o s k) rest)
             ∙ ap₂ (λ (at : List (Option ℕ)) (told : List TraceItem). read (info_of m hooks) at told) (slots_same o s k w.0) cut

@@ -4,12 +4,12 @@ use Rattle.outside_io.specs.Failing.{kept_at, listed_below}
 use Rattle.outside_io.specs.declared.calls.Fail.{Fail}
 
 -- which calls are to fail, and the number of the next one
-pub record Calling : Type 0 where
+pub record CallCount : Type 0 where
   pub fails : List Fail
   pub next : Option ℕ
 
 -- how many bytes the next call keeps, where it is to fail
-abbrev pub failing_next : Calling → Option ℕ
+abbrev pub failing_next : CallCount → Option ℕ
 failing_next calls = elim (calls.next) [ None ↦ None | Some number ↦ kept_at calls.fails number ]
 
 -- how many calls were made that are counted
@@ -18,7 +18,7 @@ calls_made None = 2 ^ 64
 calls_made (Some number) = number
 
 -- how many of the calls that were made are listed
-abbrev pub listed_calls_made : Calling → ℕ
+abbrev pub listed_calls_made : CallCount → ℕ
 listed_calls_made calls = listed_below calls.fails (calls_made calls.next)
 
 -- the number of the next call, after a call of this number
@@ -27,5 +27,5 @@ IsNext None new = new ≡ None
 IsNext (Some number) new = SomeIff new (number + 1 < 2 ^ 64) (number + 1)
 
 -- one call was made
-abbrev pub CountsCall : (old new : Calling) → Type 0
+abbrev pub CountsCall : (old new : CallCount) → Type 0
 CountsCall old new = (new.fails ≡ old.fails) × IsNext old.next new.next

@@ -6,7 +6,7 @@ use Rattle.std.specs.Map.{lookup}
 use Rattle.std.specs.Ordering.{nat_cmp}
 use Rattle.std.specs.Cmp.Lexicographic.{slice_cmp}
 use Rattle.std.specs.declared.alloc.Global.{Global}
-use Rattle.outside_io.specs.Calls.{Calling}
+use Rattle.outside_io.specs.Calls.{CallCount}
 use Rattle.outside_io.specs.Outside.{Contents}
 use Rattle.outside_io.specs.declared.outside.ReadFault.{ReadFault}
 use Rattle.outside_io.specs.declared.outside.ReadFault.TheVariants.{Missing, TooLong, NoMemory}
@@ -14,14 +14,14 @@ use Rattle.outside_io.specs.declared.outside.ReadFault.TheVariants.{Missing, Too
 -- a shelf in memory: its names with their bytes, its calls, and its counts of faults
 pub record ShelfInMemory : Type 0 where
   pub held : List (String Global × Vec ℕ Global)
-  pub calls : Calling
+  pub calls : CallCount
   pub read_faults : ℕ
   pub write_faults : ℕ
 
 -- a sink in memory: what was printed, its calls, and its count of faults
 pub record SinkInMemory : Type 0 where
   pub printed : List ℕ
-  pub calls : Calling
+  pub calls : CallCount
   pub faults : ℕ
 
 -- the bytes under each name

@@ -22,9 +22,9 @@ pub struct Calls {
 }
 
 impl Model for Calls {
-    ghost use Rattle.outside_io.specs.Calls.{Calling};
+    ghost use Rattle.outside_io.specs.Calls.{CallCount};
 
-    ghost Value = { Calling };
+    ghost Value = { CallCount };
 
     ghost view = { λ calls. record { fails = calls.fails.items; next = calls.next } };
 }

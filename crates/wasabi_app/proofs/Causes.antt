@@ -6,14 +6,14 @@ use Rattle.wasabi_app.specs.Words.{Line, IsCheck, IsLine, IsRefused, to_check, t
 use Rattle.wasabi_app.specs.Files.{IsNoModule, IsUnfit, IsInvalid}
 use Rattle.wasabi_app.specs.Reads.{Want, valid_module, Read, module_read, IsRead, OfModule, Reads}
 use Rattle.wasabi_app.specs.Texts.{no_memory_text}
-use Rattle.wasabi_app.specs.Printing.{Seen, Printing, Said, said, said_part, said_no_memory}
-use Rattle.wasabi_app.specs.Loading.{Refutes, malformed, floats, over_limit, broken_rule, invalid_body, no_memory, Unloaded, missing, too_long, unread, refuted, unloaded_no_memory}
+use Rattle.wasabi_app.specs.Printing.{ShelfState, PrintState, Said, said, said_part, said_no_memory}
+use Rattle.wasabi_app.specs.Loading.{Refutes, malformed, floats, over_limit, broken_rule, invalid_body, no_memory, ReadCause, missing, too_long, unread, refuted, unloaded_no_memory}
 use Rattle.wasabi_app.specs.Ends as ends
 use Rattle.wasabi_app.specs.Ends.{Status, IsDone, IsWritten, IsWrittenPart, Cause, no_command, unloaded, of_other_form, unwritten, memory_ended, Answers, checked, instrumented, Ends, answered, refused, IsOf, IsUnread, IsOtherForm}
 use Rattle.wasabi_app.proofs.Files.{fault_no_module, broken_invalid, body_invalid}
 
 -- what each status tells
-abbrev pub Why : List (List ℕ) → (old new : Seen) → (before after : Printing) → ℕ → Type 0
+abbrev pub Why : List (List ℕ) → (old new : ShelfState) → (before after : PrintState) → ℕ → Type 0
 Why words old new before after status =
     cond (eqb status 0) ((text : List ℕ) × Answers words old new text) (
     cond (eqb status 2) (IsRefused words) (
@@ -30,18 +30,18 @@ Why words old new before after status =
 abbrev pub IsLate : ℕ → Type 0
 IsLate status = status ≢ 0 → status ≢ 5 → status ≢ 14 → status ≢ 15 → ⊥
 
-pub record Inverted (words : List (List ℕ)) (old new : Seen) (before after : Printing) (status : ℕ) : Type 0 where
+pub record Inverted (words : List (List ℕ)) (old new : ShelfState) (before after : PrintState) (status : ℕ) : Type 0 where
   pub known : Status status
   pub why : Why words old new before after status
   pub stands : Unchanged old.contents new.contents ⊎ (IsLate status × IsWrittenPart words old.contents new.contents)
   pub asked : IsRefused words → (status ≡ 2) ⊎ (status ≡ 14)
 
 -- a read that was refused
-unread_inverted : {words : List (List ℕ)} {old new : Seen} {before after : Printing} (read : Read) (status : ℕ) → Reads words old.contents read
+unread_inverted : {words : List (List ℕ)} {old new : ShelfState} {before after : PrintState} (read : Read) (status : ℕ) → Reads words old.contents read
     → Unchanged old.contents new.contents → Status status → Why words old new before after status → Inverted words old new before after status
 unread_inverted read status s u known why = record { known = known; why = why; stands = inl u; asked = λ r. absurd (r s.task s.asked) }
 
-refutes_inverted : {words : List (List ℕ)} {old new : Seen} {before after : Printing} (name bytes text : List ℕ) (cap status : ℕ) (limits : Limits)
+refutes_inverted : {words : List (List ℕ)} {old new : ShelfState} {before after : PrintState} (name bytes text : List ℕ) (cap status : ℕ) (limits : Limits)
     → Reads words old.contents (module_read name cap limits) → IsRead old.contents (module_read name cap limits) bytes
     → Unchanged old.contents new.contents → Refutes name limits bytes status text → Inverted words old new before after status
 refutes_inverted name bytes _ cap _ limits s i u (malformed k f) =
@@ -57,14 +57,14 @@ refutes_inverted name bytes _ cap _ limits s i u (invalid_body m k f b) =
 refutes_inverted name bytes _ cap _ limits s i u no_memory = unread_inverted (module_read name cap limits) 14 s u ends.no_memory tt
 
 -- by what its bytes must be
-wanted_inverted : {words : List (List ℕ)} {old new : Seen} {before after : Printing} (name bytes text : List ℕ) (cap status : ℕ) (want : Want)
+wanted_inverted : {words : List (List ℕ)} {old new : ShelfState} {before after : PrintState} (name bytes text : List ℕ) (cap status : ℕ) (want : Want)
     → Reads words old.contents (record { name = name; cap = cap; want = want }) → IsRead old.contents (record { name = name; cap = cap; want = want }) bytes
     → Unchanged old.contents new.contents → OfModule (λ limits b. Refutes name limits b status text) want bytes
     → Inverted words old new before after status
 wanted_inverted name bytes text cap status (valid_module limits) s i u r = refutes_inverted name bytes text cap status limits s i u r
 
-unloaded_inverted : {words : List (List ℕ)} {old new : Seen} {before after : Printing} (read : Read) (status : ℕ) (text : List ℕ)
-    → Reads words old.contents read → Unchanged old.contents new.contents → Unloaded read old new status text
+unloaded_inverted : {words : List (List ℕ)} {old new : ShelfState} {before after : PrintState} (read : Read) (status : ℕ) (text : List ℕ)
+    → Reads words old.contents read → Unchanged old.contents new.contents → ReadCause read old new status text
     → Inverted words old new before after status
 unloaded_inverted read _ _ s u (missing m) = unread_inverted read 3 s u ends.unread (read, s, inl m)
 unloaded_inverted read _ _ s u (too_long l t) = unread_inverted read 3 s u ends.unread (read, s, inr (l, t))
@@ -73,7 +73,7 @@ unloaded_inverted read _ _ s u (refuted bytes status text i r) = wanted_inverted
 unloaded_inverted read _ _ s u unloaded_no_memory = unread_inverted read 14 s u ends.no_memory tt
 
 -- a cause
-cause_inverted : {words : List (List ℕ)} {old new : Seen} {before after : Printing} (status : ℕ) (text : List ℕ) → Cause words old new status text
+cause_inverted : {words : List (List ℕ)} {old new : ShelfState} {before after : PrintState} (status : ℕ) (text : List ℕ) → Cause words old new status text
     → Inverted words old new before after status
 cause_inverted _ _ (no_command r u) = record { known = ends.bad_words; why = r; stands = inl u; asked = λ _. inl refl }
 cause_inverted _ _ (unloaded read status text s r u) = unloaded_inverted read status text s u r
@@ -92,7 +92,7 @@ cause_inverted _ _ (memory_ended w) = record {
   asked = λ _. inr refl;
 }
 
-cause_shelf : {words : List (List ℕ)} {old new : Seen} (status : ℕ) (text : List ℕ) → Cause words old new status text
+cause_shelf : {words : List (List ℕ)} {old new : ShelfState} (status : ℕ) (text : List ℕ) → Cause words old new status text
     → Unchanged old.contents new.contents ⊎ IsWrittenPart words old.contents new.contents
 cause_shelf _ _ (no_command r u) = inl u
 cause_shelf _ _ (unloaded read status text s r u) = inl u
@@ -108,7 +108,7 @@ wrote_part name bytes None (Some b) w = absurd w
 wrote_part name bytes (Some a) None w = absurd w
 
 -- an answer
-answer_inverted : {words : List (List ℕ)} {old new : Seen} {before after : Printing} (status : ℕ) (text : List ℕ) → Answers words old new text
+answer_inverted : {words : List (List ℕ)} {old new : ShelfState} {before after : PrintState} (status : ℕ) (text : List ℕ) → Answers words old new text
     → Status status → IsLate status → Why words old new before after status → Inverted words old new before after status
 answer_inverted status _ (checked subject m c is u) known late why =
     record { known = known; why = why; stands = inl u; asked = λ r. absurd (r (to_check subject) c) }
@@ -120,13 +120,13 @@ answer_inverted status _ (instrumented line written h w) known late why = record
 }
 
 -- where memory ended on the way through a line
-memory_inverted : {words : List (List ℕ)} {old new : Seen} {before after : Printing} (status : ℕ) → Inverted words old new before after status
+memory_inverted : {words : List (List ℕ)} {old new : ShelfState} {before after : PrintState} (status : ℕ) → Inverted words old new before after status
     → Inverted words old new before after 14
 memory_inverted status i =
     cause_inverted 14 no_memory_text (memory_ended (elim (i.stands) [ inl u ↦ inl u | inr (late, p) ↦ inr p ]))
 
 -- an ending
-pub ends_inverted : {words : List (List ℕ)} {old new : Seen} {before after : Printing} (status : ℕ) → Ends words old new before after status
+pub ends_inverted : {words : List (List ℕ)} {old new : ShelfState} {before after : PrintState} (status : ℕ) → Ends words old new before after status
     → Inverted words old new before after status
 ends_inverted _ (answered text a (said t)) = answer_inverted 0 text a ends.done (λ zero _ _ _. zero refl) (text, a)
 ends_inverted _ (answered text a (said_part r t)) = answer_inverted 15 text a ends.unprinted (λ _ _ _ broken. broken refl) ((text, a), r)
@@ -137,23 +137,23 @@ ends_inverted _ (refused cause text r (said_part k t)) = cause_inverted cause te
 ends_inverted _ (refused cause text r (said_no_memory t)) = memory_inverted cause (cause_inverted cause text r)
 
 -- A refusal whose line was to be printed, or for whose line there was no memory.
-pub ends_refused : {words : List (List ℕ)} {old new : Seen} {before after : Printing} (cause status : ℕ) (text : List ℕ) → Cause words old new cause text
+pub ends_refused : {words : List (List ℕ)} {old new : ShelfState} {before after : PrintState} (cause status : ℕ) (text : List ℕ) → Cause words old new cause text
     → Said text cause cause before after status ⊎ Said no_memory_text 14 14 before after status → Ends words old new before after status
 ends_refused cause status text r (inl s) = refused cause text r s
 ends_refused {words = words} {old = old} {new = new} cause status text r (inr s) = refused 14 no_memory_text (memory_ended (cause_shelf cause text r)) s
 
 -- so a status tells why
-pub why_of : {words : List (List ℕ)} {old new : Seen} {before after : Printing} (status expected : ℕ) → Ends words old new before after status
+pub why_of : {words : List (List ℕ)} {old new : ShelfState} {before after : PrintState} (status expected : ℕ) → Ends words old new before after status
     → status ≡ expected → Why words old new before after expected
 why_of {words = words} {old = old} {new = new} {before = before} {after = after} status expected x e =
     subst (Why words old new before after) e (ends_inverted status x).why
 
 -- the shelf of a command
-pub is_kept : {words : List (List ℕ)} {old new : Seen} {before after : Printing} (status : ℕ) → Ends words old new before after status
+pub is_kept : {words : List (List ℕ)} {old new : ShelfState} {before after : PrintState} (status : ℕ) → Ends words old new before after status
     → status ≢ 0 → status ≢ 5 → status ≢ 14 → status ≢ 15 → Unchanged old.contents new.contents
 is_kept status x a b c d = elim ((ends_inverted status x).stands) [ inl u ↦ u | inr (late, p) ↦ absurd (late a b c d) ]
 
-pub any_shelf : {words : List (List ℕ)} {old new : Seen} {before after : Printing} (status : ℕ) → Ends words old new before after status
+pub any_shelf : {words : List (List ℕ)} {old new : ShelfState} {before after : PrintState} (status : ℕ) → Ends words old new before after status
     → Unchanged old.contents new.contents ⊎ IsWrittenPart words old.contents new.contents
 any_shelf status x = elim ((ends_inverted status x).stands) [ inl u ↦ inl u | inr (late, p) ↦ inr p ]
 
@@ -165,17 +165,17 @@ check_no_line words subject line (o, c) l =
     let e : codes "check" ≡ codes "instrument" = cc in
     cc
 
-pub check_keeps : {words : List (List ℕ)} {old new : Seen} {before after : Printing} (status : ℕ) → Ends words old new before after status
+pub check_keeps : {words : List (List ℕ)} {old new : ShelfState} {before after : PrintState} (status : ℕ) → Ends words old new before after status
     → (subject : List ℕ) → IsCheck words subject → Unchanged old.contents new.contents
 check_keeps {words = words} status x subject c =
     elim (any_shelf status x) [ inl u ↦ u | inr (line, written, h, p) ↦ absurd (check_no_line words subject line c h.command) ]
 
-answer_written : {words : List (List ℕ)} {old new : Seen} (text : List ℕ) (line : Line) → IsLine words line → Answers words old new text
+answer_written : {words : List (List ℕ)} {old new : ShelfState} (text : List ℕ) (line : Line) → IsLine words line → Answers words old new text
     → IsWritten words old.contents new.contents
 answer_written {words = words} _ line l (checked subject m c is u) = absurd (check_no_line words subject line c l)
 answer_written _ line l (instrumented other written h w) = (other, written, h, w)
 
-pub is_written : {words : List (List ℕ)} {old new : Seen} {before after : Printing} (status : ℕ) → Ends words old new before after status
+pub is_written : {words : List (List ℕ)} {old new : ShelfState} {before after : PrintState} (status : ℕ) → Ends words old new before after status
     → (line : Line) → IsLine words line → IsDone status → IsWritten words old.contents new.contents
 is_written status x line l (inl e) = let w = why_of status 0 x e in answer_written w.0 line l w.1
 is_written status x line l (inr e) = let w = why_of status 15 x e in answer_written w.0.0 line l w.0.1

@@ -8,11 +8,11 @@ use Rattle.module_ast.specs.Limits.{narrow, wide}
 use Rattle.instrument.specs.Nops.{narrow_file}
 use Rattle.wasabi_app.specs.Words.{Line, IsLine, IsCheck, to_check, to_instrument}
 use Rattle.wasabi_app.specs.Texts.{wrote_text, no_memory_text, unwritten_text, ok_text, counts_of}
-use Rattle.wasabi_app.specs.Printing.{Seen}
+use Rattle.wasabi_app.specs.Printing.{ShelfState}
 use Rattle.wasabi_app.specs.Files.{IsFit, wide_file}
 use Rattle.wasabi_app.specs.Reads.{module_read, IsRead, Reads, IsLoaded}
 use Rattle.wasabi_app.specs.Taken.{IsTaken}
-use Rattle.wasabi_app.specs.Making.{hook_count, IsOutputMade, Unmade, form, unmade_no_memory}
+use Rattle.wasabi_app.specs.Making.{hook_count, IsOutputMade, OutputCause, form, unmade_no_memory}
 use Rattle.wasabi_app.specs.Ends.{HasOutput, Cause, of_other_form, unwritten, memory_ended, Answers, checked, instrumented}
 use Rattle.wasabi_app.proofs.Files.{one_module}
 
@@ -36,21 +36,21 @@ pub valid_fit : (limits : Limits) (bytes : List ℕ) (m v : Module) → v ≡ m 
 valid_fit limits bytes m v e f k = (subst (IsFit limits bytes) (sym e) f, subst IsValid (sym e) k)
 
 -- and one that was counted
-pub answers_checked : (words : List (List ℕ)) (old new : Seen) (subject text : List ℕ) (m : Module) → IsCheck words subject
+pub answers_checked : (words : List (List ℕ)) (old new : ShelfState) (subject text : List ℕ) (m : Module) → IsCheck words subject
     → IsLoaded old.contents subject wide_file wide m → Unchanged old.contents new.contents → text ≡ ok_text (counts_of m) → Answers words old new text
 answers_checked words old new subject text m c is u e =
     subst (Answers words old new) (sym e) (checked subject m c is u)
 
 -- a valid module that has no output
-pub refuses_unmade : (words : List (List ℕ)) (old new : Seen) (line : Line) (m : Module) (status : ℕ) (text : List ℕ) → IsLine words line
-    → IsLoaded old.contents line.subject narrow_file narrow m → Unchanged old.contents new.contents → Unmade line.subject m status text
+pub refuses_unmade : (words : List (List ℕ)) (old new : ShelfState) (line : Line) (m : Module) (status : ℕ) (text : List ℕ) → IsLine words line
+    → IsLoaded old.contents line.subject narrow_file narrow m → Unchanged old.contents new.contents → OutputCause line.subject m status text
     → Cause words old new status text
 refuses_unmade words old new line m _ _ l is u (form n) = of_other_form line m l is n u
 refuses_unmade words old new line m _ _ l is u unmade_no_memory =
     memory_ended (inl u)
 
 -- an output that was made
-pub has_output : (words : List (List ℕ)) (old : Seen) (line : Line) (m : Module) (output text : List ℕ) → IsLine words line
+pub has_output : (words : List (List ℕ)) (old : ShelfState) (line : Line) (m : Module) (output text : List ℕ) → IsLine words line
     → IsLoaded old.contents line.subject narrow_file narrow m → IsOutputMade m line.hooks output text
     → (has : HasOutput words old.contents line output) × (hook_count has.instrumented.original line.hooks ≡ hook_count m line.hooks)
 has_output words old line m output text l is made =
@@ -61,7 +61,7 @@ has_output words old line m output text l is made =
     )
 
 -- and that was written
-pub answers_written : (words : List (List ℕ)) (old new : Seen) (line : Line) (m : Module) (output text : List ℕ) → IsLine words line
+pub answers_written : (words : List (List ℕ)) (old new : ShelfState) (line : Line) (m : Module) (output text : List ℕ) → IsLine words line
     → IsLoaded old.contents line.subject narrow_file narrow m → IsOutputMade m line.hooks output text
     → Wrote line.target output old.contents new.contents → Answers words old new text
 answers_written words old new line m output text l is made w =
@@ -69,14 +69,14 @@ answers_written words old new line m output text l is made w =
     subst (Answers words old new) (ap (wrote_text (length output)) h.1 ∙ sym made.line) (instrumented line output h.0 w)
 
 -- or that could not be
-pub refuses_unwritten : (words : List (List ℕ)) (old new : Seen) (line : Line) (m : Module) (output text : List ℕ) → IsLine words line
+pub refuses_unwritten : (words : List (List ℕ)) (old new : ShelfState) (line : Line) (m : Module) (output text : List ℕ) → IsLine words line
     → IsLoaded old.contents line.subject narrow_file narrow m → IsOutputMade m line.hooks output text → Rose old.writes new.writes
     → WrotePart line.target output old.contents new.contents → Cause words old new 5 (unwritten_text line.target)
 refuses_unwritten words old new line m output text l is made r w =
     unwritten line output (has_output words old line m output text l is made).0 r w
 
 -- or for which there was no memory then
-pub refuses_written : (words : List (List ℕ)) (old new : Seen) (line : Line) (m : Module) (output text : List ℕ) → IsLine words line
+pub refuses_written : (words : List (List ℕ)) (old new : ShelfState) (line : Line) (m : Module) (output text : List ℕ) → IsLine words line
     → IsLoaded old.contents line.subject narrow_file narrow m → IsOutputMade m line.hooks output text
     → WrotePart line.target output old.contents new.contents → Cause words old new 14 no_memory_text
 refuses_written words old new line m output text l is made w =

@@ -12,7 +12,7 @@ use Rattle.wasabi_app.specs.Words.{Line, IsLine, IsCheck, IsRefused, Task, to_ch
 use Rattle.wasabi_app.specs.Files.{IsValidFile, IsNoModule, IsUnfit, IsInvalid, wide_file}
 use Rattle.wasabi_app.specs.Taken.{IsTaken}
 use Rattle.wasabi_app.specs.Reads.{Want, valid_module, Read, module_read, reads_of, OfModule, IsGood, IsReached, Reads, IsLoaded}
-use Rattle.wasabi_app.specs.Printing.{Seen, seen, Printing}
+use Rattle.wasabi_app.specs.Printing.{ShelfState, shelf_state, PrintState}
 use Rattle.wasabi_app.specs.Ends as ends
 use Rattle.wasabi_app.specs.Ends.{Status, HasOutput, Answers, checked, instrumented, Ends, IsKept, Decides, IsAboveCap, IsFile, IsOtherForm, ChecksAll, Completes}
 use Rattle.wasabi_app.proofs.Files.{one_module, unfit_not_malformed, fit_not_malformed, fit_not_unfit, valid_not_invalid}
@@ -157,15 +157,15 @@ output_loaded words held line written h =
     let a = h.instrumented.accepted in
     record { bytes = h.bytes; read = h.subject; fit = record { spelled = a.spelled; within = a.limits }; valid = a.valid }
 
-answer_fate : {words : List (List ℕ)} {new : Seen} (contents : Contents) (reads writes : ℕ) (text : List ℕ) (status : ℕ)
-    → Answers words (seen (Some contents) reads writes) new text → (status ≡ 15) ⊎ (status ≡ 0) → Fate words contents status
+answer_fate : {words : List (List ℕ)} {new : ShelfState} (contents : Contents) (reads writes : ℕ) (text : List ℕ) (status : ℕ)
+    → Answers words (shelf_state (Some contents) reads writes) new text → (status ≡ 15) ⊎ (status ≡ 0) → Fate words contents status
 answer_fate contents reads writes _ status (checked subject m c is u) e = checked_well subject m c is e
 answer_fate {words = words} contents reads writes _ status (instrumented line written h w) e =
     made line h.instrumented.original h.command (output_loaded words (Some contents) line written h) h.taken (inr e)
 
 -- by its status
-fate : (words : List (List ℕ)) (contents : Contents) (reads writes : ℕ) (new : Seen) (before after : Printing) (status : ℕ) → Status status
-    → Why words (seen (Some contents) reads writes) new before after status → Fate words contents status
+fate : (words : List (List ℕ)) (contents : Contents) (reads writes : ℕ) (new : ShelfState) (before after : PrintState) (status : ℕ) → Status status
+    → Why words (shelf_state (Some contents) reads writes) new before after status → Fate words contents status
 fate words contents reads writes new before after _ ends.done w = answer_fate contents reads writes w.0 0 w.1 (inr refl)
 fate words contents reads writes new before after _ ends.bad_words w = not_asked w
 fate words contents reads writes new before after _ ends.unread (read, s, inl m) = bad read s (none m) (λ k. omega arith)
@@ -183,8 +183,8 @@ fate words contents reads writes new before after _ ends.no_memory w = faulty (i
 fate words contents reads writes new before after _ ends.unprinted w = answer_fate contents reads writes w.0.0 15 w.0.1 (inl refl)
 fate words contents reads writes new before after _ ends.other_form (line, m, l, is, n) = not_taken line m l is n refl
 
-ends_fate : {words : List (List ℕ)} {new : Seen} {before after : Printing} (contents : Contents) (reads writes status : ℕ)
-    → Ends words (seen (Some contents) reads writes) new before after status → Fate words contents status
+ends_fate : {words : List (List ℕ)} {new : ShelfState} {before after : PrintState} (contents : Contents) (reads writes status : ℕ)
+    → Ends words (shelf_state (Some contents) reads writes) new before after status → Fate words contents status
 ends_fate {words = words} {new = new} {before = before} {after = after} contents reads writes status x =
     let i = ends_inverted status x in
     fate words contents reads writes new before after status i.known i.why
@@ -211,16 +211,16 @@ fate_read words contents read status expected (not_taken line m l is t e) s f n 
 fate_read words contents read status expected (made line m l is t e) s f n =
     absurd (bad_task words contents read expected (to_instrument line) s f n l (loaded_good (Some contents) line.subject narrow_file narrow m is))
 
-pub decides : {words : List (List ℕ)} {new : Seen} {before after : Printing} (held : Option Contents) (reads writes status : ℕ)
-    → Ends words (seen held reads writes) new before after status → (P : Read → Option (List ℕ) → Type 0) (expected : ℕ) → expected ≢ 0
+pub decides : {words : List (List ℕ)} {new : ShelfState} {before after : PrintState} (held : Option Contents) (reads writes status : ℕ)
+    → Ends words (shelf_state held reads writes) new before after status → (P : Read → Option (List ℕ) → Type 0) (expected : ℕ) → expected ≢ 0
     → ((contents : Contents) (read : Read) → P read (contents read.name) → Found contents read expected) → Decides words held P status expected
 decides None reads writes status x P expected n f = tt
 decides {words = words} (Some contents) reads writes status x P expected n f =
     λ read s p. fate_read words contents read status expected (ends_fate contents reads writes status x) s (f contents read p) n
 
 -- so do the bytes of a file
-pub decides_file : {words : List (List ℕ)} {new : Seen} {before after : Printing} (held : Option Contents) (reads writes status : ℕ)
-    → Ends words (seen held reads writes) new before after status → (P : Limits → (bytes : List ℕ) → Type 0) (expected : ℕ) → expected ≢ 0
+pub decides_file : {words : List (List ℕ)} {new : ShelfState} {before after : PrintState} (held : Option Contents) (reads writes status : ℕ)
+    → Ends words (shelf_state held reads writes) new before after status → (P : Limits → (bytes : List ℕ) → Type 0) (expected : ℕ) → expected ≢ 0
     → ((limits : Limits) (bytes : List ℕ) → P limits bytes → Judged limits bytes expected) → Decides words held (IsFile P) status expected
 decides_file held reads writes status x P expected n f =
     decides held reads writes status x (IsFile P) expected n
@@ -238,8 +238,8 @@ fate_other words contents line m status (not_taken other k p has t e) l is n = i
 fate_other words contents line m status (made other k p has t e) l is n =
     absurd (n (subst IsTaken (same_loaded words contents other line k m p l has is) t))
 
-pub decides_other_form : {words : List (List ℕ)} {new : Seen} {before after : Printing} (held : Option Contents) (reads writes status : ℕ)
-    → Ends words (seen held reads writes) new before after status → WhereKnown held (λ _. IsOtherForm words held → IsKept status 17)
+pub decides_other_form : {words : List (List ℕ)} {new : ShelfState} {before after : PrintState} (held : Option Contents) (reads writes status : ℕ)
+    → Ends words (shelf_state held reads writes) new before after status → WhereKnown held (λ _. IsOtherForm words held → IsKept status 17)
 decides_other_form None reads writes status x = tt
 decides_other_form {words = words} (Some contents) reads writes status x =
     λ (line, m, l, is, n). fate_other words contents line m status (ends_fate contents reads writes status x) l is n
@@ -255,8 +255,8 @@ fate_checked words contents subject m status (checked_well other k d has e) c is
 fate_checked words contents subject m status (not_taken line k l has t e) c is = absurd (check_no_line words subject line c l)
 fate_checked words contents subject m status (made line k l has t e) c is = absurd (check_no_line words subject line c l)
 
-pub checks_all : {words : List (List ℕ)} {new : Seen} {before after : Printing} (held : Option Contents) (reads writes status : ℕ)
-    → Ends words (seen held reads writes) new before after status → ChecksAll words held status
+pub checks_all : {words : List (List ℕ)} {new : ShelfState} {before after : PrintState} (held : Option Contents) (reads writes status : ℕ)
+    → Ends words (shelf_state held reads writes) new before after status → ChecksAll words held status
 checks_all None reads writes status x = tt
 checks_all {words = words} (Some contents) reads writes status x =
     λ subject m c is. fate_checked words contents subject m status (ends_fate contents reads writes status x) c is
@@ -279,8 +279,8 @@ fate_taken words contents line m status (not_taken other k p has t e) l is n =
 fate_taken words contents line m status (made other k p has t e) l is n =
     elim e [ inl a ↦ inl a | inr a ↦ inr (elim a [ inl b ↦ inl b | inr b ↦ inr (inl b) ]) ]
 
-pub completes : {words : List (List ℕ)} {new : Seen} {before after : Printing} (held : Option Contents) (reads writes status : ℕ)
-    → Ends words (seen held reads writes) new before after status → Completes words held status
+pub completes : {words : List (List ℕ)} {new : ShelfState} {before after : PrintState} (held : Option Contents) (reads writes status : ℕ)
+    → Ends words (shelf_state held reads writes) new before after status → Completes words held status
 completes None reads writes status x = tt
 completes {words = words} (Some contents) reads writes status x =
     λ line bytes m l i f n. fate_taken words contents line m status (ends_fate contents reads writes status x) l

@@ -14,8 +14,8 @@ use Rattle.wasabi_app.specs.Reads.{Read, module_read, IsRead, OfModule, Reads, I
 use Rattle.wasabi_app.specs.Taken.{IsTaken}
 use Rattle.wasabi_app.specs.Texts.{bad_words_text, form_text, unwritten_text, no_memory_text, wrote_text, ok_text, counts_of}
 use Rattle.wasabi_app.specs.Refusals.{refusal_status, refusal_text}
-use Rattle.wasabi_app.specs.Printing.{Seen, Printing, Said}
-use Rattle.wasabi_app.specs.Loading.{Unloaded}
+use Rattle.wasabi_app.specs.Printing.{ShelfState, PrintState, Said}
+use Rattle.wasabi_app.specs.Loading.{ReadCause}
 use Rattle.wasabi_app.specs.Making.{hook_count}
 
 -- the statuses
@@ -51,9 +51,9 @@ IsWrittenPart words old new =
     (line : Line) × (written : List ℕ) × HasOutput words old line written × WrotePart line.target written old new
 
 -- why a command is refused, what stands on the shelf then, and the status and the line
-pub data Cause (words : List (List ℕ)) (old new : Seen) : (status : ℕ) → (text : List ℕ) → Type 0 where
+pub data Cause (words : List (List ℕ)) (old new : ShelfState) : (status : ℕ) → (text : List ℕ) → Type 0 where
   no_command : IsRefused words → Unchanged old.contents new.contents → Cause words old new 2 bad_words_text
-  unloaded : (read : Read) (status : ℕ) (text : List ℕ) → Reads words old.contents read → Unloaded read old new status text
+  unloaded : (read : Read) (status : ℕ) (text : List ℕ) → Reads words old.contents read → ReadCause read old new status text
       → Unchanged old.contents new.contents → Cause words old new status text
   of_other_form : (line : Line) (m : Module) → IsLine words line → IsLoaded old.contents line.subject narrow_file narrow m → ¬ IsTaken m
       → Unchanged old.contents new.contents → Cause words old new 17 (form_text line.subject)
@@ -62,7 +62,7 @@ pub data Cause (words : List (List ℕ)) (old new : Seen) : (status : ℕ) → (
   memory_ended : Unchanged old.contents new.contents ⊎ IsWrittenPart words old.contents new.contents → Cause words old new 14 no_memory_text
 
 -- what a command answers, what stands on the shelf then, and the line
-pub data Answers (words : List (List ℕ)) (old new : Seen) : (text : List ℕ) → Type 0 where
+pub data Answers (words : List (List ℕ)) (old new : ShelfState) : (text : List ℕ) → Type 0 where
   checked : (subject : List ℕ) (m : Module) → IsCheck words subject → IsLoaded old.contents subject wide_file wide m
       → Unchanged old.contents new.contents → Answers words old new (ok_text (counts_of m))
   instrumented : (line : Line) (written : List ℕ) (has : HasOutput words old.contents line written)
@@ -70,13 +70,13 @@ pub data Answers (words : List (List ℕ)) (old new : Seen) : (text : List ℕ) 
       → Answers words old new (wrote_text (length written) (hook_count has.instrumented.original line.hooks))
 
 -- the work of a command: its answer, or why it is refused
-abbrev pub ComesTo : List (List ℕ) → (old new : Seen) → Result (String Global) Refusal → Type 0
+abbrev pub ComesTo : List (List ℕ) → (old new : ShelfState) → Result (String Global) Refusal → Type 0
 ComesTo words old new (Ok line) = Answers words old new (string_bytes line)
 ComesTo words old new (Err refusal) = Cause words old new (refusal_status refusal) (refusal_text refusal)
 
 -- An answer's line is printed, or the status is 15 where the sink's count rose. A refusal's status stands however its
 -- line is printed. Want of memory for a line, or on the way through it, is 14.
-pub data Ends (words : List (List ℕ)) (old new : Seen) (before after : Printing) (status : ℕ) : Type 0 where
+pub data Ends (words : List (List ℕ)) (old new : ShelfState) (before after : PrintState) (status : ℕ) : Type 0 where
   answered : (text : List ℕ) → Answers words old new text → Said text 0 15 before after status → Ends words old new before after status
   refused : (cause : ℕ) (text : List ℕ) → Cause words old new cause text → Said text cause cause before after status
       → Ends words old new before after status

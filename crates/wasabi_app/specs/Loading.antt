@@ -7,7 +7,7 @@ use Rattle.module_ast.specs.declared.module.Which.{Which}
 use Rattle.module_ast.specs.Grammar.{IsFault}
 use Rattle.module_ast.specs.Decoding.{FileFloats, FileExceeds}
 use Rattle.module_ast.specs.Validity.{Rule, number_of, IsFirstBroken, IsFirstInvalid}
-use Rattle.wasabi_app.specs.Printing.{Seen}
+use Rattle.wasabi_app.specs.Printing.{ShelfState}
 use Rattle.wasabi_app.specs.Files.{IsFit}
 use Rattle.wasabi_app.specs.Reads.{Read, IsRead, OfModule}
 use Rattle.wasabi_app.specs.Texts.{missing_text, too_long_text, unread_text, malformed_text, floats_text, limit_text, rule_text, body_text, no_memory_text}
@@ -22,10 +22,10 @@ pub data Refutes (name : List ℕ) (limits : Limits) (bytes : List ℕ) : (statu
   no_memory : Refutes name limits bytes 14 no_memory_text
 
 -- nothing is read under the name that is what it must be
-pub data Unloaded (read : Read) (old new : Seen) : (status : ℕ) → (text : List ℕ) → Type 0 where
-  missing : IsMissing old.contents read.name old.reads new.reads → Unloaded read old new 3 (missing_text read.name)
-  too_long : (long : ℕ) → IsTooLong old.contents read.name read.cap long old.reads new.reads → Unloaded read old new 3 (too_long_text read.name long)
-  unread : Rose old.reads new.reads → Unloaded read old new 4 (unread_text read.name)
+pub data ReadCause (read : Read) (old new : ShelfState) : (status : ℕ) → (text : List ℕ) → Type 0 where
+  missing : IsMissing old.contents read.name old.reads new.reads → ReadCause read old new 3 (missing_text read.name)
+  too_long : (long : ℕ) → IsTooLong old.contents read.name read.cap long old.reads new.reads → ReadCause read old new 3 (too_long_text read.name long)
+  unread : Rose old.reads new.reads → ReadCause read old new 4 (unread_text read.name)
   refuted : (bytes : List ℕ) (status : ℕ) (text : List ℕ) → IsRead old.contents read bytes
-      → OfModule (λ limits b. Refutes read.name limits b status text) read.want bytes → Unloaded read old new status text
-  unloaded_no_memory : Unloaded read old new 14 no_memory_text
+      → OfModule (λ limits b. Refutes read.name limits b status text) read.want bytes → ReadCause read old new status text
+  unloaded_no_memory : ReadCause read old new 14 no_memory_text

@@ -21,6 +21,6 @@ pub record IsOutputMade (m : Module) (hooks : Hooks) (output text : List ℕ) : 
   pub line : text ≡ wrote_text (length output) (hook_count m hooks)
 
 -- there is no output
-pub data Unmade (subject : List ℕ) (m : Module) : (status : ℕ) → (text : List ℕ) → Type 0 where
-  form : ¬ IsTaken m → Unmade subject m 17 (form_text subject)
-  unmade_no_memory : Unmade subject m 14 no_memory_text
+pub data OutputCause (subject : List ℕ) (m : Module) : (status : ℕ) → (text : List ℕ) → Type 0 where
+  form : ¬ IsTaken m → OutputCause subject m 17 (form_text subject)
+  unmade_no_memory : OutputCause subject m 14 no_memory_text

@@ -5,7 +5,7 @@ ghost use Rattle.outside_io.specs.Outside.{Rose, Unchanged, WhereKnown};
 ghost use Rattle.wasabi_app.specs.Words.{Line, IsCheck, IsLine, IsRefused, texts};
 ghost use Rattle.wasabi_app.specs.Files.{IsNoModule, IsUnfit, IsInvalid};
 ghost use Rattle.wasabi_app.specs.Ends.{ComesTo, Ends, Status, IsDone, IsWritten, IsWrittenPart, IsOf, IsUnread, IsOtherForm, Decides, IsAboveCap, IsFile, IsKept, ChecksAll, Completes};
-ghost use Rattle.wasabi_app.specs.Printing.{Seen, seen, printing};
+ghost use Rattle.wasabi_app.specs.Printing.{ShelfState, shelf_state, print_state};
 
 use crate::check_mode::check;
 use crate::instrument_mode::instrument;
@@ -37,9 +37,9 @@ pub fn run_app<R: Threads + Sync, S: Shelf, K: Sink>(
 
     // Why each status comes, what stands on the shelf then, and what was printed.
     ensures ended { Ends (texts words.now)
-        (seen (S.contents shelf.old) (S.read_faults shelf.old) (S.write_faults shelf.old))
-        (seen (S.contents shelf.new) (S.read_faults shelf.new) (S.write_faults shelf.new))
-        (printing (K.written out.old) (K.faults out.old)) (printing (K.written out.new) (K.faults out.new)) result }
+        (shelf_state (S.contents shelf.old) (S.read_faults shelf.old) (S.write_faults shelf.old))
+        (shelf_state (S.contents shelf.new) (S.read_faults shelf.new) (S.write_faults shelf.new))
+        (print_state (K.written out.old) (K.faults out.old)) (print_state (K.written out.new) (K.faults out.new)) result }
 
     // Why each refusal comes.
     ensures bad_words { result ≡ 2 → IsRefused (texts words.now) }
@@ -92,8 +92,8 @@ fn answer<'w, R: Threads + Sync, S: Shelf>(
     shelf: &mut S,
 ) -> Result<String, Refusal<'w>>
     ensures ended { ComesTo (texts words.now)
-        (seen (S.contents shelf.old) (S.read_faults shelf.old) (S.write_faults shelf.old))
-        (seen (S.contents shelf.new) (S.read_faults shelf.new) (S.write_faults shelf.new)) result }
+        (shelf_state (S.contents shelf.old) (S.read_faults shelf.old) (S.write_faults shelf.old))
+        (shelf_state (S.contents shelf.new) (S.read_faults shelf.new) (S.write_faults shelf.new)) result }
     ensures read_count { S.read_faults shelf.old ≤ S.read_faults shelf.new }
     ensures write_count { S.write_faults shelf.old ≤ S.write_faults shelf.new }
 {
@@ -106,8 +106,8 @@ fn answer<'w, R: Threads + Sync, S: Shelf>(
 
 // Prints the line of an answer or of a refusal, and answers the status.
 fn tell<K: Sink>(alloc: Global, out: &mut K, ending: Result<String, Refusal<'_>>) -> u8
-    ensures ended { (words : List (List ℕ)) (old new : Seen) → ComesTo words old new ending.entry
-        → Ends words old new (printing (K.written out.old) (K.faults out.old)) (printing (K.written out.new) (K.faults out.new)) result }
+    ensures ended { (words : List (List ℕ)) (old new : ShelfState) → ComesTo words old new ending.entry
+        → Ends words old new (print_state (K.written out.old) (K.faults out.old)) (print_state (K.written out.new) (K.faults out.new)) result }
     ensures print_count { K.faults out.old ≤ K.faults out.new }
 {
     match ending {

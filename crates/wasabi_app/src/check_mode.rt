@@ -2,7 +2,7 @@
 
 ghost use Rattle.std.specs.Prelude.{◌≡◌, ◌≤◌, ℕ, List};
 ghost use Rattle.wasabi_app.specs.Ends.{ComesTo};
-ghost use Rattle.wasabi_app.specs.Printing.{seen};
+ghost use Rattle.wasabi_app.specs.Printing.{shelf_state};
 ghost use Rattle.wasabi_app.specs.Words.{IsCheck};
 
 use crate::counts::count;
@@ -24,8 +24,8 @@ pub(crate) fn check<'w, R: Threads + Sync, S: Shelf>(
     shelf: &mut S,
 ) -> Result<String, Refusal<'w>>
     ensures ended { (words : List (List ℕ)) → IsCheck words subject.now → ComesTo words
-        (seen (S.contents shelf.old) (S.read_faults shelf.old) (S.write_faults shelf.old))
-        (seen (S.contents shelf.new) (S.read_faults shelf.new) (S.write_faults shelf.new)) result }
+        (shelf_state (S.contents shelf.old) (S.read_faults shelf.old) (S.write_faults shelf.old))
+        (shelf_state (S.contents shelf.new) (S.read_faults shelf.new) (S.write_faults shelf.new)) result }
     ensures read_count { S.read_faults shelf.old ≤ S.read_faults shelf.new }
     ensures write_count { S.write_faults shelf.old ≤ S.write_faults shelf.new }
 {

@@ -10,8 +10,8 @@ ghost use Rattle.module_ast.specs.Limits.{narrow};
 ghost use Rattle.instrument.specs.Nops.{IsNopChoice, IsNops, narrow_file, nop_module};
 ghost use Rattle.instrument.specs.Accepted.{IsInstrumented};
 ghost use Rattle.wasabi_app.specs.Ends.{ComesTo};
-ghost use Rattle.wasabi_app.specs.Making.{hook_count, IsOutputMade, Unmade};
-ghost use Rattle.wasabi_app.specs.Printing.{seen};
+ghost use Rattle.wasabi_app.specs.Making.{hook_count, IsOutputMade, OutputCause};
+ghost use Rattle.wasabi_app.specs.Printing.{shelf_state};
 ghost use Rattle.wasabi_app.specs.Reading.{line_of};
 ghost use Rattle.wasabi_app.specs.Refusals.{refusal_status, refusal_text};
 ghost use Rattle.wasabi_app.specs.Words.{IsLine};
@@ -40,8 +40,8 @@ pub(crate) fn instrument<'w, R: Threads + Sync, S: Shelf>(
 ) -> Result<String, Refusal<'w>>
     requires choice { IsNopChoice line.now.hooks }
     ensures ended { (words : List (List ℕ)) → IsLine words (line_of line.now) → ComesTo words
-        (seen (S.contents shelf.old) (S.read_faults shelf.old) (S.write_faults shelf.old))
-        (seen (S.contents shelf.new) (S.read_faults shelf.new) (S.write_faults shelf.new)) result }
+        (shelf_state (S.contents shelf.old) (S.read_faults shelf.old) (S.write_faults shelf.old))
+        (shelf_state (S.contents shelf.new) (S.read_faults shelf.new) (S.write_faults shelf.new)) result }
     ensures read_count { S.read_faults shelf.old ≤ S.read_faults shelf.new }
     ensures write_count { S.write_faults shelf.old ≤ S.write_faults shelf.new }
 {
@@ -73,7 +73,7 @@ fn make<'w>(alloc: Global, line: &Line<'w>, m: &Module) -> Result<Made, Refusal<
     requires choice { IsNopChoice line.now.hooks }
     requires short { length (module_bytes m.now) ≤ narrow_file }
     ensures ok { IfOk result (λ made. IsOutputMade m.now line.now.hooks made.output.items (string_bytes made.text)) }
-    ensures refused { IfErr result (λ r. Unmade line.now.subject.now m.now (refusal_status r) (refusal_text r)) }
+    ensures refused { IfErr result (λ r. OutputCause line.now.subject.now m.now (refusal_status r) (refusal_text r)) }
 {
     let Some(nops) = nops_of(m) else {
         return Err(Refusal::OtherForm { name: line.subject });

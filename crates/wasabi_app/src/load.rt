@@ -4,8 +4,8 @@ ghost use Rattle.std.specs.Prelude.{◌≡◌, ◌≤◌, IfOk, IfErr, length};
 ghost use Rattle.outside_io.specs.Outside.{Unchanged};
 ghost use Rattle.module_ast.specs.Validity.{IsValid};
 ghost use Rattle.wasabi_app.specs.Files.{IsFit, wide_file};
-ghost use Rattle.wasabi_app.specs.Loading.{Refutes, Unloaded};
-ghost use Rattle.wasabi_app.specs.Printing.{seen};
+ghost use Rattle.wasabi_app.specs.Loading.{Refutes, ReadCause};
+ghost use Rattle.wasabi_app.specs.Printing.{shelf_state};
 ghost use Rattle.wasabi_app.specs.Reads.{IsLoaded, module_read};
 ghost use Rattle.wasabi_app.specs.Refusals.{refusal_status, refusal_text};
 
@@ -29,9 +29,9 @@ pub(crate) fn load<'w, R: Threads + Sync, S: Shelf>(
     requires short { cap ≤ wide_file }
     requires nesting { limits.now.nesting ≤ 1002 }
     ensures ok { IfOk result (λ v. IsLoaded (S.contents shelf.old) name.now cap limits.now v) }
-    ensures refused { IfErr result (λ r. Unloaded (module_read name.now cap limits.now)
-        (seen (S.contents shelf.old) (S.read_faults shelf.old) (S.write_faults shelf.old))
-        (seen (S.contents shelf.new) (S.read_faults shelf.new) (S.write_faults shelf.new)) (refusal_status r) (refusal_text r)) }
+    ensures refused { IfErr result (λ r. ReadCause (module_read name.now cap limits.now)
+        (shelf_state (S.contents shelf.old) (S.read_faults shelf.old) (S.write_faults shelf.old))
+        (shelf_state (S.contents shelf.new) (S.read_faults shelf.new) (S.write_faults shelf.new)) (refusal_status r) (refusal_text r)) }
     ensures kept { Unchanged (S.contents shelf.old) (S.contents shelf.new) }
     ensures read_count { S.read_faults shelf.old ≤ S.read_faults shelf.new }
     ensures write_count { S.write_faults shelf.new ≡ S.write_faults shelf.old }

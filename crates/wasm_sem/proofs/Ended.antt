@@ -4,7 +4,7 @@ use Rattle.module_ast.specs.declared.module.Module.{Module}
 use Rattle.wasm_sem.specs.declared.Script.{Script}
 use Rattle.wasm_sem.specs.declared.Answer.TheVariants.{Trapped}
 use Rattle.wasm_sem.specs.Link.{Instance, instance}
-use Rattle.wasm_sem.specs.Machine.{Frame, Phase, starting, calling, over, Env, Configuration, configuration, Next, reduces, traps, ends, stuck, enter_phase, step, after_step, run, opening, run_of, is_last, is_over}
+use Rattle.wasm_sem.specs.Machine.{Frame, Phase, starting, calling, over, Env, Configuration, configuration, Next, reduces, traps, ends, stuck, enter_phase, step, after_step, run, opening_configuration, run_of, is_last, is_over}
 use Rattle.wasm_sem.specs.Events.{TraceItem, shown_begins}
 use Rattle.wasm_sem.specs.Trace.{told_begins, items_by, items, trace, trace_of}
 use Rattle.wasm_sem.specs.Laws.{slots_in}
@@ -97,18 +97,18 @@ shows_none inst (suc n) c h =
 
 -- so it is at every moment, from the opening
 live_of : (m : Module) (s : Script) (n : ℕ) → Live (run_of m s n)
-live_of m s n = live_run (instance m s) n (opening m s) tt
+live_of m s n = live_run (instance m s) n (opening_configuration m s) tt
 
 -- a run that is over stays as it is
 pub stays_over : (m : Module) (s : Script) (n more : ℕ) → is_over (run_of m s n) ≡ true → run_of m s (n + more) ≡ run_of m s n
 stays_over m s n more h =
     let inst = instance m s in
-    run_add inst n more (opening m s) ∙ run_ended inst more (run_of m s n) (over_ends inst (run_of m s n) (live_of m s n) h).0
+    run_add inst n more (opening_configuration m s) ∙ run_ended inst more (run_of m s n) (over_ends inst (run_of m s n) (live_of m s n) h).0
 
 -- and shows nothing more
 pub shows_no_more : (m : Module) (s : Script) (n more : ℕ) → is_over (run_of m s n) ≡ true → trace_of m s (n + more) ≡ trace_of m s n
 shows_no_more m s n more h =
     let inst = instance m s in
-    trace_add inst n more (opening m s)
+    trace_add inst n more (opening_configuration m s)
     ∙ ap (λ t. trace_of m s n ++ t) (shows_none inst more (run_of m s n) (over_ends inst (run_of m s n) (live_of m s n) h))
     ∙ append-nil (trace_of m s n)
