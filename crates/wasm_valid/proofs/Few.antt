@@ -45,7 +45,7 @@ item_some (items.Memory r) = omega arith
 item_some (items.Global g) = omega arith
 
 import_some : (i : Import) → 1 ≤ length (import_bytes i)
-import_some i = omega (arith, item_some i.item, length-append (sized_bytes i.module ++ sized_bytes i.name) (item_bytes i.item))
+import_some i = omega (arith, item_some i.item, length-append (sized_bytes i.module.bytes ++ sized_bytes i.name.bytes) (item_bytes i.item))
 
 limits_some : (min : ℕ) (max : Option ℕ) → (let r : Range = record { min = min; max = max } in 1 ≤ length (limits_bytes r))
 limits_some min None = omega arith
