@@ -1,4 +1,4 @@
 use Rattle.wasabi_app.proofs.instrument_mode.write.Goals as goal
 
 pub write_nops-requires-clause-known : goal.write_nops-requires-clause-known
-write_nops-requires-clause-known c = record { text = c.utf8.name; short = c.requires.short }
+write_nops-requires-clause-known c = record { short = c.requires.short }
