@@ -85,7 +85,7 @@ fn export(alloc: Global, kind: ExportKind, index: u32) -> Export {
 
 // One instruction as an expression.
 fn only(alloc: Global, instr: Instr) -> Result<Code, NoMemory> {
-    Ok(Code::from_vec(vec![in alloc; instr]?))
+    Code::from_vec(alloc, vec![in alloc; instr]?)
 }
 
 fn global(alloc: Global, init: Instr) -> Result<GlobalDef, NoMemory> {
