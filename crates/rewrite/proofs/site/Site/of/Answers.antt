@@ -41,7 +41,7 @@ returns c =
     let counted = ap (λ (n : Counts). n.funcs) c.imported.ensures ∙ ap (λ (s : SpaceTable). s.imported.funcs) c.spaces.ensures in
     let at : c.imported.result.funcs + c.defined.result ≡ import_count m + d = omega (arith, counted, c.defined.ensures) in
     let starts : c.starts_with.result ≡ is_start m.start (c.imported.result.funcs + c.defined.result) =
-        c.starts_with.ensures ∙ ap (λ (m : Module). is_start m.start (c.imported.result.funcs + c.defined.result)) c.module.ensures in
+    c.starts_with.ensures ∙ ap (λ (m : Module). is_start m.start (c.imported.result.funcs + c.defined.result)) c.module.ensures in
     let marks = c.as_slice.ensures ∙ ap (λ (t : Marks). t.types) c.marks-marks.ensures.marks in
     let env = c.in_ok-env.field-0 in
     let b = c.body.result.now in
