@@ -18,13 +18,13 @@ use Rattle.hook_mono.specs.declared.HookKey.{HookKey}
 use Rattle.hook_mono.specs.declared.HookKey.TheVariants.{Plain, Begin, End, Const, Num, Drop, Select, Local, Global, Load, Store, CallPre, IndirectPre, CallPost, Return}
 use Rattle.hook_mono.specs.Keys.{IsProper, is_plain}
 use Rattle.hook_mono.specs.Names.{letters, name_of, NamesDiffer, NamesLeadBack}
-use Rattle.hook_mono.specs.Reading.{key_named, types_of, or_read}
+use Rattle.hook_mono.specs.Reading.{key_named, letter_types, or_read}
 
 abbrev IsRead : HookKey → Type 0
 IsRead key = key_named (name_of key) ≡ Some key
 
 -- types are read from their letters
-letters_back : (ts : List ValType) → types_of (letters ts) ≡ Some ts
+letters_back : (ts : List ValType) → letter_types (letters ts) ≡ Some ts
 letters_back [] = refl
 letters_back (I32 ∷ ts) = ap (option_map (λ us. I32 ∷ us)) (letters_back ts)
 letters_back (I64 ∷ ts) = ap (option_map (λ us. I64 ∷ us)) (letters_back ts)

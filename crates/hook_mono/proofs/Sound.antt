@@ -16,7 +16,7 @@ use Rattle.hook_mono.specs.declared.HookKey.TheVariants.{Plain, Begin, End, Cons
 use Rattle.hook_mono.specs.Orders.{both_types, all_kinds, all_loads, all_stores, all_nums}
 use Rattle.hook_mono.specs.Keys.{is_proper, IsProper}
 use Rattle.hook_mono.specs.Names.{name_of, plain_name, const_name, letter, letters, IsNamed, IsKeyOf}
-use Rattle.hook_mono.specs.Reading.{Reader, plains, named, strip, type_of, types_of, one_type, kind_behind, type_behind, types_behind, or_read, first_read, fixed_readers, letter_readers, types_readers, key_named}
+use Rattle.hook_mono.specs.Reading.{Reader, plain_groups, named, strip, letter_type, letter_types, one_type, kind_behind, type_behind, types_behind, or_read, first_read, fixed_readers, letter_readers, types_readers, key_named}
 use Rattle.hook_mono.proofs.Strip.{equal_numbers}
 use Rattle.hook_mono.proofs.Inverse.{reads_back}
 
@@ -79,7 +79,7 @@ sound_behind {A} head f make read proper says reads name key e = by (strip head 
 kind_is : (rest : List ℕ) (kind : BlockKind) → named kind_name all_kinds rest ≡ Some kind → kind_name kind ≡ rest
 kind_is rest kind e = (found kind_name (λ k. true) all_kinds rest kind refl e).0
 
-type_is : (b : ℕ) (t : ValType) → type_of b ≡ Some t → letter t ≡ b
+type_is : (b : ℕ) (t : ValType) → letter_type b ≡ Some t → letter t ≡ b
 type_is b t e = by (b == 105) refl (b == 108) refl e
   where
     by : (c : Bool) → (b == 105) ≡ c → (d : Bool) → (b == 108) ≡ d → cond c (Some I32) (cond d (Some I64) None) ≡ Some t → letter t ≡ b
@@ -92,12 +92,12 @@ one_is [] t e = absurd (none_some t e)
 one_is (b ∷ []) t e = ap (λ x. x ∷ []) (type_is b t e)
 one_is (b ∷ c ∷ rest) t e = absurd (none_some t e)
 
-types_are : (rest : List ℕ) (ts : List ValType) → types_of rest ≡ Some ts → letters ts ≡ rest
+types_are : (rest : List ℕ) (ts : List ValType) → letter_types rest ≡ Some ts → letters ts ≡ rest
 types_are [] ts e = ap letters (sym (some_same [] ts e))
-types_are (b ∷ rest) ts e = by (type_of b) refl (types_of rest) refl e (types_are rest)
+types_are (b ∷ rest) ts e = by (letter_type b) refl (letter_types rest) refl e (types_are rest)
   where
-    by : (o : Option ValType) → type_of b ≡ o → (p : Option (List ValType)) → types_of rest ≡ p
-        → option_and_then (λ t. option_map (λ us. t ∷ us) p) o ≡ Some ts → ((us : List ValType) → types_of rest ≡ Some us → letters us ≡ rest) → letters ts ≡ b ∷ rest
+    by : (o : Option ValType) → letter_type b ≡ o → (p : Option (List ValType)) → letter_types rest ≡ p
+        → option_and_then (λ t. option_map (λ us. t ∷ us) p) o ≡ Some ts → ((us : List ValType) → letter_types rest ≡ Some us → letters us ≡ rest) → letters ts ≡ b ∷ rest
     by None eo p ep e later = absurd (none_some ts e)
     by (Some t) eo None ep e later = absurd (none_some ts e)
     by (Some t) eo (Some us) ep e later = ap letters (sym (some_same (t ∷ us) ts e)) ∙ ap₂ (λ x xs. x ∷ xs) (type_is b t eo) (later us ep)
@@ -109,7 +109,7 @@ type_sound : (head : List ℕ) (make : ValType → HookKey) → ((t : ValType) �
 type_sound head make proper says = sound_behind head (λ t. letter t ∷ []) make one_type proper says one_is
 
 types_sound : (head : List ℕ) (make : List ValType → HookKey) → ((ts : List ValType) → IsProper (make ts)) → ((ts : List ValType) → name_of (make ts) ≡ head ++ letters ts) → Sound (types_behind head make)
-types_sound head make proper says = sound_behind head letters make types_of proper says types_are
+types_sound head make proper says = sound_behind head letters make letter_types proper says types_are
 
 none_sound : Sound (first_read [])
 none_sound name key e = absurd (none_some key e)
@@ -123,7 +123,7 @@ first_sound read later one two name key e = by (read name) refl e
 
 fixed_sound : Sound (first_read fixed_readers)
 fixed_sound =
-    (first_sound _ _ (sound_list Plain plain_name plains (λ g. refl) refl)
+    (first_sound _ _ (sound_list Plain plain_name plain_groups (λ g. refl) refl)
     (first_sound _ _ (kind_sound (codes "begin_") Begin (λ kind. refl) (λ kind. refl))
     (first_sound _ _ (kind_sound (codes "end_") End (λ kind. refl) (λ kind. refl))
     (first_sound _ _ (sound_list Const const_name both_types (λ t. refl) refl)

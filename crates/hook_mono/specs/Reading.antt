@@ -16,8 +16,8 @@ use Rattle.hook_mono.specs.Orders.{both_types, all_kinds, all_loads, all_stores,
 use Rattle.hook_mono.specs.Names.{plain_name, const_name}
 
 -- the groups that are a key by themselves, in their order
-abbrev pub plains : List GroupName
-plains = groups.Start ∷ groups.Nop ∷ groups.Unreachable ∷ groups.If ∷ groups.Br ∷ groups.BrIf ∷ groups.BrTable ∷ groups.MemorySize ∷ groups.MemoryGrow ∷ []
+abbrev pub plain_groups : List GroupName
+plain_groups = groups.Start ∷ groups.Nop ∷ groups.Unreachable ∷ groups.If ∷ groups.Br ∷ groups.BrIf ∷ groups.BrTable ∷ groups.MemorySize ∷ groups.MemoryGrow ∷ []
 
 -- the one of these with this name
 abbrev pub named : {A : Type 0} → (A → List ℕ) → List A → List ℕ → Option A
@@ -30,16 +30,16 @@ strip (h ∷ head) [] = None
 strip (h ∷ head) (b ∷ name) = cond (h == b) (strip head name) None
 
 -- i for i32, l for i64
-abbrev pub type_of : ℕ → Option ValType
-type_of b = cond (b == 105) (Some I32) (cond (b == 108) (Some I64) None)
+abbrev pub letter_type : ℕ → Option ValType
+letter_type b = cond (b == 105) (Some I32) (cond (b == 108) (Some I64) None)
 
-abbrev pub types_of : List ℕ → Option (List ValType)
-types_of [] = Some []
-types_of (b ∷ bs) = option_and_then (λ t. option_map (λ ts. t ∷ ts) (types_of bs)) (type_of b)
+abbrev pub letter_types : List ℕ → Option (List ValType)
+letter_types [] = Some []
+letter_types (b ∷ bs) = option_and_then (λ t. option_map (λ ts. t ∷ ts) (letter_types bs)) (letter_type b)
 
 -- the type of a text of one letter
 abbrev pub one_type : List ℕ → Option ValType
-one_type (b ∷ []) = type_of b
+one_type (b ∷ []) = letter_type b
 one_type _ = None
 
 abbrev pub Reader : Type 0
@@ -53,7 +53,7 @@ abbrev pub type_behind : List ℕ → (ValType → HookKey) → Reader
 type_behind head make name = option_map make (option_and_then one_type (strip head name))
 
 abbrev pub types_behind : List ℕ → (List ValType → HookKey) → Reader
-types_behind head make name = option_map make (option_and_then types_of (strip head name))
+types_behind head make name = option_map make (option_and_then letter_types (strip head name))
 
 abbrev pub or_read : Option HookKey → Option HookKey → Option HookKey
 or_read None later = later
@@ -67,7 +67,7 @@ first_read (read ∷ readers) name = or_read (read name) (first_read readers nam
 -- of groups, blocks, constants and operations
 abbrev pub fixed_readers : List Reader
 fixed_readers =
-    (λ name. option_map Plain (named plain_name plains name))
+    (λ name. option_map Plain (named plain_name plain_groups name))
     ∷ kind_behind (codes "begin_") Begin
     ∷ kind_behind (codes "end_") End
     ∷ (λ name. option_map Const (named const_name both_types name))

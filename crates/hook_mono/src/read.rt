@@ -7,7 +7,7 @@ ghost use Rattle.module_ast.specs.OpNames.{load_name, store_name};
 ghost use Rattle.hook_select.specs.Kinds.{kind_name};
 ghost use Rattle.hook_mono.specs.Names.{plain_name, const_name, IsKeyOf};
 ghost use Rattle.hook_mono.specs.Orders.{all_kinds};
-ghost use Rattle.hook_mono.specs.Reading.{named, strip, type_of, types_of, one_type, first_read, fixed_readers, letter_readers, types_readers, key_named};
+ghost use Rattle.hook_mono.specs.Reading.{named, strip, letter_type, letter_types, one_type, first_read, fixed_readers, letter_readers, types_readers, key_named};
 
 use crate::HookKey;
 use crate::names::{const_name, kind_name, plain_name};
@@ -318,10 +318,10 @@ fn type_behind(head: &str, name: &str) -> Option<ValType>
 }
 
 fn types_behind(alloc: Global, head: &str, name: &str) -> Result<Option<Seq<ValType>>, NoMemory>
-    ensures { IfOk result (λ types. types ≡ option_and_then types_of (strip head.now name.now)) }
+    ensures { IfOk result (λ types. types ≡ option_and_then letter_types (strip head.now name.now)) }
 {
     match strip(head, name) {
-        Some(rest) => types_of(alloc, rest.as_bytes()),
+        Some(rest) => letter_types(alloc, rest.as_bytes()),
         None => Ok(None),
     }
 }
@@ -331,18 +331,18 @@ fn one_type(letters: &[u8]) -> Option<ValType>
     ensures { result ≡ one_type letters.now }
 {
     match letters {
-        [letter] => type_of(*letter),
+        [letter] => letter_type(*letter),
         _ => None,
     }
 }
 
 // The type of each letter.
-fn types_of(alloc: Global, letters: &[u8]) -> Result<Option<Seq<ValType>>, NoMemory>
-    ensures { IfOk result (λ types. types ≡ types_of letters.now) }
+fn letter_types(alloc: Global, letters: &[u8]) -> Result<Option<Seq<ValType>>, NoMemory>
+    ensures { IfOk result (λ types. types ≡ letter_types letters.now) }
 {
     let mut types = Vec::with_capacity(alloc, letters.len())?;
     for letter in letters {
-        match type_of(*letter) {
+        match letter_type(*letter) {
             Some(ty) => types.push(ty)?,
             None => return Ok(None),
         }
@@ -351,8 +351,8 @@ fn types_of(alloc: Global, letters: &[u8]) -> Result<Option<Seq<ValType>>, NoMem
 }
 
 // The type of a letter.
-fn type_of(letter: u8) -> Option<ValType>
-    ensures { result ≡ type_of letter }
+fn letter_type(letter: u8) -> Option<ValType>
+    ensures { result ≡ letter_type letter }
 {
     match letter {
         b'i' => Some(ValType::I32),

@@ -26,7 +26,7 @@ use Rattle.hook_mono.specs.Needed as needed
 use Rattle.hook_mono.specs.Needed.{Site, end_keys, plain_keys, open_keys, close_keys, place_keys, live_keys}
 use Rattle.rewrite.specs.declared.needs.OpenBlock.{OpenBlock}
 use Rattle.rewrite.specs.declared.needs.Needs.{Needs}
-use Rattle.rewrite.specs.Needing.{with_wanted, with_each_wanted, with_needed, own_keys, instr_keys, opcode_keys, kept_of, kept_by, kept_at, first_left, rest_left, all_left, with_ends, after_branch, kind_opened, with_block, out_to, after_live, after_opcode, into_block, after_place}
+use Rattle.rewrite.specs.Needing.{with_wanted, with_each_wanted, with_needed, own_keys, instr_keys, told_keys, blocks_kept, blocks_kept_by, blocks_kept_at, first_left, rest_left, all_left, with_ends, after_branch, kind_opened, with_open_block, left_out_to, after_live, after_opcode, into_block, after_place}
 use Rattle.wasm_sem.proofs.Placed.{places_length}
 use Rattle.rewrite.proofs.Known.{wanted_each, few_more, few_each}
 use Rattle.rewrite.proofs.Unended.{AreUnended, ends_of, entry_of, leave_none, leave_one, unended_each, left_ends, branched}
@@ -72,27 +72,27 @@ taken_none (suc n) = refl
 alone : (scopes : List Scope) (own : List HookKey) → own ++ left_ends (length (kinds_of scopes)) (kinds_of scopes) ≡ own
 alone scopes own = ap (λ ks. own ++ ks) (ends_none scopes) ∙ append-nil own
 
-plain_whole : (s : Site) (scopes : List Scope) (p : ℕ) (i : Plain) → own_keys s p (Some i) ++ left_ends (kept_of (length (kinds_of scopes)) (Some i)) (kinds_of scopes) ≡ plain_keys s scopes p i
+plain_whole : (s : Site) (scopes : List Scope) (p : ℕ) (i : Plain) → own_keys s p (Some i) ++ left_ends (blocks_kept (length (kinds_of scopes)) (Some i)) (kinds_of scopes) ≡ plain_keys s scopes p i
 plain_whole s scopes p (br l) = ap₂ (λ xs ys. keys.Plain groups.Br ∷ (xs ++ ys)) (taken_none (l + 1)) (ends_left (l + 1) scopes)
 plain_whole s scopes p (br_if l) = ap₂ (λ xs ys. keys.Plain groups.BrIf ∷ (xs ++ ys)) (taken_none (l + 1)) (ends_left (l + 1) scopes)
 plain_whole s scopes p return_ = ap (λ ks. keys.Return s.context.results ∷ ks) (ends_each scopes)
 plain_whole s scopes p i = alone scopes (plain_keys s [] p i)
 
 opcode_whole : (s : Site) (scopes : List Scope) (p : ℤ) (x : positions.Opcode) (y : Opcode) → IsOpcodeOf x y
-    → opcode_keys s p y ++ left_ends (kept_at (length (kinds_of scopes)) y) (kinds_of scopes) ≡ needed.opcode_keys s scopes p x
-opcode_whole s scopes p x Enters e = alone scopes (opcode_keys s p Enters) ∙ ap (needed.opcode_keys s scopes p) (sym e)
+    → told_keys s p y ++ left_ends (blocks_kept_at (length (kinds_of scopes)) y) (kinds_of scopes) ≡ needed.opcode_keys s scopes p x
+opcode_whole s scopes p x Enters e = alone scopes (told_keys s p Enters) ∙ ap (needed.opcode_keys s scopes p) (sym e)
 opcode_whole s scopes p x (Acts i) (q, e, f) =
-    ap (λ o. own_keys s (nat_abs p) o ++ left_ends (kept_of (length (kinds_of scopes)) o) (kinds_of scopes)) e
+    ap (λ o. own_keys s (nat_abs p) o ++ left_ends (blocks_kept (length (kinds_of scopes)) o) (kinds_of scopes)) e
     ∙ plain_whole s scopes (nat_abs p) q
     ∙ ap (needed.opcode_keys s scopes p) (sym f)
 opcode_whole s scopes p x (Opens b) (t, e, f) =
-    alone scopes (opcode_keys s p (Opens b)) ∙ ap (λ (b : Block). opcode_keys s p (Opens b)) e ∙ ap (needed.opcode_keys s scopes p) (sym f)
+    alone scopes (told_keys s p (Opens b)) ∙ ap (λ (b : Block). told_keys s p (Opens b)) e ∙ ap (needed.opcode_keys s scopes p) (sym f)
 opcode_whole s scopes p x (Alternates a b live) (t, u, e, f, g) =
-    alone scopes (opcode_keys s p (Alternates a b live))
-    ∙ ap₂ (λ (a b : Block). opcode_keys s p (Alternates a b live)) e f
+    alone scopes (told_keys s p (Alternates a b live))
+    ∙ ap₂ (λ (a b : Block). told_keys s p (Alternates a b live)) e f
     ∙ ap (needed.opcode_keys s scopes p) (sym g)
 opcode_whole s scopes p x (Closes b) (t, e, f) =
-    alone scopes (opcode_keys s p (Closes b)) ∙ ap (λ (b : Block). opcode_keys s p (Closes b)) e ∙ ap (needed.opcode_keys s scopes p) (sym f)
+    alone scopes (told_keys s p (Closes b)) ∙ ap (λ (b : Block). told_keys s p (Closes b)) e ∙ ap (needed.opcode_keys s scopes p) (sym f)
 
 -- ---- a place
 
@@ -111,13 +111,13 @@ module _ (hooks : Hooks) (table : List HookKey) (around : List BlockKind) (stack
 
   -- into the block that opens there
   entered_behind : (x : positions.Opcode) (y : Opcode) → IsOpcodeOf x y → AreUnended hooks table around stack
-      → AreUnended hooks table (open_behind x around) (with_block (length around) (kind_opened y) stack)
+      → AreUnended hooks table (open_behind x around) (with_open_block (length around) (kind_opened y) stack)
   entered_behind x y at h = go y at
     where
       moved : (z : positions.Opcode) (bs : List OpenBlock) → x ≡ z → AreUnended hooks table (open_behind z around) bs → AreUnended hooks table (open_behind x around) bs
       moved z bs e k = subst (λ o. AreUnended hooks table (open_behind o around) bs) (sym e) k
 
-      go : (y : Opcode) → IsOpcodeOf x y → AreUnended hooks table (open_behind x around) (with_block (length around) (kind_opened y) stack)
+      go : (y : Opcode) → IsOpcodeOf x y → AreUnended hooks table (open_behind x around) (with_open_block (length around) (kind_opened y) stack)
       go Enters e = moved positions.enters _ e (opened kinds.Function h)
       go (Acts i) (q, e, f) = moved (positions.acts q) _ f h
       go (Opens b) (t, e, f) = moved (positions.opens t) _ f (opened_as b.kind t.kind (ap (λ (b : Block). b.kind) e) h)
@@ -142,11 +142,11 @@ module _ (s : Site) (x : positions.Place) (y : Place) (n : Needs) (at : IsPlaceO
   inside : AreUnended n.hooks n.table around stack
   inside = left_before n.hooks n.table around n.stack x.opcode h
 
-  added : (b : Bool) → x.live ≡ b → PlaceAdded s x n (into_block depth y.opcode (cond b (after_live s depth y.position y.opcode (out_to depth n)) (out_to depth n)))
+  added : (b : Bool) → x.live ≡ b → PlaceAdded s x n (into_block depth y.opcode (cond b (after_live s depth y.position y.opcode (left_out_to depth n)) (left_out_to depth n)))
   added true e =
-      let own = opcode_keys s y.position y.opcode in
+      let own = told_keys s y.position y.opcode in
       let table = with_each_wanted n.hooks n.table own in
-      let kept = kept_at depth y.opcode in
+      let kept = blocks_kept_at depth y.opcode in
       let branch = branched n.hooks kept table around stack (unended_each n.hooks n.table own around stack inside) in
       let all = with_ends n.hooks kept stack table in
       record {
@@ -188,7 +188,7 @@ close_few : (s : Site) (k : BlockKind) → length (close_keys s k) ≤ 2
 close_few s kinds.Function = omega arith
 close_few s k = omega arith
 
-pub keys_few : (s : Site) (p : ℤ) (y : Opcode) → length (opcode_keys s p y) ≤ 2
+pub keys_few : (s : Site) (p : ℤ) (y : Opcode) → length (told_keys s p y) ≤ 2
 keys_few s p Enters = let start = when s.starts (keys.Plain groups.Start ∷ []) in omega (arith, when_few s.starts (keys.Plain groups.Start), length-append start (keys.Begin kinds.Function ∷ []))
 keys_few s p (Acts i) = own_few s (nat_abs p) (plain_of i.now)
 keys_few s p (Opens b) = open_few b.kind
@@ -214,18 +214,18 @@ rest_few kept (b ∷ bs) = go (leb kept b.around)
     go true = omega arith
     go false = omega arith
 
-block_few : (d : ℕ) (k : Option BlockKind) (stack : List OpenBlock) → length (with_block d k stack) ≤ length stack + 1
+block_few : (d : ℕ) (k : Option BlockKind) (stack : List OpenBlock) → length (with_open_block d k stack) ≤ length stack + 1
 block_few d None stack = omega arith
 block_few d (Some k) stack = omega arith
 
 pub few_added : (s : Site) (d : ℕ) (y : Place) (n : Needs) → (let n2 = after_place s d y n in length n2.table + length n2.stack ≤ length n.table + length n.stack + 3)
 few_added s d y n = go y.live
   where
-    go : (b : Bool) → (let n2 = into_block d y.opcode (cond b (after_live s d y.position y.opcode (out_to d n)) (out_to d n)) in length n2.table + length n2.stack ≤ length n.table + length n.stack + 3)
+    go : (b : Bool) → (let n2 = into_block d y.opcode (cond b (after_live s d y.position y.opcode (left_out_to d n)) (left_out_to d n)) in length n2.table + length n2.stack ≤ length n.table + length n.stack + 3)
     go true =
-        let own = opcode_keys s y.position y.opcode in
+        let own = told_keys s y.position y.opcode in
         let table = with_each_wanted n.hooks n.table own in
-        let kept = kept_at d y.opcode in
+        let kept = blocks_kept_at d y.opcode in
         let stack = rest_left d n.stack in
         omega (
           arith,

@@ -13,7 +13,7 @@ use Rattle.module_ast.specs.Marks.{Mark, plain_marks, code_marks, mark_at, opera
 use Rattle.module_ast.specs.Positions.{code_size, goes_on}
 use Rattle.module_ast.specs.Tree.{Tree, done, plain, block, loop, if_then, if_else, Plain, drop_, select}
 use Rattle.module_ast.specs.Typing.{Context, push, block_results}
-use Rattle.rewrite.specs.Rising.{RiseFrom, type_in}
+use Rattle.rewrite.specs.Rising.{MarksRiseFrom, type_in}
 
 -- ---- the marks of code
 
@@ -83,21 +83,21 @@ code_stands c p (if_else ty body other k) o =
     (one_behind (p + b + 2) (p + b + 2 + e) (p + b + e + 3) (p + b + e + 3 + r) two more (omega arith) (code_stands c (p + b + 2) other [])
     (code_stands c (p + b + e + 3) k behind)))
 
-stands_rise : (p q : ℕ) (ms : List Mark) → StandBetween p q ms → RiseFrom p ms
+stands_rise : (p q : ℕ) (ms : List Mark) → StandBetween p q ms → MarksRiseFrom p ms
 stands_rise p q [] h = tt
 stands_rise p q (m ∷ ms) h = (h.0, stands_rise (m.place + 1) q ms h.1)
 
-pub code_rises : (c : Context) (p : ℕ) (k : Tree) (o : List ValType) → RiseFrom p (code_marks c p k o)
+pub code_rises : (c : Context) (p : ℕ) (k : Tree) (o : List ValType) → MarksRiseFrom p (code_marks c p k o)
 code_rises c p k o = stands_rise p (p + code_size k) (code_marks c p k o) (code_stands c p k o)
 
 -- ---- what stands at a position
 
-from_start : (p : ℕ) (ms : List Mark) → RiseFrom p ms → (j : ℕ) (d : Mark) → j < length ms → p ≤ (get_or ms j d).place
+from_start : (p : ℕ) (ms : List Mark) → MarksRiseFrom p ms → (j : ℕ) (d : Mark) → j < length ms → p ≤ (get_or ms j d).place
 from_start p [] up j d h = absurd (omega arith)
 from_start p (m ∷ ms) up zero d h = up.0
 from_start p (m ∷ ms) up (suc j) d h = omega (arith, up.0, from_start (m.place + 1) ms up.1 j d (omega arith))
 
-pub rises : (p : ℕ) (ms : List Mark) → RiseFrom p ms → IsNonDecreasingBy (λ (m : Mark). m.place) ms
+pub rises : (p : ℕ) (ms : List Mark) → MarksRiseFrom p ms → IsNonDecreasingBy (λ (m : Mark). m.place) ms
 rises p [] up i j d le h = absurd (omega arith)
 rises p (m ∷ ms) up zero zero d le h = omega arith
 rises p (m ∷ ms) up zero (suc j) d le h = let behind = from_start (m.place + 1) ms up.1 j d (omega arith) in omega (arith, behind)
@@ -111,12 +111,12 @@ differs_above : (a b : ℕ) → b < a → (a == b) ≡ false
 differs_above a b h = grind (arith, nat_tests)
 
 -- marks behind a position say nothing of it
-none_behind : (x p : ℕ) (ms : List Mark) → RiseFrom p ms → x < p → mark_at ms x ≡ I32
+none_behind : (x p : ℕ) (ms : List Mark) → MarksRiseFrom p ms → x < p → mark_at ms x ≡ I32
 none_behind x p [] up l = refl
 none_behind x p (m ∷ ms) up l =
     ap (λ b. cond b m.ty (mark_at ms x)) (differs_above m.place x (omega (arith, up.0))) ∙ none_behind x (m.place + 1) ms up.1 (omega (arith, up.0))
 
-found_at : (x p i : ℕ) (ms : List Mark) → RiseFrom p ms → ((k : ℕ) (d : Mark) → k < i → (get_or ms k d).place < x)
+found_at : (x p i : ℕ) (ms : List Mark) → MarksRiseFrom p ms → ((k : ℕ) (d : Mark) → k < i → (get_or ms k d).place < x)
     → ((d : Mark) → i < length ms → x ≤ (get_or ms i d).place) → mark_at ms x ≡ type_in (slice_get ms i) x
 found_at x p i [] up before behind = refl
 found_at x p zero (m ∷ ms) up before behind =
@@ -126,6 +126,6 @@ found_at x p (suc i) (m ∷ ms) up before behind =
     ap (λ b. cond b m.ty (mark_at ms x)) (differs m.place x h)
     ∙ found_at x (m.place + 1) i ms up.1 (λ k d l. before (suc k) d (omega arith)) (λ d l. behind d (omega arith))
 
-pub mark_found : (ms : List Mark) (x i : ℕ) → RiseFrom 0 ms → IsPartitionPoint (λ (m : Mark). ltb m.place x ≡ true) (λ (m : Mark). ltb m.place x ≡ false) ms i → mark_at ms x ≡ type_in (slice_get ms i) x
+pub mark_found : (ms : List Mark) (x i : ℕ) → MarksRiseFrom 0 ms → IsPartitionPoint (λ (m : Mark). ltb m.place x ≡ true) (λ (m : Mark). ltb m.place x ≡ false) ms i → mark_at ms x ≡ type_in (slice_get ms i) x
 mark_found ms x i up point =
     found_at x 0 i ms up (λ k d h. ltb-true _ x (point.0 k d (omega arith) h)) (λ d h. ltb-false _ x (point.1 i d (omega arith) h))

@@ -13,7 +13,7 @@ use Rattle.code_valid.specs.declared.marks.Marks.{Marks}
 use Rattle.code_valid.proofs.Computed.{computed}
 use Rattle.hook_mono.specs.Needed.{Site, import_count, site_of, sites_from, sites}
 use Rattle.wasm_sem.proofs.Straight.{none_some, some_is}
-use Rattle.rewrite.specs.Rising.{RiseFrom}
+use Rattle.rewrite.specs.Rising.{MarksRiseFrom}
 use Rattle.rewrite.proofs.Rising.{code_rises}
 
 -- by the index of its type and its body
@@ -62,8 +62,8 @@ module _ (m : Module) (defined : ℕ) (found : Marks) (h : IsTypedBody m defined
       (computed context 0 0 b.code [] (push type.t.results []) found.types found.height (h.typed type.ty type.t b type.func type.type body)
       (h.marks type.ty type.t b type.func type.type body)).0
 
-  pub marks_rise : RiseFrom 0 found.types
-  marks_rise = subst (RiseFrom 0) (sym same_marks) (code_rises context 0 b.code [])
+  pub marks_rise : MarksRiseFrom 0 found.types
+  marks_rise = subst (MarksRiseFrom 0) (sym same_marks) (code_rises context 0 b.code [])
 
   pub site_is : (env : Context) (func : ℕ) (starts : Bool) → IsContextOf m defined env → func ≡ import_count m + defined → starts ≡ is_start m.start func
       → slice_get (sites m) defined ≡ Some (site_with func starts env b found.types)

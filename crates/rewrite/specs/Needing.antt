@@ -38,29 +38,29 @@ own_keys s p (Some i) = plain_keys s [] p i
 abbrev pub instr_keys : Site → (p : ℕ) → Instr → List HookKey
 instr_keys s p i = own_keys s p (plain_of i)
 
-abbrev pub opcode_keys : Site → (p : ℤ) → Opcode → List HookKey
-opcode_keys s p Enters = when s.starts (keys.Plain groups.Start ∷ []) ++ keys.Begin kinds.Function ∷ []
-opcode_keys s p (Acts i) = instr_keys s (nat_abs p) i.now
-opcode_keys s p (Opens b) = open_keys b.kind
-opcode_keys s p (Alternates a b then_live) = when then_live (keys.End a.kind ∷ []) ++ keys.Begin b.kind ∷ []
-opcode_keys s p (Closes b) = close_keys s b.kind
+abbrev pub told_keys : Site → (p : ℤ) → Opcode → List HookKey
+told_keys s p Enters = when s.starts (keys.Plain groups.Start ∷ []) ++ keys.Begin kinds.Function ∷ []
+told_keys s p (Acts i) = instr_keys s (nat_abs p) i.now
+told_keys s p (Opens b) = open_keys b.kind
+told_keys s p (Alternates a b then_live) = when then_live (keys.End a.kind ∷ []) ++ keys.Begin b.kind ∷ []
+told_keys s p (Closes b) = close_keys s b.kind
 
 -- ---- the blocks that are left
 
 -- how many of the blocks around an instruction it stays in
-abbrev pub kept_of : (depth : ℕ) → Option Plain → ℕ
-kept_of depth None = depth
-kept_of depth (Some (br l)) = depth - (l + 1)
-kept_of depth (Some (br_if l)) = depth - (l + 1)
-kept_of depth (Some return_) = 0
-kept_of depth (Some i) = depth
+abbrev pub blocks_kept : (depth : ℕ) → Option Plain → ℕ
+blocks_kept depth None = depth
+blocks_kept depth (Some (br l)) = depth - (l + 1)
+blocks_kept depth (Some (br_if l)) = depth - (l + 1)
+blocks_kept depth (Some return_) = 0
+blocks_kept depth (Some i) = depth
 
-abbrev pub kept_by : (depth : ℕ) → Instr → ℕ
-kept_by depth i = kept_of depth (plain_of i)
+abbrev pub blocks_kept_by : (depth : ℕ) → Instr → ℕ
+blocks_kept_by depth i = blocks_kept depth (plain_of i)
 
-abbrev pub kept_at : (depth : ℕ) → Opcode → ℕ
-kept_at depth (Acts i) = kept_by depth i.now
-kept_at depth _ = depth
+abbrev pub blocks_kept_at : (depth : ℕ) → Opcode → ℕ
+blocks_kept_at depth (Acts i) = blocks_kept_by depth i.now
+blocks_kept_at depth _ = depth
 
 -- the innermost of the open blocks, and those around it, where at least so many blocks are around it
 abbrev pub first_left : (kept : ℕ) → List OpenBlock → Option BlockKind
@@ -95,24 +95,24 @@ kind_opened (Opens b) = Some b.kind
 kind_opened (Alternates a b live) = Some b.kind
 kind_opened (Closes b) = None
 
-abbrev pub with_block : (depth : ℕ) → Option BlockKind → List OpenBlock → List OpenBlock
-with_block depth None stack = stack
-with_block depth (Some kind) stack = record { around = depth; kind = kind } ∷ stack
+abbrev pub with_open_block : (depth : ℕ) → Option BlockKind → List OpenBlock → List OpenBlock
+with_open_block depth None stack = stack
+with_open_block depth (Some kind) stack = record { around = depth; kind = kind } ∷ stack
 
 -- out of the block that ends at this depth
-abbrev pub out_to : (depth : ℕ) → Needs → Needs
-out_to depth n = record n { stack = rest_left depth n.stack }
+abbrev pub left_out_to : (depth : ℕ) → Needs → Needs
+left_out_to depth n = record n { stack = rest_left depth n.stack }
 
 -- what an opcode needs at a live place
 abbrev pub after_live : Site → (depth : ℕ) → (p : ℤ) → Opcode → Needs → Needs
-after_live s depth p opcode n = after_branch (kept_at depth opcode) (with_needed n (opcode_keys s p opcode))
+after_live s depth p opcode n = after_branch (blocks_kept_at depth opcode) (with_needed n (told_keys s p opcode))
 
 abbrev pub after_opcode : Site → (depth : ℕ) → Place → Needs → Needs
 after_opcode s depth x n = cond x.live (after_live s depth x.position x.opcode n) n
 
 abbrev pub into_block : (depth : ℕ) → Opcode → Needs → Needs
-into_block depth opcode n = record n { stack = with_block depth (kind_opened opcode) n.stack }
+into_block depth opcode n = record n { stack = with_open_block depth (kind_opened opcode) n.stack }
 
 -- behind a place with so many blocks around it
 abbrev pub after_place : Site → (depth : ℕ) → Place → Needs → Needs
-after_place s depth x n = into_block depth x.opcode (after_opcode s depth x (out_to depth n))
+after_place s depth x n = into_block depth x.opcode (after_opcode s depth x (left_out_to depth n))

@@ -5,9 +5,9 @@ use Rattle.wasm_num.specs.declared.ValType.TheVariants.{I32}
 use Rattle.module_ast.specs.Marks.{Mark}
 
 -- each stands behind the one before it, and the first at p or behind it
-abbrev pub RiseFrom : (p : ℕ) → List Mark → Type 0
-RiseFrom p [] = Unit {0}
-RiseFrom p (m ∷ ms) = (p ≤ m.place) × RiseFrom (m.place + 1) ms
+abbrev pub MarksRiseFrom : (p : ℕ) → List Mark → Type 0
+MarksRiseFrom p [] = Unit {0}
+MarksRiseFrom p (m ∷ ms) = (p ≤ m.place) × MarksRiseFrom (m.place + 1) ms
 
 -- the type of this mark at a position
 abbrev pub type_in : Option Mark → (x : ℕ) → ValType

@@ -4,7 +4,7 @@ ghost use Rattle.std.specs.Prelude.{◌≡◌, ◌+◌, ◌*◌, ◌<◌, ◌≤
 ghost use Rattle.module_ast.specs.Positions.{code_size, code_nesting};
 ghost use Rattle.hook_mono.specs.declared.HookKey.TheVariants as keys;
 ghost use Rattle.hook_mono.specs.Needed.{sites, needs_of};
-ghost use Rattle.rewrite.specs.Needing.{instr_keys, opcode_keys, kept_by, kept_at, first_left, rest_left, with_block, with_needed, after_branch, after_live, after_opcode, into_block, out_to, after_place, kind_opened};
+ghost use Rattle.rewrite.specs.Needing.{instr_keys, told_keys, blocks_kept_by, blocks_kept_at, first_left, rest_left, with_open_block, with_needed, after_branch, after_live, after_opcode, into_block, left_out_to, after_place, kind_opened};
 
 use crate::site::Site;
 use crate::wanted::is_wanted;
@@ -53,7 +53,7 @@ impl OpenBlocks {
 
     // Enters the block inside so many others, if there is one.
     fn enter(&mut self, around: usize, kind: Option<BlockKind>) -> Result<(), NoMemory>
-        ensures { OnOk result (self.new ≡ with_block around kind self.old) }
+        ensures { OnOk result (self.new ≡ with_open_block around kind self.old) }
     {
         if let Some(kind) = kind {
             self.blocks.push(OpenBlock { around, kind })?;
@@ -116,8 +116,8 @@ fn copied(alloc: Global, types: &[ValType]) -> Result<Seq<ValType>, NoMemory>
 }
 
 // How many of so many blocks around an instruction it stays in.
-fn kept_by(depth: usize, instr: &Instr) -> usize
-    ensures { result ≡ kept_by depth instr.now }
+fn blocks_kept_by(depth: usize, instr: &Instr) -> usize
+    ensures { result ≡ blocks_kept_by depth instr.now }
 {
     match instr {
         Instr::Br(label) | Instr::BrIf(label) => depth.saturating_sub(*label as usize + 1),
@@ -127,11 +127,11 @@ fn kept_by(depth: usize, instr: &Instr) -> usize
 }
 
 // The same of what stands at a place.
-fn kept_at(depth: usize, opcode: &Opcode) -> usize
-    ensures { result ≡ kept_at depth opcode.now }
+fn blocks_kept_at(depth: usize, opcode: &Opcode) -> usize
+    ensures { result ≡ blocks_kept_at depth opcode.now }
 {
     match opcode {
-        Opcode::Acts(instr) => kept_by(depth, instr),
+        Opcode::Acts(instr) => blocks_kept_by(depth, instr),
         _ => depth,
     }
 }
@@ -247,7 +247,7 @@ impl Needs {
         opcode: &Opcode,
     ) -> Result<(), NoMemory>
         requires { length self.old.table + 2 < 2 ^ 32 }
-        ensures { OnOk result (self.new ≡ with_needed self.old (opcode_keys site.now position opcode.now)) }
+        ensures { OnOk result (self.new ≡ with_needed self.old (told_keys site.now position opcode.now)) }
     {
         match opcode {
             Opcode::Enters => {
@@ -307,7 +307,7 @@ impl Needs {
         let _ = self.stack.leave(depth);
         if place.live {
             self.add_opcode(alloc, site, place.position, &place.opcode)?;
-            self.add_ends(kept_at(depth, &place.opcode))?;
+            self.add_ends(blocks_kept_at(depth, &place.opcode))?;
         }
         self.stack.enter(depth, kind_opened(&place.opcode))
     }

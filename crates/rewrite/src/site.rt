@@ -5,7 +5,7 @@ ghost use Rattle.module_ast.specs.Marks.{mark_at, type_of_callee, indirect_type,
 ghost use Rattle.module_ast.specs.Positions.{code_size, code_nesting};
 ghost use Rattle.module_ast.specs.Start.{is_start};
 ghost use Rattle.hook_mono.specs.Needed.{sites};
-ghost use Rattle.rewrite.specs.Rising.{RiseFrom, type_in};
+ghost use Rattle.rewrite.specs.Rising.{MarksRiseFrom, type_in};
 
 use code_valid::{Env, Mark, TypedBody};
 use module_ast::module::Body;
@@ -27,7 +27,7 @@ pub(crate) struct Site<'m> {
 impl<'m> Model for Site<'m> {
     ghost use Rattle.hook_mono.specs.Needed.{Site as shown};
     ghost use Rattle.code_valid.specs.Bodies.{body_of};
-    ghost use Rattle.rewrite.specs.Rising.{RiseFrom};
+    ghost use Rattle.rewrite.specs.Rising.{MarksRiseFrom};
     ghost use Rattle.module_ast.specs.contracts.module.Body as of_body;
     ghost use Rattle.std.specs.Coded.{codes};
 
@@ -44,7 +44,7 @@ impl<'m> Model for Site<'m> {
           marks = a.marks.now;
         } };
 
-    ghost invariant = { λ a. RiseFrom 0 a.marks.now };
+    ghost invariant = { λ a. MarksRiseFrom 0 a.marks.now };
 }
 
 impl<'m> Site<'m> {
@@ -155,7 +155,7 @@ impl<'m> Site<'m> {
 
 // The first of marks that rise which is at a position or behind it.
 fn first_from(marks: &[Mark], position: u32) -> Option<Mark>
-    requires { RiseFrom 0 marks.now }
+    requires { MarksRiseFrom 0 marks.now }
     ensures { mark_at marks.now position ≡ type_in result position }
 {
     let before = marks.partition_point(|mark| mark.pos < position);

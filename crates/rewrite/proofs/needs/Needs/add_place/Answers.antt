@@ -1,6 +1,6 @@
 use Rattle.std.proofs.Common.{ap, length, arith, w32, to_z, of_z}
 use Rattle.rewrite.specs.declared.needs.Needs.{Needs}
-use Rattle.rewrite.specs.Needing.{opcode_keys}
+use Rattle.rewrite.specs.Needing.{told_keys}
 use Rattle.rewrite.proofs.Known.{few_each}
 use Rattle.rewrite.proofs.Needing.{keys_few, rest_few}
 use Rattle.rewrite.proofs.needs.Needs.add_place.Goals as goal
@@ -16,7 +16,7 @@ add_ends-requires c =
       arith,
       ap (λ (n : Needs). length n.table) added,
       ap (λ (n : Needs). length n.stack) added,
-      few_each n.hooks n.table (opcode_keys s p x.opcode),
+      few_each n.hooks n.table (told_keys s p x.opcode),
       keys_few s p x.opcode,
       ap length c.leave.ensures.rest,
       rest_few c.args.depth n.stack,

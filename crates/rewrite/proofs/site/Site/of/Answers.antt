@@ -10,7 +10,7 @@ use Rattle.hook_mono.specs.Needed.{Site, import_count}
 use Rattle.module_ast.specs.declared.spaces.Counts.{Counts}
 use Rattle.module_ast.specs.Spaces.{SpaceTable, imported_funcs}
 use Rattle.code_valid.specs.declared.marks.Marks.{Marks}
-use Rattle.rewrite.specs.Rising.{RiseFrom}
+use Rattle.rewrite.specs.Rising.{MarksRiseFrom}
 use Rattle.rewrite.proofs.Sites.{marks_rise, site_with, site_is}
 use Rattle.rewrite.proofs.site.Site.of.Goals as goal
 
@@ -31,7 +31,7 @@ pub invariant_of-result : goal.invariant_of-result
 invariant_of-result c =
     let m = c.args.body.now.module in
     let marks = c.as_slice.ensures ∙ ap (λ (t : Marks). t.types) c.marks-marks.ensures.marks in
-    subst (RiseFrom 0) (sym marks) (marks_rise m c.args.body.now.defined c.args.body.now.marks c.marks-marks.ensures.typed c.body.result.now c.body.ensures)
+    subst (MarksRiseFrom 0) (sym marks) (marks_rise m c.args.body.now.defined c.args.body.now.marks c.marks-marks.ensures.typed c.body.result.now c.body.ensures)
 
 pub returns : goal.returns
 returns c =
