@@ -2,7 +2,7 @@
 use Rattle.std.proofs.Common.{◌≡◌, ℕ, ◌+◌, List, [], ◌∷◌, ◌++◌, map, Bool, true, ◌&&◌, refl, sym, subst, append_assoc}
 use Rattle.wasm_num.specs.declared.BlockKind.{BlockKind}
 use Rattle.wasm_num.specs.declared.BlockKind.TheVariants as kinds
-use Rattle.module_ast.specs.Positions.{Scope, function_scope, block_scope, loop_scope, if_scope, then_scope, else_scope, Opcode, enters, acts, opens, alternates, closes, Place, at, ends_live, goes_on, code_places, places}
+use Rattle.module_ast.specs.Positions.{Scope, function_scope, block_scope, loop_scope, if_scope, then_scope, else_scope, Opcode, enters, opens, alternates, closes, Place, at, ends_live, goes_on, code_places, places}
 use Rattle.module_ast.specs.Tree.{Tree, done, plain, block, loop, if_then, if_else}
 
 abbrev pub kinds_of : List Scope → List BlockKind

@@ -2,7 +2,7 @@
 --     PlaceAdded, place_added      what a place adds, and the open blocks behind it
 --     IsUnderway, underway_first, underway_next, underway_last      the table on the way over the places
 --     few_added      how much it adds at most
-use Rattle.std.proofs.Common.{◌≡◌, inl, inr, ℕ, zero, suc, ◌+◌, ◌-◌, ◌*◌, ◌<◌, ◌≤◌, ℤ, nat_abs, List, [], ◌∷◌, ◌++◌, length, map, take, fold, Bool, true, false, cond, Option, Some, None, leb, leb-true, refl, sym, ap, ap₂, ◌∙◌, subst, subst₂, flat_map, append-nil, length-append, min, arith}
+use Rattle.std.proofs.Common.{◌≡◌, inl, ℕ, zero, suc, ◌+◌, ◌-◌, ◌*◌, ◌≤◌, ℤ, nat_abs, List, [], ◌∷◌, ◌++◌, length, take, Bool, true, false, cond, Option, Some, None, leb, refl, sym, ap, ap₂, ◌∙◌, subst, subst₂, flat_map, append-nil, length-append, min, arith}
 use Rattle.std.proofs.lemmas.List.{take_min, take_all, length-map}
 use Rattle.std.proofs.lemmas.List.Sums.{fold-append}
 use Rattle.wasm_num.specs.declared.BlockKind.{BlockKind}
@@ -11,7 +11,7 @@ use Rattle.module_ast.specs.Lists.{when}
 use Rattle.module_ast.specs.Plains.{plain_of}
 use Rattle.module_ast.specs.Positions as positions
 use Rattle.module_ast.specs.Positions.{Scope, function_scope, at, closes, ends_live, code_places, code_size, places}
-use Rattle.module_ast.specs.Tree.{Tree, Plain, unreachable, nop, br, br_if, br_table, return_, call, call_indirect, drop_, select, local_get, local_set, local_tee, global_get, global_set, load, store, memory_size, memory_grow, i32_const, i64_const, num}
+use Rattle.module_ast.specs.Tree.{Tree, Plain, br, br_if, return_}
 use Rattle.branch_resolve.specs.Scopes.{block_of, blocks_around}
 use Rattle.branch_resolve.specs.Walks.{IsOpcodeOf, IsPlaceOf}
 use Rattle.branch_resolve.specs.declared.Block.{Block}
@@ -26,7 +26,7 @@ use Rattle.hook_mono.specs.Needed as needed
 use Rattle.hook_mono.specs.Needed.{Site, end_keys, plain_keys, open_keys, close_keys, place_keys, live_keys}
 use Rattle.rewrite.specs.declared.needs.OpenBlock.{OpenBlock}
 use Rattle.rewrite.specs.declared.needs.Needs.{Needs}
-use Rattle.rewrite.specs.Needing.{with_wanted, with_each_wanted, with_needed, own_keys, instr_keys, told_keys, blocks_kept, blocks_kept_by, blocks_kept_at, first_left, rest_left, all_left, with_ends, after_branch, kind_opened, with_open_block, left_out_to, after_live, after_opcode, into_block, after_place}
+use Rattle.rewrite.specs.Needing.{with_wanted, with_each_wanted, own_keys, told_keys, blocks_kept, blocks_kept_at, rest_left, all_left, with_ends, kind_opened, with_open_block, left_out_to, after_live, into_block, after_place}
 use Rattle.wasm_sem.proofs.Placed.{places_length}
 use Rattle.rewrite.proofs.Known.{wanted_each, few_more, few_each}
 use Rattle.rewrite.proofs.Unended.{AreUnended, ends_of, entry_of, leave_none, leave_one, unended_each, left_ends, branched}

@@ -1,4 +1,4 @@
-use Rattle.std.proofs.Common.{◌≡◌, ◌+◌, drop, length}
+use Rattle.std.proofs.Common.{◌≡◌, ◌+◌, drop}
 use Rattle.i64_split.specs.Split.{ints_in, longs_in}
 use Rattle.rewrite.proofs.pool.Room.of.Given as goal
 

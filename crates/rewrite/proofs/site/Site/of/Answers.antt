@@ -1,14 +1,12 @@
-use Rattle.std.proofs.Common.{◌≡◌, ℕ, ◌+◌, ◌≤◌, ◌∙◌, List, Some, Bool, sym, ap, length, subst, arith}
-use Rattle.module_ast.specs.declared.module.Body.{Body}
+use Rattle.std.proofs.Common.{◌≡◌, ◌+◌, ◌∙◌, List, Some, sym, ap, subst, arith}
 use Rattle.module_ast.specs.declared.module.Module.{Module}
 use Rattle.module_ast.specs.Marks.{Mark}
 use Rattle.module_ast.specs.Start.{is_start}
-use Rattle.module_ast.specs.Typing.{Context}
 use Rattle.code_valid.proofs.Few.{entries_fit, imported_few}
 use Rattle.code_valid.proofs.Sizes.{few_positions, flat}
-use Rattle.hook_mono.specs.Needed.{Site, import_count}
+use Rattle.hook_mono.specs.Needed.{import_count}
 use Rattle.module_ast.specs.declared.spaces.Counts.{Counts}
-use Rattle.module_ast.specs.Spaces.{SpaceTable, imported_funcs}
+use Rattle.module_ast.specs.Spaces.{SpaceTable}
 use Rattle.code_valid.specs.declared.marks.Marks.{Marks}
 use Rattle.rewrite.specs.Rising.{MarksRiseFrom}
 use Rattle.rewrite.proofs.Sites.{marks_rise, site_with, site_is}
