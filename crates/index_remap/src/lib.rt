@@ -5,6 +5,8 @@ mod code;
 mod copies;
 pub mod laws;
 mod modules;
+#[cfg(test)]
+mod tests;
 
 ghost use Rattle.std.specs.Prelude.{◌≡◌, ◌+◌, ◌^◌, ◌<◌};
 

@@ -7,10 +7,7 @@ ghost use Rattle.module_ast.specs.declared.module.Export.{Export};
 ghost use Rattle.index_remap.specs.Remap.{map_index, map_reference, map_export, map_element, map_module, MapsIndex, MapsReference, MapsModule};
 
 use crate::Remap;
-use crate::copies::{
-    copy_code, copy_globals, copy_imports, copy_list, copy_name, copy_names, copy_segments,
-    copy_types,
-};
+use crate::copies::{Part, copy_list, copy_parts};
 use module_ast::module::{Element, Export, ExportKind, Module};
 use module_ast::seq::Seq;
 use std::alloc::{AllocError, Global};
@@ -32,7 +29,7 @@ impl Remap {
         requires { MapsReference self.now export.now.kind export.now.index }
         ensures { IfOk result (λ copy. copy ≡ map_export self.now export.now) }
     {
-        let name = copy_name(alloc, &export.name)?;
+        let name = export.name.copy(alloc)?;
         let kind = export.kind;
         let index = self.map_reference(kind, export.index);
         Ok(Export { name, kind, index })
@@ -74,7 +71,7 @@ impl Remap {
         requires { All (MapsIndex self.now) element.now.funcs }
         ensures { IfOk result (λ copy. copy ≡ map_element self.now element.now) }
     {
-        let offset = copy_code(alloc, &element.offset)?;
+        let offset = element.offset.copy(alloc)?;
         let funcs = self.map_funcs(alloc, element.funcs.as_slice())?;
         Ok(Element {
             table: element.table,
@@ -101,18 +98,18 @@ impl Remap {
         ensures { IfOk result (λ copy. copy ≡ map_module self.now m.now) }
     {
         Ok(Module {
-            types: copy_types(alloc, m.types.as_slice())?,
-            imports: copy_imports(alloc, m.imports.as_slice())?,
+            types: copy_parts(alloc, &m.types)?,
+            imports: copy_parts(alloc, &m.imports)?,
             funcs: copy_list(alloc, &m.funcs)?,
             tables: copy_list(alloc, &m.tables)?,
             memories: copy_list(alloc, &m.memories)?,
-            globals: copy_globals(alloc, m.globals.as_slice())?,
+            globals: copy_parts(alloc, &m.globals)?,
             exports: self.map_exports(alloc, m.exports.as_slice())?,
             start: self.map_start(m.start),
             elements: self.map_elements(alloc, m.elements.as_slice())?,
             bodies: Seq::from_vec(Vec::new(alloc)),
-            segments: copy_segments(alloc, m.segments.as_slice())?,
-            customs: copy_names(alloc, m.customs.as_slice())?,
+            segments: copy_parts(alloc, &m.segments)?,
+            customs: copy_parts(alloc, &m.customs)?,
         })
     }
 }
