@@ -11,7 +11,8 @@ use module_ast::labels::Labels;
 use std::alloc::{AllocError, Global};
 
 impl Remap {
-    /// A copy of the code with each call remapped, also where it is not live. An `Err` comes where there is no memory.
+    /// A copy of the code with each call remapped, also where it is not live. An `Err` comes where there is no memory. It
+    /// calls itself as deep as the code nests.
     #[cycle(map)]
     pub fn map_code(&self, alloc: Global, code: &Code) -> Result<Code, AllocError>
         requires { Maps self.now code.now }
@@ -21,8 +22,7 @@ impl Remap {
         Code::from_vec(alloc, items)
     }
 
-    /// A copy of these instructions with each call remapped, also where it is not live. An `Err` comes where there is no
-    /// memory.
+    /// A copy of these instructions with each call remapped, as `map_code` makes it.
     #[cycle(map)]
     #[tactic(auto, using(module_ast::specs::Seen::onto_push))]
     pub fn map_body(&self, alloc: Global, code: &[Instr]) -> Result<Vec<Instr>, AllocError>
@@ -36,7 +36,7 @@ impl Remap {
         Ok(items)
     }
 
-    /// A copy of the instruction with each call remapped. An `Err` comes where there is no memory.
+    /// A copy of the instruction with each call remapped, as `map_code` makes it.
     #[cycle(map)]
     pub fn map_instr(&self, alloc: Global, instr: &Instr) -> Result<Instr, AllocError>
         requires { Maps self.now (before instr.now done) }
@@ -55,7 +55,7 @@ impl Remap {
             Instr::Br(label) => Ok(Instr::Br(*label)),
             Instr::BrIf(label) => Ok(Instr::BrIf(*label)),
             Instr::BrTable(labels, last) => {
-                let labels = Labels::from_vec(alloc, labels.as_slice().to_vec(alloc)?)?;
+                let labels = Labels::from_vec(alloc, Vec::from_slice(alloc, labels.as_slice())?)?;
                 Ok(Instr::BrTable(labels, *last))
             }
             Instr::Return => Ok(Instr::Return),

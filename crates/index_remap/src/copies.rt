@@ -32,12 +32,8 @@ pub(crate) fn copy_parts<T: Part>(alloc: Global, parts: &Seq<T>) -> Result<Seq<T
 pub(crate) fn copy_list<T: Copy>(alloc: Global, list: &Seq<T>) -> Result<Seq<T>, AllocError>
     ensures { IfOk result (λ copy. copy ≡ list.now) }
 {
-    let items = list.as_slice();
-    let mut copy = Vec::with_capacity(alloc, items.len())?;
-    for item in items {
-        copy.push(*item)?;
-    }
-    Ok(Seq::from_vec(copy))
+    let items = Vec::from_slice(alloc, list.as_slice())?;
+    Ok(Seq::from_vec(items))
 }
 
 impl Part for Name {
