@@ -98,11 +98,11 @@ pub closed_live : (w : Setting) (s : Scope) (ss : List Scope) (old new : List In
 closed_live w s ss old new h e = onto_added old new (tell_end w s) done e ∙ ap (λ c. onto old (plains c done)) (sym (end_code_inner w s ss h))
 
 -- behind the code of the function
-pub closed_function : (w : Setting) (f : Scope) (b : Kept) (old mid new : List Instr) → b ≡ block_of f → mid ≡ old ++ instrs (tell_results w b.end) → new ≡ mid ++ instrs (emitted.end_code w (end_of b))
+pub closed_function : (w : Setting) (f : Scope) (b : Kept) (old mid new : List Instr) → b ≡ block_of f → mid ≡ old ++ instrs (tell_results w b.end) → new ≡ mid ++ instrs (emitted.block_end_code w (end_of b))
     → onto new done ≡ onto old (rest_code w (f ∷ []) true 0 done)
 closed_function w f b old mid new is e h =
     onto_added old new (tell_results w (pos f.end) ++ tell_end w f) done
-    (added_two old mid new (tell_results w (pos f.end)) (tell_end w f) (e ∙ ap (λ (b : Kept). old ++ instrs (tell_results w b.end)) is) (h ∙ ap (λ (b : Kept). mid ++ instrs (emitted.end_code w (end_of b))) is))
+    (added_two old mid new (tell_results w (pos f.end)) (tell_end w f) (e ∙ ap (λ (b : Kept). old ++ instrs (tell_results w b.end)) is) (h ∙ ap (λ (b : Kept). mid ++ instrs (emitted.block_end_code w (end_of b))) is))
 
 -- ---- temporaries
 

@@ -19,7 +19,7 @@ use Rattle.i64_split.specs.Split.{ints_in, longs_in}
 use Rattle.i64_split.proofs.Temporaries.{ints_in-push_int, ints_in-push_long, longs_in-push_int, longs_in-push_long}
 use Rattle.rewrite.specs.Temporaries.{greatest, opcode_temps, place_temps, body_temps}
 use Rattle.rewrite.specs.declared.pool.Room.{Room}
-use Rattle.rewrite.specs.Room.{room_for, with_one, wider, widened, no_room, temps_of, temps_at}
+use Rattle.rewrite.specs.Room.{room_for, with_one, wider, widened, no_room, plain_temps_of, temps_at}
 
 -- ---- values in a row
 
@@ -45,7 +45,7 @@ widened_greatest r (ts ∷ lists) =
 
 opcode_same : (hooks : Hooks) (s : Site) (p : ℤ) (x : positions.Opcode) (y : Opcode) → IsOpcodeOf x y → temps_at hooks s p y ≡ opcode_temps hooks s p x
 opcode_same hooks s p x Enters e = ap (opcode_temps hooks s p) (sym e)
-opcode_same hooks s p x (Acts i) (q, e, f) = ap (temps_of hooks s (nat_abs p)) e ∙ ap (opcode_temps hooks s p) (sym f)
+opcode_same hooks s p x (Acts i) (q, e, f) = ap (plain_temps_of hooks s (nat_abs p)) e ∙ ap (opcode_temps hooks s p) (sym f)
 opcode_same hooks s p x (Opens b) (t, e, f) = ap (λ (b : Block). temps_at hooks s p (Opens b)) e ∙ ap (opcode_temps hooks s p) (sym f)
 opcode_same hooks s p x (Alternates a b live) (t, u, e, f, g) = ap (opcode_temps hooks s p) (sym g)
 opcode_same hooks s p x (Closes b) (t, e, f) = ap (λ (b : Block). temps_at hooks s p (Closes b)) e ∙ ap (opcode_temps hooks s p) (sym f)

@@ -40,12 +40,12 @@ widened_where wanted r types = widened r (when wanted (types ∷ []))
 
 -- ---- a place
 
-abbrev pub temps_of : Hooks → Site → (p : ℕ) → Option Plain → List (List ValType)
-temps_of hooks s p None = []
-temps_of hooks s p (Some i) = plain_temps hooks s p i
+abbrev pub plain_temps_of : Hooks → Site → (p : ℕ) → Option Plain → List (List ValType)
+plain_temps_of hooks s p None = []
+plain_temps_of hooks s p (Some i) = plain_temps hooks s p i
 
 abbrev pub instr_temps : Hooks → Site → (p : ℕ) → Instr → List (List ValType)
-instr_temps hooks s p i = temps_of hooks s p (plain_of i)
+instr_temps hooks s p i = plain_temps_of hooks s p (plain_of i)
 
 abbrev pub temps_at : Hooks → Site → (p : ℤ) → Opcode → List (List ValType)
 temps_at hooks s p Enters = []

@@ -17,7 +17,8 @@ ghost use Rattle.module_ast.specs.Lists.{when};
 ghost use Rattle.hook_select.specs.Groups.{has};
 ghost use Rattle.rewrite.specs.Temporaries.{plain_temps};
 ghost use Rattle.rewrite.specs.Templates.{template, tell_results, local_code, global_code};
-ghost use Rattle.rewrite.specs.Emitted.{HasRoom, template_of, temps_of, ends_code, br_code, target_word};
+ghost use Rattle.rewrite.specs.Room.{instr_temps};
+ghost use Rattle.rewrite.specs.Emitted.{HasRoom, template_of, block_ends_code, br_code, target_word};
 
 use crate::setting::Setting;
 use crate::watching::Keeping;
@@ -127,7 +128,7 @@ impl<'m> Setting<'m> {
         scopes: &Scopes,
         code: &mut Vec<Instr>,
     ) -> Result<(), AllocError>
-        ensures { OnOk result (code.new.items ≡ code.old.items ++ instrs (ends_code self.now (ends scopes.now label))) }
+        ensures { OnOk result (code.new.items ≡ code.old.items ++ instrs (block_ends_code self.now (ends scopes.now label))) }
     {
         if !self.has(GroupName::End) {
             return Ok(());
@@ -143,7 +144,7 @@ impl<'m> Setting<'m> {
         scopes: &Scopes,
         code: &mut Vec<Instr>,
     ) -> Result<(), AllocError>
-        ensures { OnOk result (code.new.items ≡ code.old.items ++ instrs (ends_code self.now (map end_of scopes.now))) }
+        ensures { OnOk result (code.new.items ≡ code.old.items ++ instrs (block_ends_code self.now (map end_of scopes.now))) }
     {
         if !self.has(GroupName::End) {
             return Ok(());
@@ -196,7 +197,7 @@ impl<'m> Setting<'m> {
     ) -> Result<(), AllocError>
         requires low { position < 2 ^ 31 }
         requires room { HasRoom self.now.pool (plain_temps self.now.hooks self.now.site position tree.return_) }
-        ensures { OnOk result (code.new.items ≡ code.old.items ++ instrs (tell_results self.now (pos position) ++ (ends_code self.now (map end_of scopes.now) ++ tree.return_ ∷ []))) }
+        ensures { OnOk result (code.new.items ≡ code.old.items ++ instrs (tell_results self.now (pos position) ++ (block_ends_code self.now (map end_of scopes.now) ++ tree.return_ ∷ []))) }
     {
         self.push_results(alloc, position as i32, code)?;
         self.push_all_ends(alloc, scopes, code)?;
@@ -278,7 +279,7 @@ impl<'m> Setting<'m> {
         code: &mut Vec<Instr>,
     ) -> Result<(), AllocError>
         requires low { position < 2 ^ 31 }
-        requires room { HasRoom self.now.pool (temps_of self.now.hooks self.now.site position instr.now) }
+        requires room { HasRoom self.now.pool (instr_temps self.now.hooks self.now.site position instr.now) }
         requires maps { Maps (remap self.now) (before instr.now done) }
         ensures { OnOk result ((ss : List Scope) → scopes.now ≡ blocks_around ss → code.new.items ≡ code.old.items ++ instrs (template_of self.now ss position instr.now)) }
     {

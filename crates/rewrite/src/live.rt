@@ -19,7 +19,7 @@ ghost use Rattle.hook_select.specs.declared.GroupName.TheVariants as groups;
 ghost use Rattle.hook_mono.specs.declared.HookKey.TheVariants as keys;
 ghost use Rattle.branch_resolve.specs.Levels.{block_sizes};
 ghost use Rattle.rewrite.specs.Live.{rest_code, code_temps, BeginsWith, LeavesBehind};
-ghost use Rattle.rewrite.specs.Emitted.{HasRoom, template_of, temps_of, IsNoBranchIf};
+ghost use Rattle.rewrite.specs.Emitted.{HasRoom, template_of, IsNoBranchIf};
 
 use crate::along::Along;
 use crate::setting::Setting;

@@ -19,7 +19,7 @@ ghost use Rattle.index_remap.specs.Remap.{MapsIndex};
 ghost use Rattle.rewrite.specs.Setting.{remap, constant, tell};
 ghost use Rattle.rewrite.specs.Temporaries.{plain_temps, wanted_temps};
 ghost use Rattle.rewrite.specs.Templates.{template, post_code, call_code, indirect_code};
-ghost use Rattle.rewrite.specs.Emitted.{HasRoom, template_of, temps_of, indirect_template};
+ghost use Rattle.rewrite.specs.Emitted.{HasRoom, template_of, indirect_template};
 
 use crate::setting::Setting;
 use crate::templates::list;

@@ -9,7 +9,7 @@ ghost use Rattle.i64_split.specs.Split.{words_code};
 ghost use Rattle.i64_split.specs.Pushing.{instrs};
 ghost use Rattle.rewrite.specs.Setting.{constant, hook_index, tell, tells};
 ghost use Rattle.rewrite.specs.Templates.{tell_begin};
-ghost use Rattle.rewrite.specs.Emitted.{end_code, ends_code};
+ghost use Rattle.rewrite.specs.Emitted.{block_end_code, block_ends_code};
 
 use crate::setting::Setting;
 use branch_resolve::EndOf;
@@ -97,7 +97,7 @@ impl<'m> Setting<'m> {
 
     /// Adds the call of the end hook of a block, where it is selected.
     pub fn push_end(&self, block: EndOf, code: &mut Vec<Instr>) -> Result<(), AllocError>
-        ensures { OnOk result (code.new.items ≡ code.old.items ++ instrs (end_code self.now block)) }
+        ensures { OnOk result (code.new.items ≡ code.old.items ++ instrs (block_end_code self.now block)) }
     {
         if !self.has(GroupName::End) {
             return Ok(());
@@ -109,7 +109,7 @@ impl<'m> Setting<'m> {
 
     /// Adds the calls of the end hooks of these blocks, where they are selected.
     pub fn push_ends(&self, blocks: &[EndOf], code: &mut Vec<Instr>) -> Result<(), AllocError>
-        ensures { OnOk result (code.new.items ≡ code.old.items ++ instrs (ends_code self.now blocks.now)) }
+        ensures { OnOk result (code.new.items ≡ code.old.items ++ instrs (block_ends_code self.now blocks.now)) }
     {
         for block in blocks {
             self.push_end(*block, code)?;

@@ -7,7 +7,7 @@ ghost use Rattle.i64_split.specs.Split.{temps, words_code, HasTemps};
 ghost use Rattle.i64_split.specs.Pushing.{instrs};
 ghost use Rattle.rewrite.specs.Setting.{constant, tell};
 ghost use Rattle.rewrite.specs.Templates.{num_code, result_code, store_code, drop_code, select_code};
-ghost use Rattle.rewrite.specs.Emitted.{kept_code, same_type};
+ghost use Rattle.rewrite.specs.Emitted.{kept_code, one_if_same};
 
 use crate::setting::Setting;
 use hook_mono::HookKey;
@@ -123,7 +123,7 @@ fn push_select(temps: &[Temp], code: &mut Vec<Instr>) -> Result<(), AllocError>
 
 // 1 where the types are the same, else 0.
 fn are_same(a: ValType, b: ValType) -> u32
-    ensures { result ≡ same_type a b }
+    ensures { result ≡ one_if_same a b }
 {
     match (a, b) {
         (ValType::I32, ValType::I32) | (ValType::I64, ValType::I64) => 1,

@@ -9,7 +9,7 @@ use Rattle.i64_split.specs.Pushing.{instrs}
 use Rattle.rewrite.specs.Templates.{tell_results}
 use Rattle.rewrite.specs.Temporaries.{close_temps}
 use Rattle.rewrite.specs.Live.{rest_code}
-use Rattle.rewrite.specs.Emitted.{HasRoom, end_code}
+use Rattle.rewrite.specs.Emitted.{HasRoom, block_end_code}
 use Rattle.rewrite.proofs.Joined.{closed_function}
 use Rattle.rewrite.proofs.setting.Setting.close_function.Goals as goal
 
@@ -31,6 +31,6 @@ returns c =
     let mid = c.push_results.new.code.items in
     let new = c.push_end.new.code.items in
     let results : mid ≡ old ++ instrs (tell_results w c.args.function.end) = search rules in
-    on_ok_weaker c.push_end.result (λ (told : new ≡ mid ++ instrs (end_code w c.end_of.result)).
-    closed_function w f c.args.function old mid new c.requires.function results (told ∙ ap (λ x. mid ++ instrs (end_code w x)) c.end_of.ensures)
+    on_ok_weaker c.push_end.result (λ (told : new ≡ mid ++ instrs (block_end_code w c.end_of.result)).
+    closed_function w f c.args.function old mid new c.requires.function results (told ∙ ap (λ x. mid ++ instrs (block_end_code w x)) c.end_of.ensures)
     ∙ ap (λ live. onto old (rest_code w (f ∷ []) live 0 done)) (sym c.if-not-live.false)) c.push_end.ensures

@@ -1,0 +1,125 @@
+#!/usr/bin/env python3
+"""Writes the tables of docs/DEFINITIONS.md again: which definitions stand in which file, those first that the clauses of
+`run_app` reach. The texts, the groups, the order of files and the sections of the standard stay as they are; a new file is
+put behind the last one of its crate, with the first comment of the file as what it has."""
+import os, re, sys
+
+top = os.path.dirname(os.path.dirname(os.path.abspath(__file__)))
+START = re.compile(r"^(?:(?:abbrev|unfoldable|syntax) )?pub (?:(?:record|data|abbrev) )?([^\s:({]+)|^(?:abbrev|unfoldable) (?:pub )?([^\s:({]+)")
+TOKEN = re.compile(r"[^\s(){};,.λ\[\]∷]+")
+
+def specs():
+    for crate in sorted(os.listdir(f"{top}/crates")):
+        folder = f"{top}/crates/{crate}/specs"
+        for name in sorted(os.listdir(folder)) if os.path.isdir(folder) else []:
+            if name.endswith(".antt") and name != "Lib.antt":
+                yield crate, name[:-5], open(f"{folder}/{name}", encoding="utf-8").read()
+
+def imports_of(text):
+    names = {}
+    for match in re.finditer(r"^\s*(?:ghost |pub )?use Rattle\.(\w+)\.specs\.([\w.]+?)\.\{([^}]*)\}", text, re.M):
+        for item in match[3].split(","):
+            parts = item.split()
+            if parts:  # a constructor stands for its type
+                file, _, of = match[2].partition(".")
+                names[parts[-1]] = (match[1], file, of or parts[0])
+    aliases = {m[3]: (m[1], m[2]) for m in re.finditer(r"^\s*(?:ghost )?use Rattle\.(\w+)\.specs\.([\w.]+) as (\w+)", text, re.M)}
+    return names, aliases
+
+def parse(crate, file, text):
+    """The definitions of a file, each with its text."""
+    found, current = {}, None
+    for line in text.split("\n"):
+        match = START.match(line)
+        if match and not re.match(r"pub (mod|use) ", line):
+            name = match[1] or match[2]
+            current = name
+            found.setdefault(name, [])
+        elif re.match(r"^((pub )?use |--)", line):
+            continue
+        if current:
+            found[current].append(re.split(r"(?:^|\s)-- ", line)[0])
+    return {name: "\n".join(lines) for name, lines in found.items()}
+
+definitions, scopes, heads, private = {}, {}, {}, set()
+for crate, file, text in specs():
+    scopes[crate, file] = imports_of(text)
+    heads[crate, file] = re.match(r"((?:--.*\n)+)", text)
+    for name, body in parse(crate, file, text).items():
+        definitions[crate, file, name] = body
+        if not re.match(r"(\w+ )?pub ", body):
+            private.add((crate, file, name))
+
+def reached_by(crate, file, body, names, aliases):
+    for token in TOKEN.findall(body):
+        if (crate, file, token) in definitions:
+            yield crate, file, token
+        elif token in names and names[token] in definitions:
+            yield names[token]
+    for match in re.finditer(r"\b(\w+)\.(\w+)", body):
+        if match[1] in aliases and (*aliases[match[1]], match[2]) in definitions:
+            yield (*aliases[match[1]], match[2])
+
+def main():
+    app = open(f"{top}/crates/wasabi_app/src/lib.rt", encoding="utf-8").read()
+    for name in ("app", "lib"):
+        text = open(f"{top}/crates/wasabi_app/src/{name}.rt", encoding="utf-8").read()
+        if "pub fn run_app" in text:
+            app = text
+    names, aliases = imports_of(app)
+    clauses = app[app.index("pub fn run_app"):]
+    clauses = clauses[:clauses.index("\n{")]
+    todo = list(reached_by("", "", clauses, names, aliases))
+    reached = set()
+    while todo:
+        key = todo.pop()
+        if key in reached:
+            continue
+        reached.add(key)
+        todo += reached_by(key[0], key[1], definitions[key], *scopes[key[0], key[1]])
+    shown = [key for key in definitions if key not in private]
+    path = f"{top}/docs/DEFINITIONS.md"
+    lines = open(path, encoding="utf-8").read().split("\n")
+    out, seen, inner = [], {True: set(), False: set()}, False
+    texts = {}
+    for line in lines:
+        m = re.match(r"\| `(\w+)` `(\w+)` \| (.*?) \| (.*?) \| (.*) \|$", line)
+        if m:
+            texts.setdefault((m[1], m[2]), (m[3], m[4]))
+    def row(crate, file, inner):
+        kept = [n for (c, f, n) in shown if (c, f) == (crate, file) and ((c, f, n) in reached) != inner]
+        what, section = texts.get((crate, file)) or (head_of(crate, file), "")
+        return f"| `{crate}` `{file}` | {what} | {section} | {', '.join(f'`{n}`' for n in kept)} |" if kept else None
+    def head_of(crate, file):
+        head = heads[crate, file]
+        words = re.sub(r"\s*\n?-- ?", " ", head[1]).strip() if head else ""
+        words = re.split(r"(?<=[a-z0-9])\. ", words)[0].rstrip(".")
+        return words[:1].lower() + words[1:]
+    files = list(dict.fromkeys((c, f) for (c, f, n) in definitions))
+    rows = [(i, re.match(r"\| `(\w+)` `(\w+)` \|", l)) for i, l in enumerate(lines)]
+    middle = next(i for i, l in enumerate(lines) if l.startswith("## Inner"))
+    for is_inner in (False, True):
+        listed = {(m[1], m[2]) for i, m in rows if m and (i > middle) == is_inner}
+        missing = [k for k in files if k not in listed and row(*k, is_inner)]
+        for key in missing:
+            last = max((i for i, m in rows if m and (i > middle) == is_inner and m[1] == key[0]), default=None)
+            if last is None:
+                last = max(i for i, m in rows if m and (i > middle) == is_inner and m[1] in ("hook_mono", "wasm_sem", "rewrite"))
+            lines[last] += "\n" + row(*key, is_inner)
+    inner = False
+    for line in "\n".join(lines).split("\n"):
+        inner = inner or line.startswith("## Inner")
+        m = re.match(r"\| `(\w+)` `(\w+)` \|", line)
+        if m:
+            line = row(m[1], m[2], inner)
+            if line is None:
+                continue
+        out.append(line)
+    count = len(reached - private)
+    text = "\n".join(out)
+    text = re.sub(r"The \d+ definitions that the clauses", f"The {count} definitions that the clauses", text)
+    text = re.sub(r"The \d+ others, which", f"The {len(shown) - count} others, which", text)
+    open(path, "w", encoding="utf-8").write(text)
+    print(count, "reached,", len(shown) - count, "others")
+
+main()
