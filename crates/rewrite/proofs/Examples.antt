@@ -67,11 +67,11 @@ division = refl
 -- the groups of locals get one temporary; the br_if becomes its hook, an `if` with the end of the loop, and itself
 abbrev counted : Module
 counted = module_of (nothing ∷ []) (0 ∷ []) None
-  (record {
-    groups = record { count = 1; ty = I32 } ∷ [];
-    code = plain (i32_const (pos 3)) (plain (local_set 0)
-    (loop Empty (plain (local_get 0) (plain (i32_const (pos 1)) (plain (num I32Sub) (plain (local_tee 0) (plain (br_if 0) done))))) done));
-  } ∷ [])
+    (record {
+      groups = record { count = 1; ty = I32 } ∷ [];
+      code = plain (i32_const (pos 3)) (plain (local_set 0)
+          (loop Empty (plain (local_get 0) (plain (i32_const (pos 1)) (plain (num I32Sub) (plain (local_tee 0) (plain (br_if 0) done))))) done));
+    } ∷ [])
 
 abbrev counted_bytes : Option (List ℕ)
 counted_bytes = bytes_with (groups.Begin ∷ groups.End ∷ groups.BrIf ∷ []) counted 0

@@ -33,6 +33,7 @@ use std::alloc::{AllocError, Global};
 use wasm_num::ValType;
 
 impl<'m> Setting<'m> {
+    // A `drop`, whose operand goes into a temporary where it is told.
     fn push_dropped(&self, position: u32, code: &mut Vec<Instr>) -> Result<(), AllocError>
         requires low { position < 2 ^ 31 }
         requires room { HasRoom self.now.pool (plain_temps self.now.hooks self.now.site position tree.drop_) }
@@ -48,6 +49,7 @@ impl<'m> Setting<'m> {
         self.push_watched(at, &key, &[], Keeping::Drop, &temps, Instr::Drop, code)
     }
 
+    // A `select`, whose operands and condition are told.
     fn push_selected(&self, position: u32, code: &mut Vec<Instr>) -> Result<(), AllocError>
         requires low { position < 2 ^ 31 }
         requires room { HasRoom self.now.pool (plain_temps self.now.hooks self.now.site position tree.select) }
@@ -63,6 +65,7 @@ impl<'m> Setting<'m> {
         self.push_watched(at, &key, &[], Keeping::Select, &temps, Instr::Select, code)
     }
 
+    // A `memory.size`, whose result is told.
     fn push_memory_size(&self, position: u32, code: &mut Vec<Instr>) -> Result<(), AllocError>
         requires low { position < 2 ^ 31 }
         requires room { HasRoom self.now.pool (plain_temps self.now.hooks self.now.site position tree.memory_size) }
@@ -78,6 +81,7 @@ impl<'m> Setting<'m> {
         self.push_watched(at, &key, &[], Keeping::Result, &temps, instr, code)
     }
 
+    // A `memory.grow`, whose operand and result are told.
     fn push_memory_grow(&self, position: u32, code: &mut Vec<Instr>) -> Result<(), AllocError>
         requires low { position < 2 ^ 31 }
         requires room { HasRoom self.now.pool (plain_temps self.now.hooks self.now.site position tree.memory_grow) }
@@ -93,6 +97,7 @@ impl<'m> Setting<'m> {
         self.push_watched(at, &key, &[], Keeping::Around, &temps, instr, code)
     }
 
+    // A constant, which is told behind itself.
     fn push_i32(&self, value: &i32, position: u32, code: &mut Vec<Instr>) -> Result<(), AllocError>
         requires low { position < 2 ^ 31 }
         ensures { (ss : List Scope) → OnOk result (code.new.items ≡ code.old.items ++ instrs (template self.now ss position (tree.i32_const value.now))) }
@@ -106,6 +111,7 @@ impl<'m> Setting<'m> {
         self.push_call(&HookKey::Const(ValType::I32), code)
     }
 
+    // A constant, which is told behind itself: the low word before the high word.
     fn push_i64(&self, value: &i64, position: u32, code: &mut Vec<Instr>) -> Result<(), AllocError>
         requires low { position < 2 ^ 31 }
         ensures { (ss : List Scope) → OnOk result (code.new.items ≡ code.old.items ++ instrs (template self.now ss position (tree.i64_const value.now))) }
@@ -172,6 +178,7 @@ impl<'m> Setting<'m> {
         self.push_tell(position, &HookKey::Plain(group), &words, temps, code)
     }
 
+    // A branch: where it leads is told, and then the ends that it passes.
     fn push_br(
         &self,
         alloc: Global,
@@ -188,6 +195,7 @@ impl<'m> Setting<'m> {
         push_each(code, [Instr::Br(label)])
     }
 
+    // A `return`: the results are told, and then the ends of all open blocks.
     fn push_return(
         &self,
         alloc: Global,
@@ -204,6 +212,7 @@ impl<'m> Setting<'m> {
         push_each(code, [Instr::Return])
     }
 
+    // A `br_table`, whose index is told before it where branch tables or ends are selected.
     fn push_table(
         &self,
         alloc: Global,
@@ -222,6 +231,7 @@ impl<'m> Setting<'m> {
         push_each(code, [Instr::BrTable(labels, last)])
     }
 
+    // An `unreachable`, which is told before it.
     fn push_unreachable(&self, position: u32, code: &mut Vec<Instr>) -> Result<(), AllocError>
         requires { position < 2 ^ 31 }
         ensures { (ss : List Scope) → OnOk result (code.new.items ≡ code.old.items ++ instrs (template self.now ss position tree.unreachable)) }
@@ -230,6 +240,7 @@ impl<'m> Setting<'m> {
         push_each(code, [Instr::Unreachable])
     }
 
+    // A `nop`, which is told before it.
     fn push_nop(&self, position: u32, code: &mut Vec<Instr>) -> Result<(), AllocError>
         requires { position < 2 ^ 31 }
         ensures { (ss : List Scope) → OnOk result (code.new.items ≡ code.old.items ++ instrs (template self.now ss position tree.nop)) }
@@ -238,6 +249,7 @@ impl<'m> Setting<'m> {
         push_each(code, [Instr::Nop])
     }
 
+    // An instruction that reads or writes a local, whose value is told behind it.
     fn push_local_of(
         &self,
         op: VarOp,
@@ -253,6 +265,7 @@ impl<'m> Setting<'m> {
         self.push_local(op, local, position, code)
     }
 
+    // An instruction that reads or writes a global, whose value is told behind it.
     fn push_global_of(
         &self,
         op: VarOp,

@@ -45,6 +45,7 @@ fn block_at(kind: BlockKind, begin: u32, end: u32, target: u32) -> Block
 }
 
 impl<'m> Setting<'m> {
+    // A live instruction with no sequence in it, other than a `br_if`.
     fn push_simple(
         &self,
         alloc: Global,

@@ -34,6 +34,7 @@ use std::alloc::{AllocError, Global};
 use wasm_num::{NumOp, ValType};
 
 impl<'m> Setting<'m> {
+    /// Adds a live load by its template: where it is selected, with the address and the value that it leaves told behind it.
     pub fn push_load(
         &self,
         op: LoadOp,
@@ -63,6 +64,7 @@ impl<'m> Setting<'m> {
         )
     }
 
+    /// Adds a live store by its template: where it is selected, with the address and the value told behind it.
     pub fn push_stored(
         &self,
         op: StoreOp,
@@ -84,6 +86,7 @@ impl<'m> Setting<'m> {
         self.push_watched(at, &key, &[arg.offset], Keeping::Store, &temps, instr, code)
     }
 
+    /// Adds a live number instruction by its template: where it is selected, with operands and result told behind it.
     pub fn push_num(
         &self,
         op: NumOp,
@@ -101,6 +104,7 @@ impl<'m> Setting<'m> {
         }
     }
 
+    // The same with one operand of this type.
     fn push_unary(
         &self,
         op: NumOp,
@@ -123,6 +127,7 @@ impl<'m> Setting<'m> {
         self.push_watched(at, &key, &[], Keeping::Around, &temps, instr, code)
     }
 
+    // The same with two operands of these types.
     fn push_binary(
         &self,
         op: NumOp,
@@ -191,6 +196,8 @@ impl<'m> Setting<'m> {
         self.push_post(alloc, position, results, code)
     }
 
+    /// Adds a live call by its template: its function is remapped, and where calls are selected, the arguments are told before
+    /// it and the results behind it.
     pub fn push_call_of(
         &self,
         alloc: Global,
@@ -252,6 +259,7 @@ impl<'m> Setting<'m> {
         }
     }
 
+    // A call through the table whose slot and arguments go into these temporaries.
     fn push_in_slot(
         &self,
         alloc: Global,
@@ -275,6 +283,7 @@ impl<'m> Setting<'m> {
         self.push_post(alloc, position, results, code)
     }
 
+    // The hook call that tells the type, the slot and the arguments of a call through the table.
     fn push_slot_tell(
         &self,
         position: i32,
@@ -293,6 +302,8 @@ impl<'m> Setting<'m> {
         self.push_call(key, code)
     }
 
+    /// Adds a live call through the table by its template: where calls are selected, the slot and the arguments are told
+    /// before it and the results behind it.
     pub fn push_indirect_of(
         &self,
         alloc: Global,

@@ -83,6 +83,7 @@ impl<'m> Setting<'m> {
         self.push_saved(position, &key, &[], &temps, code)
     }
 
+    /// Adds the hook call that tells the value of a local which was read or written, where it is selected.
     pub fn push_local(
         &self,
         op: VarOp,
@@ -107,6 +108,7 @@ impl<'m> Setting<'m> {
         )
     }
 
+    /// Adds the hook call that tells the value of a global which was read or written, where it is selected.
     pub fn push_global(
         &self,
         op: VarOp,

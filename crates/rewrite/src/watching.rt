@@ -45,6 +45,7 @@ fn push_kept(
     }
 }
 
+// One operand or two, and the result.
 fn push_around(instr: Instr, temps: &[Temp], code: &mut Vec<Instr>) -> Result<(), AllocError>
     ensures { OnOk result ((i : Plain) → instr ≡ instr_of i → code.new.items ≡ code.old.items ++ instrs (num_code i temps.now)) }
 {
@@ -67,6 +68,7 @@ fn push_around(instr: Instr, temps: &[Temp], code: &mut Vec<Instr>) -> Result<()
     }
 }
 
+// The result alone.
 fn push_result(instr: Instr, temps: &[Temp], code: &mut Vec<Instr>) -> Result<(), AllocError>
     ensures { OnOk result ((i : Plain) → instr ≡ instr_of i → code.new.items ≡ code.old.items ++ instrs (result_code i temps.now)) }
 {
@@ -76,6 +78,7 @@ fn push_result(instr: Instr, temps: &[Temp], code: &mut Vec<Instr>) -> Result<()
     }
 }
 
+// The address and the value of a store.
 fn push_store(instr: Instr, temps: &[Temp], code: &mut Vec<Instr>) -> Result<(), AllocError>
     ensures { OnOk result ((i : Plain) → instr ≡ instr_of i → code.new.items ≡ code.old.items ++ instrs (store_code i temps.now)) }
 {
@@ -93,6 +96,7 @@ fn push_store(instr: Instr, temps: &[Temp], code: &mut Vec<Instr>) -> Result<(),
     }
 }
 
+// What a `drop` drops, which goes into the temporary instead.
 fn push_drop(temps: &[Temp], code: &mut Vec<Instr>) -> Result<(), AllocError>
     ensures { OnOk result (code.new.items ≡ code.old.items ++ instrs (drop_code temps.now)) }
 {
@@ -102,6 +106,7 @@ fn push_drop(temps: &[Temp], code: &mut Vec<Instr>) -> Result<(), AllocError>
     }
 }
 
+// What a `select` takes.
 fn push_select(temps: &[Temp], code: &mut Vec<Instr>) -> Result<(), AllocError>
     ensures { OnOk result (code.new.items ≡ code.old.items ++ instrs (select_code temps.now)) }
 {
@@ -195,5 +200,44 @@ impl<'m> Setting<'m> {
     {
         push_kept(keeping, instr, temps, code)?;
         self.push_tell(position, key, first, temps, code)
+    }
+}
+
+#[cfg(test)]
+mod tests {
+    use super::{Keeping, push_kept};
+    use i64_split::Temp;
+    use module_ast::code::Instr;
+    use std::test::Fail;
+    use wasm_num::{NumOp, ValType};
+
+    // Both operands of a division are kept before it, the last one from the top, and the result behind it.
+    #[test]
+    fn a_division_is_kept(rt: HostRuntime) -> Result<(), Fail> {
+        let ty = ValType::I32;
+        let temps = [
+            Temp { ty, local: 0 },
+            Temp { ty, local: 1 },
+            Temp { ty, local: 2 },
+        ];
+        let mut code = Vec::new(rt.alloc());
+        push_kept(
+            Keeping::Around,
+            Instr::Num(NumOp::I32DivS),
+            &temps,
+            &mut code,
+        )?;
+        let kept = matches!(
+            code.as_slice(),
+            [
+                Instr::LocalSet(1),
+                Instr::LocalTee(0),
+                Instr::LocalGet(1),
+                Instr::Num(NumOp::I32DivS),
+                Instr::LocalTee(2),
+            ]
+        );
+        assert!(rt; kept);
+        Ok(())
     }
 }
