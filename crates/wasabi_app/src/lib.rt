@@ -13,4 +13,6 @@ mod words;
 pub use app::run_app;
 
 #[cfg(test)]
+mod needs_tests;
+#[cfg(test)]
 mod tests;

@@ -80,6 +80,12 @@ fn keys_of_a_loop(rt: HostRuntime) -> Result<(), Fail> {
 #[test]
 fn keys_of_a_table(rt: HostRuntime) -> Result<(), Fail> {
     let keys = needs(&rt, rt.alloc(), &TABLE, "br_table,end")?;
-    assert!(rt; have_names(rt.alloc(), &keys, &["br_table", "end_block", "end_function"])?);
+    assert!(rt;
+        have_names(
+            rt.alloc(),
+            &keys,
+            &["br_table", "end_block", "end_function"]
+        )?
+    );
     Ok(())
 }
