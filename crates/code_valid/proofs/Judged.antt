@@ -1,5 +1,6 @@
 -- From what the check of a whole body answers to the rules.
-use Rattle.std.proofs.Common.{◌≡◌, ℕ, max, List, [], ◌∷◌, Option, Some, None, true, false, Bool, sym, ap, ◌∙◌, subst, subst₂, arith, slice_get}
+use Rattle.std.proofs.Common.{◌≡◌, ℕ, max, List, [], ◌∷◌, Option, Some, None, true, false, Bool, sym, ap, ◌∙◌, subst, subst₂, arith, slice_get, get_or, length, ◌<◌}
+use Rattle.std.proofs.lemmas.Option.{slice_get-get_or}
 use Rattle.std.specs.Prelude.{◌++◌, Result, Err}
 use Rattle.wasm_num.specs.declared.ValType.{ValType}
 use Rattle.module_ast.specs.declared.module.FuncType.{FuncType}
@@ -10,7 +11,8 @@ use Rattle.module_ast.specs.Typing.{Context, push, TypesCode}
 use Rattle.module_ast.specs.Marks.{Mark}
 use Rattle.module_ast.specs.LiveMarks.{HasMarks}
 use Rattle.module_ast.specs.Spaces.{funcs_of, tables_of, memories_of, globals_of}
-use Rattle.module_ast.specs.Validity.{body_context, declared_locals, TypesBody, HasBodyMarks}
+use Rattle.module_ast.specs.Validity.{KeepsRules, body_context, declared_locals, TypesBody, HasBodyMarks}
+use Rattle.module_ast.specs.Validity as rule
 use Rattle.code_valid.specs.Checking.{BlockStack, fresh, check, ends_with, marks_of, height_of}
 use Rattle.code_valid.specs.Survey.{Notes, at_start, survey, Surveys}
 use Rattle.ctrl_stack.specs.Stack.{function_stack}
@@ -19,7 +21,7 @@ use Rattle.code_valid.specs.declared.invalid.BodyInvalid.{BodyInvalid}
 use Rattle.code_valid.specs.declared.invalid.BodyInvalid.TheVariants.{Invalid}
 use Rattle.code_valid.specs.Control.{Control, innermost_stack, with_innermost_stack, context_in, control_of}
 use Rattle.code_valid.specs.Answers.{OnRefusal}
-use Rattle.code_valid.specs.Bodies.{body_of, TypesIn, HasMarksIn}
+use Rattle.code_valid.specs.Bodies.{body_of, IsContextOf, TypesIn, HasMarksIn}
 use Rattle.code_valid.proofs.Exact.{check_exact, body_sound, body_complete}
 use Rattle.code_valid.proofs.Live.{typed_marks}
 use Rattle.code_valid.proofs.Surveyed.{surveyed}
@@ -112,6 +114,9 @@ module _ (m : Module) (defined ty : ℕ) (t : FuncType) (b : Body)
   untyped_body : ¬ TypesCode (body_context m t b) b.code [] (push t.results []) → ¬ TypesBody m defined
   untyped_body n h = n (h ty t b func type body)
 
+  pub context_of : (c : Context) → body_of c ≡ body_context m t b → IsContextOf m defined c
+  context_of c same ty2 t2 b2 e1 e2 e3 = only_this (λ t b. body_of c ≡ body_context m t b) same ty2 t2 b2 e1 e2 e3
+
   module _ (c : Context) (same : body_of c ≡ body_context m t b) where
     pub typed_in : TypesIn c b.code → TypesBody m defined
     typed_in h = typed_body (subst (λ (z : Context). TypesCode z b.code [] (push z.results [])) same h)
@@ -121,3 +126,30 @@ module _ (m : Module) (defined ty : ℕ) (t : FuncType) (b : Body)
 
     pub untyped_in : ¬ TypesIn c b.code → ¬ TypesBody m defined
     untyped_in n = untyped_body (λ h. n (subst (λ (z : Context). TypesCode z b.code [] (push z.results [])) (sym same) h))
+
+-- a body that is checked by what it names
+module _ (m : Module) (defined : ℕ) (b : Body) (func : defined < length m.funcs) (rules : KeepsRules m) (body : slice_get m.bodies defined ≡ Some b)
+    (c : Context) (names : IsContextOf m defined c) where
+  abbrev index : ℕ
+  index = get_or m.funcs defined 0
+
+  abbrev found : FuncType
+  found = get_or m.types index (record { params = []; results = [] })
+
+  func_is : slice_get m.funcs defined ≡ Some index
+  func_is = slice_get-get_or m.funcs defined 0 func
+
+  type_is : slice_get m.types index ≡ Some found
+  type_is = slice_get-get_or m.types index _ (rules rule.function_types defined 0 func)
+
+  same : body_of c ≡ body_context m found b
+  same = names index found b func_is type_is body
+
+  pub named_typed : TypesIn c b.code → TypesBody m defined
+  named_typed = typed_in m defined index found b func_is type_is body c same
+
+  pub named_marked : (marks : Marks) → HasMarksIn c b.code marks → HasBodyMarks m defined marks.types marks.height
+  named_marked = marked_in m defined index found b func_is type_is body c same
+
+  pub named_untyped : ¬ TypesIn c b.code → ¬ TypesBody m defined
+  named_untyped = untyped_in m defined index found b func_is type_is body c same

@@ -2,7 +2,9 @@
 --     type_at, type_found      the type at a place is that of the first run that ends behind it
 --     rises        runs end in order
 --     Kept, kept_more      runs and the types still to come are the whole list;  and so with one more run
-use Rattle.std.proofs.Common.{◌≡◌, ◌∙◌, ℕ, zero, suc, ◌+◌, ◌-◌, ◌<◌, ◌≤◌, List, [], ◌∷◌, ◌++◌, length, get_or, replicate, slice_get, Some, refl, sym, ap, append_assoc, append-nil, arith, suc-add, zero-add, true, false, leb, leb-true, leb-false}
+use Rattle.std.proofs.Common.{◌≡◌, ◌∙◌, ℕ, zero, suc, ◌+◌, ◌-◌, ◌<◌, ◌≤◌, List, [], ◌∷◌, ◌++◌, length, get_or, replicate, slice_get, Some, refl, sym, ap, append_assoc, append-nil, length-append, arith, suc-add, zero-add, true, false, leb, leb-true, leb-false}
+use Rattle.std.proofs.lemmas.List.{length-replicate}
+use Rattle.std.proofs.lemmas.Option.{none-some}
 use Rattle.std.specs.Option.{option_map}
 use Rattle.std.specs.List.Sorted.{IsNonDecreasingBy, IsPartitionPoint}
 use Rattle.wasm_num.specs.declared.ValType.{ValType}
@@ -61,6 +63,24 @@ types-push start [] r = append-nil (replicate (r.end - start) r.ty)
 types-push start (q ∷ qs) r =
     ap (λ l. replicate (q.end - start) q.ty ++ l) (types-push q.end qs r)
     ∙ sym (append_assoc (replicate (q.end - start) q.ty) (types_from q.end qs) (replicate (r.end - last_end q.end qs) r.ty))
+
+-- the last run
+pub last_run : (start : ℕ) (rs : List Run) (r : Run) → Some r ≡ slice_get rs (length rs - 1) → r.end ≡ last_end start rs
+last_run start [] r is = absurd (none-some r (sym is))
+last_run start (q ∷ []) r is = let same : r ≡ q = cc in ap (λ (x : Run). x.end) same
+last_run start (q ∷ (next ∷ rs)) r is =
+    let e : length (q ∷ next ∷ rs) - 1 ≡ suc (length (next ∷ rs) - 1) = omega arith in
+    last_run q.end (next ∷ rs) r (is ∙ ap (slice_get (q ∷ next ∷ rs)) e)
+
+-- how many locals the runs hold
+count_types_from : (start : ℕ) (rs : List Run) → RiseFrom start rs → start + length (types_from start rs) ≡ last_end start rs
+count_types_from start [] up = omega arith
+count_types_from start (r ∷ rs) up =
+    let rest = count_types_from r.end rs up.1 in
+    omega (arith, up.0, rest, length-append (replicate (r.end - start) r.ty) (types_from r.end rs), length-replicate (r.end - start) r.ty)
+
+pub count_types : (rs : List Run) → RiseFrom 0 rs → length (types_from 0 rs) ≡ last_end 0 rs
+count_types rs up = omega (arith, count_types_from 0 rs up)
 
 rise-push : (start : ℕ) (rs : List Run) (r : Run) → RiseFrom start rs → last_end start rs ≤ r.end → RiseFrom start (rs ++ r ∷ [])
 rise-push start [] r up h = (h, tt)

@@ -1,16 +1,24 @@
 -- What the check of a whole body answers.
-use Rattle.std.specs.Prelude.{ℕ, ◌<◌, [], ◌∷◌, length}
+use Rattle.std.specs.Prelude.{◌≡◌, ℕ, ◌<◌, [], ◌∷◌, length, slice_get, Some}
+use Rattle.module_ast.specs.declared.module.Body.{Body}
+use Rattle.module_ast.specs.declared.module.FuncType.{FuncType}
 use Rattle.module_ast.specs.declared.module.Module.{Module}
 use Rattle.module_ast.specs.Tree.{Tree}
 use Rattle.module_ast.specs.Limits.{IsWhole}
 use Rattle.module_ast.specs.Typing.{Context, push, TypesCode}
 use Rattle.module_ast.specs.LiveMarks.{HasMarks}
-use Rattle.module_ast.specs.Validity.{KeepsRules, TypesBody, HasBodyMarks}
+use Rattle.module_ast.specs.Validity.{KeepsRules, body_context, TypesBody, HasBodyMarks}
 use Rattle.code_valid.specs.declared.marks.Marks.{Marks}
 
 -- what a body names outside its blocks: a branch to the function takes its results
 abbrev pub body_of : Context → Context
 body_of c = record c { labels = c.results ∷ [] }
+
+-- what the body of a defined function can name, the blocks in it left out
+abbrev pub IsContextOf : Module → (defined : ℕ) → Context → Type 0
+IsContextOf m defined c =
+    (ty : ℕ) (t : FuncType) (b : Body) → slice_get m.funcs defined ≡ Some ty → slice_get m.types ty ≡ Some t → slice_get m.bodies defined ≡ Some b
+    → body_of c ≡ body_context m t b
 
 -- 3.4.1 a body of these results is typed
 abbrev pub TypesIn : Context → Tree → Type 0

@@ -11,7 +11,6 @@ ghost use Rattle.code_valid.specs.declared.invalid.BodyInvalid.{BodyInvalid};
 use crate::blocks::Blocks;
 use crate::env::Env;
 use crate::invalid::BodyInvalid;
-use crate::locals::Locals;
 use crate::marks::Marks;
 use crate::surveying::survey_code;
 use crate::walk::Walk;
@@ -56,11 +55,8 @@ pub fn check_body_in(
     ensures marks { IfOk result (λ found. HasBodyMarks m.now defined found.types found.height) }
     ensures invalid { IsErrOf result BodyInvalid.Invalid → ¬ TypesBody m.now defined }
 {
-    let index = m.funcs.as_slice()[defined as usize];
-    let ty = &m.types.as_slice()[index as usize];
+    let env = Env::of_body(alloc, m, spaces, defined)?;
     let body = &m.bodies.as_slice()[defined as usize];
-    let locals = Locals::new(alloc, ty.params.as_slice(), body.groups.as_slice())?;
-    let env = Env::new(m, spaces, locals, ty.results.as_slice());
     survey_body(alloc, &env, &body.code)
 }
 

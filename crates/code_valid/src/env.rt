@@ -1,18 +1,23 @@
 // What the instructions of a body can name.
 
-ghost use Rattle.std.specs.Prelude.{◌≡◌, [], slice_get, Some, None, MatchOption};
+ghost use Rattle.std.specs.Prelude.{◌≡◌, ◌<◌, [], length, slice_get, Some, None, IfOk, MatchOption};
+ghost use Rattle.module_ast.specs.Limits.{IsWhole};
+ghost use Rattle.module_ast.specs.Validity.{KeepsRules};
+ghost use Rattle.code_valid.specs.Bodies.{IsContextOf};
 ghost use Rattle.module_ast.specs.Spaces.{funcs_of, tables_of, memories_of, globals_of, spaces_of};
 ghost use Rattle.code_valid.specs.Checking.{is_some_list};
 
 use crate::locals::Locals;
 use module_ast::module::{FuncType, GlobalType, Module};
 use module_ast::spaces::Spaces;
+use std::alloc::Global;
 use std::marker::Model;
-use wasm_num::ValType;
+use wasm_num::{NoMemory, ValType};
 
-/// What the instructions of a body can name, the blocks around them left out. (Standard, 3.1.1)
+/// What the instructions of a body can name, the blocks around them left out. A local is looked up in time in the
+/// logarithm of the number of parameters and groups of locals, all else in constant time. (Standard, 3.1.1)
 #[derive(Drop)]
-pub(crate) struct Env<'m> {
+pub struct Env<'m> {
     m: &'m Module,
     spaces: &'m Spaces,
     locals: Locals,
@@ -43,7 +48,12 @@ impl<'m> Model for Env<'m> {
 
 impl<'m> Env<'m> {
     /// Of a body of this module, whose spaces these are, with these locals and results.
-    pub fn new(m: &'m Module, spaces: &'m Spaces, locals: Locals, results: &'m [ValType]) -> Env<'m>
+    pub(crate) fn new(
+        m: &'m Module,
+        spaces: &'m Spaces,
+        locals: Locals,
+        results: &'m [ValType],
+    ) -> Env<'m>
         requires { spaces.now ≡ spaces_of m.now }
         ensures { result ≡ record { types = m.now.types; funcs = funcs_of m.now; tables = tables_of m.now; memories = memories_of m.now; globals = globals_of m.now; locals = locals; labels = []; results = results.now } }
     {
@@ -55,11 +65,40 @@ impl<'m> Env<'m> {
         }
     }
 
+    /// Of the body of a defined function, over the index spaces of its module. It takes time in proportion to the
+    /// parameters and the groups of locals. An `Err` comes where there is no memory.
+    pub fn of_body(
+        alloc: Global,
+        m: &'m Module,
+        spaces: &'m Spaces,
+        defined: u32,
+    ) -> Result<Env<'m>, NoMemory>
+        requires body { defined < length m.now.bodies }
+        requires func { defined < length m.now.funcs }
+        requires whole { IsWhole m.now }
+        requires rules { KeepsRules m.now }
+        requires spaces { spaces.now ≡ spaces_of m.now }
+        ensures { IfOk result (IsContextOf m.now defined) }
+    {
+        let index = m.funcs.as_slice()[defined as usize];
+        let ty = &m.types.as_slice()[index as usize];
+        let body = &m.bodies.as_slice()[defined as usize];
+        let locals = Locals::new(alloc, ty.params.as_slice(), body.groups.as_slice())?;
+        Ok(Env::new(m, spaces, locals, ty.results.as_slice()))
+    }
+
     /// The types of the function's results.
-    pub fn results(&self) -> &[ValType]
+    pub fn results(&self) -> &'m [ValType]
         ensures { result.now ≡ self.now.results }
     {
         self.results
+    }
+
+    /// How many locals there are, parameters counted.
+    pub fn local_count(&self) -> u64
+        ensures { result ≡ length self.now.locals }
+    {
+        self.locals.count()
     }
 
     /// The type of a local.
@@ -84,7 +123,7 @@ impl<'m> Env<'m> {
     }
 
     /// The function type of this index.
-    pub fn func_type(&self, index: u32) -> Option<&FuncType>
+    pub fn func_type(&self, index: u32) -> Option<&'m FuncType>
         ensures { MatchOption result (slice_get self.now.types index ≡ None) (λ t. slice_get self.now.types index ≡ Some t.now) }
     {
         self.m.types.as_slice().get(index as usize)

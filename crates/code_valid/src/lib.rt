@@ -16,6 +16,7 @@ mod typed_body;
 mod walk;
 
 pub use body::{check_body, check_body_in};
+pub use env::Env;
 pub use invalid::BodyInvalid;
 pub use marks::{Mark, Marks};
 pub use typed_body::TypedBody;

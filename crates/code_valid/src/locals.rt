@@ -35,7 +35,7 @@ impl Model for Locals {
 }
 
 impl Locals {
-    ghost use Rattle.std.specs.Prelude.{◌++◌, ◌^◌, ◌<◌, IfOk, slice_get};
+    ghost use Rattle.std.specs.Prelude.{◌++◌, ◌^◌, ◌<◌, IfOk, length, slice_get};
     ghost use Rattle.module_ast.specs.Profile.{locals_of};
     ghost use Rattle.module_ast.specs.Validity.{declared_locals};
 
@@ -55,6 +55,16 @@ impl Locals {
             runs.push(Run { end, ty: group.ty })?;
         }
         Ok(Locals { runs })
+    }
+
+    /// How many there are.
+    pub fn count(&self) -> u64
+        ensures { result ≡ length self.now }
+    {
+        match self.runs.last() {
+            Some(run) => run.end,
+            None => 0,
+        }
     }
 
     /// The type of a local. It takes time in the logarithm of the number of parameters and groups.

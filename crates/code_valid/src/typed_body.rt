@@ -1,19 +1,26 @@
 // Bodies that are typed.
 
+use crate::env::Env;
 use crate::marks::Marks;
 use module_ast::module::{Body, Module};
+use module_ast::spaces::Spaces;
+use std::alloc::Global;
 use std::marker::Model;
+use wasm_num::NoMemory;
 
 /// The body of a defined function that the rules of typing type, in a module that is whole and keeps the rules, with the
 /// marks and the height that it has. (Standard, 3.4.1)
 #[derive(Debug, Drop)]
 pub struct TypedBody<'m> {
     module: &'m Module,
+    spaces: &'m Spaces,
     defined: u32,
     marks: &'m Marks,
 }
 
 impl<'m> Model for TypedBody<'m> {
+    ghost use Rattle.std.specs.Prelude.{◌≡◌};
+    ghost use Rattle.module_ast.specs.Spaces.{spaces_of};
     ghost use Rattle.code_valid.specs.Bodies.{BodyTyping, IsTypedBody};
 
     ghost Value = { BodyTyping };
@@ -25,22 +32,25 @@ impl<'m> Model for TypedBody<'m> {
 
     ghost view = { λ a. record { «module» = a.module.now; defined = a.defined; marks = a.marks.now } };
 
-    ghost invariant = { λ a. IsTypedBody a.module.now a.defined a.marks.now };
+    ghost invariant = { λ a. IsTypedBody a.module.now a.defined a.marks.now × (a.spaces.now ≡ spaces_of a.module.now) };
 }
 
 impl<'m> TypedBody<'m> {
-    ghost use Rattle.std.specs.Prelude.{◌≡◌, slice_get, Some};
-    ghost use Rattle.code_valid.specs.Bodies.{IsTypedBody};
+    ghost use Rattle.std.specs.Prelude.{◌≡◌, slice_get, Some, IfOk};
+    ghost use Rattle.module_ast.specs.Spaces.{spaces_of};
+    ghost use Rattle.code_valid.specs.Bodies.{IsTypedBody, IsContextOf};
 
-    /// This body, which has been checked.
-    pub fn new(m: &'m Module, defined: u32, marks: &'m Marks) -> TypedBody<'m>
-        requires { IsTypedBody m.now defined marks.now }
+    /// This body, which has been checked, of a module with these index spaces.
+    pub fn new(m: &'m Module, spaces: &'m Spaces, defined: u32, marks: &'m Marks) -> TypedBody<'m>
+        requires typed { IsTypedBody m.now defined marks.now }
+        requires spaces { spaces.now ≡ spaces_of m.now }
         ensures of { result.module ≡ m.now }
         ensures at { result.defined ≡ defined }
         ensures has { result.marks ≡ marks.now }
     {
         TypedBody {
             module: m,
+            spaces,
             defined,
             marks,
         }
@@ -51,6 +61,21 @@ impl<'m> TypedBody<'m> {
         ensures { result.now ≡ self.now.module }
     {
         self.module
+    }
+
+    /// The module's index spaces.
+    pub fn spaces(&self) -> &'m Spaces
+        ensures { result.now ≡ spaces_of self.now.module }
+    {
+        self.spaces
+    }
+
+    /// What its instructions can name. It takes time in proportion to the parameters and the groups of locals. An `Err`
+    /// comes where there is no memory.
+    pub fn env(&self, alloc: Global) -> Result<Env<'m>, NoMemory>
+        ensures { IfOk result (IsContextOf self.now.module self.now.defined) }
+    {
+        Env::of_body(alloc, self.module, self.spaces, self.defined)
     }
 
     /// The number of the function among those that are defined.

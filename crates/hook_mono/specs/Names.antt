@@ -1,5 +1,5 @@
 -- The name of a hook.
-use Rattle.std.specs.Prelude.{◌≡◌, ℕ, List, [], ◌∷◌, ◌++◌, codes, map}
+use Rattle.std.specs.Prelude.{◌≡◌, ◌≢◌, Option, Some, None, ℕ, List, [], ◌∷◌, ◌++◌, codes, map}
 use Rattle.wasm_num.specs.declared.ValType.{ValType}
 use Rattle.wasm_num.specs.declared.ValType.TheVariants.{I32, I64}
 use Rattle.module_ast.specs.declared.ops.VarOp.{VarOp}
@@ -63,6 +63,15 @@ name_of (Return ts) = codes "return_" ++ letters ts
 abbrev pub IsNamed : List ℕ → HookKey → Type 0
 IsNamed name key = IsProper key × (name_of key ≡ name)
 
+-- what is found for a name: the proper key of this name, or nothing where no proper key has it
+abbrev pub IsKeyOf : List ℕ → Option HookKey → Type 0
+IsKeyOf name None = (key : HookKey) → IsProper key → name_of key ≢ name
+IsKeyOf name (Some key) = IsNamed name key
+
 -- two proper keys with one name are one
 abbrev pub NamesDiffer : Type 0
 NamesDiffer = (a b : HookKey) → IsProper a → IsProper b → name_of a ≡ name_of b → a ≡ b
+
+-- for the name of a proper key nothing but that key is found
+abbrev pub NamesLeadBack : Type 0
+NamesLeadBack = (key : HookKey) (found : Option HookKey) → IsProper key → IsKeyOf (name_of key) found → found ≡ Some key

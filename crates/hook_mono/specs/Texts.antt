@@ -23,7 +23,7 @@ use Rattle.hook_select.specs.declared.GroupName.TheVariants as groups
 use Rattle.hook_select.specs.Kinds.{kind_name}
 use Rattle.hook_mono.specs.declared.HookKey.{HookKey}
 use Rattle.hook_mono.specs.declared.HookKey.TheVariants as keys
-use Rattle.hook_mono.specs.Names.{letters, plain_name, const_name, var_name, name_of}
+use Rattle.hook_mono.specs.Names.{letters, plain_name, var_name, name_of}
 
 -- the parts of names
 plain_ascii : (g : GroupName) → is_ascii (plain_name g) ≡ true

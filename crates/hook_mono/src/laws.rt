@@ -1,10 +1,29 @@
-// What holds of the types.
+// What holds of keys and their types.
 
-use crate::HookKey;
+ghost use Rattle.hook_mono.specs.Keys.{KeysDiffer};
+ghost use Rattle.hook_mono.specs.Names.{NamesDiffer, NamesLeadBack};
+
+use crate::{HookKey, HookTable};
+
+/// Two proper keys never have one name, and for the name of a proper key nothing but that key is found.
+pub fn names_differ()
+    ensures differ { NamesDiffer }
+    ensures back { NamesLeadBack }
+{}
+
+/// Keys that are found equal are one key.
+pub fn keys_differ()
+    ensures { KeysDiffer }
+{}
 
 /// A key may go to other threads, and several may read one at once.
 pub fn keys_cross_threads(key: &HookKey) {
     is_send_and_sync(key);
+}
+
+/// A table of hooks may go to other threads, and several may read one at once.
+pub fn tables_cross_threads(table: &HookTable) {
+    is_send_and_sync(table);
 }
 
 fn is_send_and_sync<T: Send + Sync>(_value: &T) {}

@@ -1,11 +1,20 @@
 // Hooks: one imported function for each key.
 #![tactic(auto)]
 
+mod compare;
 pub mod laws;
+mod names;
+mod read;
+mod table;
+mod types;
 
 ghost use Rattle.std.specs.Prelude.{◌≡◌};
 ghost use Rattle.hook_mono.specs.Keys.{is_plain};
 
+pub use crate::names::name_of;
+pub use crate::read::key_of;
+pub use crate::table::HookTable;
+pub use crate::types::type_of;
 use hook_select::GroupName;
 use module_ast::ops::{LoadOp, StoreOp, VarOp};
 use module_ast::seq::Seq;
@@ -64,3 +73,6 @@ fn is_plain(group: GroupName) -> bool
             | GroupName::MemoryGrow
     )
 }
+
+#[cfg(test)]
+mod tests;

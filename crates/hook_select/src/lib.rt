@@ -2,9 +2,11 @@
 #![tactic(auto)]
 
 pub mod laws;
+mod read;
 
-ghost use Rattle.std.specs.Prelude.{◌≡◌, false};
+ghost use Rattle.std.specs.Prelude.{◌≡◌, true, false};
 
+pub use crate::read::{UnknownGroup, read_list};
 use module_ast::module::Loc;
 use module_ast::ops::{LoadOp, StoreOp, VarOp};
 use wasm_num::{BlockKind, NumOp, Value, Values};
@@ -193,7 +195,7 @@ pub struct Hooks {
 }
 
 impl Hooks {
-    ghost use Rattle.hook_select.specs.Groups.{has, hooks_of};
+    ghost use Rattle.hook_select.specs.Groups.{has, hooks_of, with_group};
 
     /// No group.
     pub const fn none() -> Hooks
@@ -225,6 +227,36 @@ impl Hooks {
         }
     }
 
+    /// Every group.
+    pub const fn all() -> Hooks
+        ensures { result ≡ hooks_of (λ g. true) }
+    {
+        Hooks {
+            start: true,
+            nop: true,
+            unreachable: true,
+            if_: true,
+            br: true,
+            br_if: true,
+            br_table: true,
+            begin: true,
+            end: true,
+            const_: true,
+            unary: true,
+            binary: true,
+            drop: true,
+            select: true,
+            local: true,
+            global: true,
+            load: true,
+            store: true,
+            memory_size: true,
+            memory_grow: true,
+            call: true,
+            return_: true,
+        }
+    }
+
     /// Whether the group is in the set.
     pub fn has(&self, group: GroupName) -> bool
         ensures { result ≡ has self.now group }
@@ -252,6 +284,81 @@ impl Hooks {
             GroupName::MemoryGrow => self.memory_grow,
             GroupName::Call => self.call,
             GroupName::Return => self.return_,
+        }
+    }
+
+    /// The set with this group.
+    pub fn with(self, group: GroupName) -> Hooks
+        ensures { result ≡ with_group self group }
+    {
+        match group {
+            GroupName::Start => Hooks {
+                start: true,
+                ..self
+            },
+            GroupName::Nop => Hooks { nop: true, ..self },
+            GroupName::Unreachable => Hooks {
+                unreachable: true,
+                ..self
+            },
+            GroupName::If => Hooks { if_: true, ..self },
+            GroupName::Br => Hooks { br: true, ..self },
+            GroupName::BrIf => Hooks {
+                br_if: true,
+                ..self
+            },
+            GroupName::BrTable => Hooks {
+                br_table: true,
+                ..self
+            },
+            GroupName::Begin => Hooks {
+                begin: true,
+                ..self
+            },
+            GroupName::End => Hooks { end: true, ..self },
+            GroupName::Const => Hooks {
+                const_: true,
+                ..self
+            },
+            GroupName::Unary => Hooks {
+                unary: true,
+                ..self
+            },
+            GroupName::Binary => Hooks {
+                binary: true,
+                ..self
+            },
+            GroupName::Drop => Hooks { drop: true, ..self },
+            GroupName::Select => Hooks {
+                select: true,
+                ..self
+            },
+            GroupName::Local => Hooks {
+                local: true,
+                ..self
+            },
+            GroupName::Global => Hooks {
+                global: true,
+                ..self
+            },
+            GroupName::Load => Hooks { load: true, ..self },
+            GroupName::Store => Hooks {
+                store: true,
+                ..self
+            },
+            GroupName::MemorySize => Hooks {
+                memory_size: true,
+                ..self
+            },
+            GroupName::MemoryGrow => Hooks {
+                memory_grow: true,
+                ..self
+            },
+            GroupName::Call => Hooks { call: true, ..self },
+            GroupName::Return => Hooks {
+                return_: true,
+                ..self
+            },
         }
     }
 }
@@ -292,3 +399,6 @@ impl Event {
         }
     }
 }
+
+#[cfg(test)]
+mod tests;

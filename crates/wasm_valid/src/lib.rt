@@ -56,5 +56,5 @@ pub fn validate<R: Threads + Sync>(
         return Err(Invalid::Module { rule });
     }
     let marks = check_bodies(alloc, &m, &spaces)?;
-    Ok(ValidModule::new(m, marks))
+    Ok(ValidModule::new(m, spaces, marks))
 }

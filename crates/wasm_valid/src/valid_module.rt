@@ -3,12 +3,14 @@
 use code_valid::{Marks, TypedBody};
 use module_ast::module::Module;
 use module_ast::seq::Seq;
+use module_ast::spaces::Spaces;
 use std::marker::Model;
 
 /// A module that is whole and valid, with what the check of each body noted. Contracts see the module. (Standard, 3.4)
 #[derive(Debug, Drop)]
 pub struct ValidModule {
     module: Module,
+    spaces: Spaces,
     marks: Seq<Marks>,
 }
 
@@ -24,23 +26,31 @@ impl Model for ValidModule {
 
     ghost view = { λ a. a.module };
 
+    ghost use Rattle.std.specs.Prelude.{◌≡◌};
+    ghost use Rattle.module_ast.specs.Spaces.{spaces_of};
     ghost use Rattle.wasm_valid.specs.Validated.{IsValidated};
 
-    ghost invariant = { λ a. IsValidated a.module a.marks };
+    ghost invariant = { λ a. IsValidated a.module a.marks × (a.spaces ≡ spaces_of a.module) };
 }
 
 impl ValidModule {
     ghost use Rattle.std.specs.Prelude.{◌≡◌, ◌<◌, length};
     ghost use Rattle.module_ast.specs.Limits.{IsWhole};
+    ghost use Rattle.module_ast.specs.Spaces.{spaces_of};
     ghost use Rattle.module_ast.specs.Validity.{IsValid};
     ghost use Rattle.wasm_valid.specs.Validated.{IsValidated};
 
-    /// This module, with the marks of each body.
-    pub fn new(m: Module, marks: Seq<Marks>) -> ValidModule
-        requires { IsValidated m marks }
+    /// This module, with its index spaces and the marks of each body.
+    pub fn new(m: Module, spaces: Spaces, marks: Seq<Marks>) -> ValidModule
+        requires validated { IsValidated m marks }
+        requires spaces { spaces ≡ spaces_of m }
         ensures { result ≡ m }
     {
-        ValidModule { module: m, marks }
+        ValidModule {
+            module: m,
+            spaces,
+            marks,
+        }
     }
 
     /// The module.
@@ -60,6 +70,7 @@ impl ValidModule {
     {
         TypedBody::new(
             &self.module,
+            &self.spaces,
             defined,
             &self.marks.as_slice()[defined as usize],
         )

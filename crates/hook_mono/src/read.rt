@@ -1,0 +1,362 @@
+// The key of a name.
+
+ghost use Rattle.std.specs.Prelude.{◌≡◌, ℕ, List, IfOk, option_and_then};
+ghost use Rattle.std.specs.Option.{option_map};
+ghost use Rattle.wasm_num.specs.Names.{num_name};
+ghost use Rattle.module_ast.specs.OpNames.{load_name, store_name};
+ghost use Rattle.hook_select.specs.Kinds.{kind_name};
+ghost use Rattle.hook_mono.specs.Names.{plain_name, const_name, IsKeyOf};
+ghost use Rattle.hook_mono.specs.Orders.{all_kinds};
+ghost use Rattle.hook_mono.specs.Reading.{named, strip, type_of, types_of, one_type, first_read, fixed_readers, letter_readers, types_readers, key_named};
+
+use crate::HookKey;
+use crate::names::{const_name, kind_name, plain_name};
+use hook_select::GroupName;
+use module_ast::ops::{LoadOp, StoreOp, VarOp};
+use module_ast::seq::Seq;
+use std::alloc::Global;
+use wasm_num::{BlockKind, NoMemory, NumOp, ValType};
+
+const PLAINS: [GroupName; 9] = [
+    GroupName::Start,
+    GroupName::Nop,
+    GroupName::Unreachable,
+    GroupName::If,
+    GroupName::Br,
+    GroupName::BrIf,
+    GroupName::BrTable,
+    GroupName::MemorySize,
+    GroupName::MemoryGrow,
+];
+
+const BLOCK_KINDS: [BlockKind; 5] = [
+    BlockKind::Function,
+    BlockKind::Block,
+    BlockKind::Loop,
+    BlockKind::If,
+    BlockKind::Else,
+];
+
+const VAL_TYPES: [ValType; 2] = [ValType::I32, ValType::I64];
+
+const NUM_OPS: [NumOp; 61] = [
+    NumOp::I32Eqz,
+    NumOp::I32Eq,
+    NumOp::I32Ne,
+    NumOp::I32LtS,
+    NumOp::I32LtU,
+    NumOp::I32GtS,
+    NumOp::I32GtU,
+    NumOp::I32LeS,
+    NumOp::I32LeU,
+    NumOp::I32GeS,
+    NumOp::I32GeU,
+    NumOp::I64Eqz,
+    NumOp::I64Eq,
+    NumOp::I64Ne,
+    NumOp::I64LtS,
+    NumOp::I64LtU,
+    NumOp::I64GtS,
+    NumOp::I64GtU,
+    NumOp::I64LeS,
+    NumOp::I64LeU,
+    NumOp::I64GeS,
+    NumOp::I64GeU,
+    NumOp::I32Clz,
+    NumOp::I32Ctz,
+    NumOp::I32Popcnt,
+    NumOp::I32Add,
+    NumOp::I32Sub,
+    NumOp::I32Mul,
+    NumOp::I32DivS,
+    NumOp::I32DivU,
+    NumOp::I32RemS,
+    NumOp::I32RemU,
+    NumOp::I32And,
+    NumOp::I32Or,
+    NumOp::I32Xor,
+    NumOp::I32Shl,
+    NumOp::I32ShrS,
+    NumOp::I32ShrU,
+    NumOp::I32Rotl,
+    NumOp::I32Rotr,
+    NumOp::I64Clz,
+    NumOp::I64Ctz,
+    NumOp::I64Popcnt,
+    NumOp::I64Add,
+    NumOp::I64Sub,
+    NumOp::I64Mul,
+    NumOp::I64DivS,
+    NumOp::I64DivU,
+    NumOp::I64RemS,
+    NumOp::I64RemU,
+    NumOp::I64And,
+    NumOp::I64Or,
+    NumOp::I64Xor,
+    NumOp::I64Shl,
+    NumOp::I64ShrS,
+    NumOp::I64ShrU,
+    NumOp::I64Rotl,
+    NumOp::I64Rotr,
+    NumOp::I32WrapI64,
+    NumOp::I64ExtendI32S,
+    NumOp::I64ExtendI32U,
+];
+
+const LOAD_OPS: [LoadOp; 12] = [
+    LoadOp::I32Load,
+    LoadOp::I64Load,
+    LoadOp::I32Load8S,
+    LoadOp::I32Load8U,
+    LoadOp::I32Load16S,
+    LoadOp::I32Load16U,
+    LoadOp::I64Load8S,
+    LoadOp::I64Load8U,
+    LoadOp::I64Load16S,
+    LoadOp::I64Load16U,
+    LoadOp::I64Load32S,
+    LoadOp::I64Load32U,
+];
+
+const STORE_OPS: [StoreOp; 7] = [
+    StoreOp::I32Store,
+    StoreOp::I64Store,
+    StoreOp::I32Store8,
+    StoreOp::I32Store16,
+    StoreOp::I64Store8,
+    StoreOp::I64Store16,
+    StoreOp::I64Store32,
+];
+
+// What a hook's name is made of.
+trait HasName: Copy {
+    ghost hook_name: { Self → List ℕ };
+
+    fn hook_name(self) -> &'static str
+        ensures { result.now ≡ hook_name self };
+}
+
+impl HasName for GroupName {
+    ghost hook_name = { plain_name };
+
+    fn hook_name(self) -> &'static str {
+        plain_name(self)
+    }
+}
+
+impl HasName for BlockKind {
+    ghost hook_name = { kind_name };
+
+    fn hook_name(self) -> &'static str {
+        kind_name(self)
+    }
+}
+
+impl HasName for ValType {
+    ghost hook_name = { const_name };
+
+    fn hook_name(self) -> &'static str {
+        const_name(self)
+    }
+}
+
+impl HasName for NumOp {
+    ghost hook_name = { num_name };
+
+    fn hook_name(self) -> &'static str {
+        self.name()
+    }
+}
+
+impl HasName for LoadOp {
+    ghost hook_name = { load_name };
+
+    fn hook_name(self) -> &'static str {
+        self.name()
+    }
+}
+
+impl HasName for StoreOp {
+    ghost hook_name = { store_name };
+
+    fn hook_name(self) -> &'static str {
+        self.name()
+    }
+}
+
+/// The proper key of that name; none where no proper key has it. It goes over the name a few times, and over its letters of
+/// types once.
+pub fn key_of(alloc: Global, name: &str) -> Result<Option<HookKey>, NoMemory>
+    ensures { IfOk result (IsKeyOf name.now) }
+{
+    read_key(alloc, name)
+}
+
+// The key that is read first.
+fn read_key(alloc: Global, name: &str) -> Result<Option<HookKey>, NoMemory>
+    ensures { IfOk result (λ found. found ≡ key_named name.now) }
+{
+    if let Some(key) = fixed_key(name) {
+        return Ok(Some(key));
+    }
+    if let Some(key) = letter_key(name) {
+        return Ok(Some(key));
+    }
+    types_key(alloc, name)
+}
+
+// The key of a group, a block, a constant or an operation.
+fn fixed_key(name: &str) -> Option<HookKey>
+    ensures { result ≡ first_read fixed_readers name.now }
+{
+    if let Some(group) = named(&PLAINS, name) {
+        return Some(HookKey::Plain(group));
+    }
+    if let Some(kind) = kind_behind("begin_", name) {
+        return Some(HookKey::Begin(kind));
+    }
+    if let Some(kind) = kind_behind("end_", name) {
+        return Some(HookKey::End(kind));
+    }
+    if let Some(ty) = named(&VAL_TYPES, name) {
+        return Some(HookKey::Const(ty));
+    }
+    if let Some(op) = named(&NUM_OPS, name) {
+        return Some(HookKey::Num(op));
+    }
+    if let Some(op) = named(&LOAD_OPS, name) {
+        return Some(HookKey::Load(op));
+    }
+    if let Some(op) = named(&STORE_OPS, name) {
+        return Some(HookKey::Store(op));
+    }
+    None
+}
+
+// The key of one type.
+fn letter_key(name: &str) -> Option<HookKey>
+    ensures { result ≡ first_read letter_readers name.now }
+{
+    if let Some(ty) = type_behind("drop_", name) {
+        return Some(HookKey::Drop(ty));
+    }
+    if let Some(ty) = type_behind("select_", name) {
+        return Some(HookKey::Select(ty));
+    }
+    if let Some(ty) = type_behind("local.get_", name) {
+        return Some(HookKey::Local(VarOp::Get, ty));
+    }
+    if let Some(ty) = type_behind("local.set_", name) {
+        return Some(HookKey::Local(VarOp::Set, ty));
+    }
+    if let Some(ty) = type_behind("local.tee_", name) {
+        return Some(HookKey::Local(VarOp::Tee, ty));
+    }
+    if let Some(ty) = type_behind("global.get_", name) {
+        return Some(HookKey::Global(VarOp::Get, ty));
+    }
+    if let Some(ty) = type_behind("global.set_", name) {
+        return Some(HookKey::Global(VarOp::Set, ty));
+    }
+    None
+}
+
+// The key of a list of types.
+fn types_key(alloc: Global, name: &str) -> Result<Option<HookKey>, NoMemory>
+    ensures { IfOk result (λ found. found ≡ first_read types_readers name.now) }
+{
+    if let Some(types) = types_behind(alloc, "call_pre_", name)? {
+        return Ok(Some(HookKey::CallPre(types)));
+    }
+    if let Some(types) = types_behind(alloc, "call_indirect_pre_", name)? {
+        return Ok(Some(HookKey::IndirectPre(types)));
+    }
+    if let Some(types) = types_behind(alloc, "call_post_", name)? {
+        return Ok(Some(HookKey::CallPost(types)));
+    }
+    if let Some(types) = types_behind(alloc, "return_", name)? {
+        return Ok(Some(HookKey::Return(types)));
+    }
+    Ok(None)
+}
+
+// The one of these with this name.
+fn named<T: HasName>(all: &[T], name: &str) -> Option<T>
+    ensures { result ≡ named T.hook_name all.now name.now }
+{
+    for item in all {
+        if item.hook_name() == name {
+            return Some(*item);
+        }
+    }
+    None
+}
+
+// What stands behind the head.
+fn strip<'a>(head: &str, name: &'a str) -> Option<&'a str>
+    ensures { option_map (λ rest. rest.now) result ≡ strip head.now name.now }
+{
+    name.strip_prefix(head)
+}
+
+fn kind_behind(head: &str, name: &str) -> Option<BlockKind>
+    ensures { result ≡ option_and_then (named kind_name all_kinds) (strip head.now name.now) }
+{
+    match strip(head, name) {
+        Some(rest) => named(&BLOCK_KINDS, rest),
+        None => None,
+    }
+}
+
+fn type_behind(head: &str, name: &str) -> Option<ValType>
+    ensures { result ≡ option_and_then one_type (strip head.now name.now) }
+{
+    match strip(head, name) {
+        Some(rest) => one_type(rest.as_bytes()),
+        None => None,
+    }
+}
+
+fn types_behind(alloc: Global, head: &str, name: &str) -> Result<Option<Seq<ValType>>, NoMemory>
+    ensures { IfOk result (λ types. types ≡ option_and_then types_of (strip head.now name.now)) }
+{
+    match strip(head, name) {
+        Some(rest) => types_of(alloc, rest.as_bytes()),
+        None => Ok(None),
+    }
+}
+
+// The type of a text of one letter.
+fn one_type(letters: &[u8]) -> Option<ValType>
+    ensures { result ≡ one_type letters.now }
+{
+    match letters {
+        [letter] => type_of(*letter),
+        _ => None,
+    }
+}
+
+// The type of each letter.
+fn types_of(alloc: Global, letters: &[u8]) -> Result<Option<Seq<ValType>>, NoMemory>
+    ensures { IfOk result (λ types. types ≡ types_of letters.now) }
+{
+    let mut types = Vec::with_capacity(alloc, letters.len())?;
+    for letter in letters {
+        match type_of(*letter) {
+            Some(ty) => types.push(ty)?,
+            None => return Ok(None),
+        }
+    }
+    Ok(Some(Seq::from_vec(types)))
+}
+
+// The type of a letter.
+fn type_of(letter: u8) -> Option<ValType>
+    ensures { result ≡ type_of letter }
+{
+    match letter {
+        b'i' => Some(ValType::I32),
+        b'l' => Some(ValType::I64),
+        _ => None,
+    }
+}

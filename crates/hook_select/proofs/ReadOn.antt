@@ -1,0 +1,97 @@
+-- A list of names read from the front on.
+use Rattle.std.proofs.Common.{◌≡◌, ℕ, ◌+◌, List, [], ◌∷◌, Bool, true, false, ◌||◌, cond, Option, Some, None, is_none, length, Bor, refl, sym, ap, ◌∙◌}
+use Rattle.std.specs.List.{position_from, cons_option}
+use Rattle.std.specs.Option.{option_map}
+use Rattle.std.proofs.lemmas.Iterator.Adapters.{position_from-zero}
+use Rattle.hook_select.specs.declared.GroupName.{GroupName}
+use Rattle.hook_select.specs.declared.GroupName.TheVariants as groups
+use Rattle.hook_select.specs.declared.Hooks.{Hooks}
+use Rattle.hook_select.specs.Groups.{ListReading, has, hooks_of, group_eq, is_among, group_named, groups_named, reading_of, list_pieces, with_group, more_pieces}
+use Rattle.hook_select.specs.Groups.ListReading.{reads, unknown}
+
+abbrev pub read_next : (place : ℕ) → Option GroupName → (GroupName → ListReading) → ListReading
+read_next place None later = unknown place
+read_next place (Some g) later = later g
+
+-- what names read as, where those before gave this set, and this is the place of the first of them
+abbrev pub rest_reads : (place : ℕ) → Hooks → List (List ℕ) → ListReading
+rest_reads place hooks [] = reads hooks
+rest_reads place hooks (name ∷ names) = read_next place (group_named name) (λ g. rest_reads (place + 1) (with_group hooks g) names)
+
+hooks_alike : (a b : GroupName → Bool) → ((g : GroupName) → a g ≡ b g) → hooks_of a ≡ hooks_of b
+hooks_alike a b same = λ i. hooks_of (λ g. same g i)
+
+has_test : (test : GroupName → Bool) (g : GroupName) → has (hooks_of test) g ≡ test g
+has_test test groups.Start = refl
+has_test test groups.Nop = refl
+has_test test groups.Unreachable = refl
+has_test test groups.If = refl
+has_test test groups.Br = refl
+has_test test groups.BrIf = refl
+has_test test groups.BrTable = refl
+has_test test groups.Begin = refl
+has_test test groups.End = refl
+has_test test groups.Const = refl
+has_test test groups.Unary = refl
+has_test test groups.Binary = refl
+has_test test groups.Drop = refl
+has_test test groups.Select = refl
+has_test test groups.Local = refl
+has_test test groups.Global = refl
+has_test test groups.Load = refl
+has_test test groups.Store = refl
+has_test test groups.MemorySize = refl
+has_test test groups.MemoryGrow = refl
+has_test test groups.Call = refl
+has_test test groups.Return = refl
+
+-- the first place that is unknown, else the set
+ends : Option ℕ → Hooks → ListReading
+ends None hooks = reads hooks
+ends (Some place) hooks = unknown place
+
+or_none : (a : Bool) → a ≡ (a || false)
+or_none true = refl
+or_none false = refl
+
+or_turned : (a b c : Bool) → ((a || b) || c) ≡ (b || (a || c))
+or_turned true true c = refl
+or_turned true false c = refl
+or_turned false true c = refl
+or_turned false false c = refl
+
+read_on : (names : List (List ℕ)) (place : ℕ) (test : GroupName → Bool)
+    → rest_reads place (hooks_of test) names ≡ ends (position_from (λ name. is_none (group_named name)) place names) (hooks_of (λ g. test g || is_among (groups_named names) g))
+unfolding ends
+read_on [] place test = ap reads (hooks_alike test (λ g. test g || false) (λ g. or_none (test g)))
+read_on (name ∷ names) place test = by (group_named name) (read_on names (place + 1))
+  where
+    by : (o : Option GroupName)
+        → ((t : GroupName → Bool) → rest_reads (place + 1) (hooks_of t) names ≡ ends (position_from (λ n. is_none (group_named n)) (place + 1) names) (hooks_of (λ g. t g || is_among (groups_named names) g)))
+        → read_next place o (λ g. rest_reads (place + 1) (with_group (hooks_of test) g) names)
+        ≡ ends (cond (is_none o) (Some place) (position_from (λ n. is_none (group_named n)) (place + 1) names)) (hooks_of (λ g. test g || is_among (cons_option o (groups_named names)) g))
+    by None later = refl
+    by (Some h) later =
+        later (λ g. group_eq h g || has (hooks_of test) g)
+        ∙ ap (ends (position_from (λ n. is_none (group_named n)) (place + 1) names))
+        (hooks_alike (λ g. (group_eq h g || has (hooks_of test) g) || is_among (groups_named names) g) (λ g. test g || (group_eq h g || is_among (groups_named names) g))
+        (λ g. ap (λ b. (group_eq h g || b) || is_among (groups_named names) g) (has_test test g) ∙ or_turned (group_eq h g) (test g) (is_among (groups_named names) g)))
+
+same_end : (o : Option ℕ) (found : List GroupName) → ends o (hooks_of (is_among found)) ≡ reading_of o found
+unfolding ends
+same_end None found = refl
+same_end (Some place) found = refl
+
+pub list_reads : (names : List (List ℕ)) → list_pieces names ≡ rest_reads 0 (hooks_of (λ g. false)) names
+list_reads names =
+    let unnamed : List ℕ → Bool = λ name. is_none (group_named name) in
+    ap (λ o. reading_of o (groups_named names)) (position_from-zero unnamed names) ∙ sym (same_end _ (groups_named names)) ∙ sym (read_on names 0 (λ g. false))
+
+-- one more than the bytes that are left, if there is a piece left
+abbrev pub left : Option (Bor (List ℕ)) → ℕ
+left None = 0
+left (Some text) = 1 + length text.now
+
+-- what is left of a text
+abbrev pub names_left : Option (Bor (List ℕ)) → List (List ℕ)
+names_left rest = more_pieces (option_map (λ text. text.now) rest)
