@@ -1,8 +1,19 @@
 // Values as words, and temporaries.
 #![tactic(auto)]
 
-ghost use Rattle.std.specs.Prelude.{◌≡◌, ◌^◌, ◌<◌};
+ghost use Rattle.std.specs.Prelude.{◌≡◌, ◌^◌, ◌<◌, ◌++◌, IfOk, OnOk};
 
+mod pushing;
+mod saving;
+#[cfg(test)]
+mod tests;
+mod words;
+
+pub use crate::pushing::push_each;
+pub use crate::saving::{push_gets, push_sets, save, save_in};
+pub use crate::words::{push_value, push_values};
+use module_ast::module::Group;
+use std::alloc::{AllocError, Global};
 use wasm_num::ValType;
 
 /// The temporaries of a body: from local `base` on, first `ints` of type i32, then `longs` of type i64.
@@ -13,8 +24,16 @@ pub struct Pool {
     pub longs: u32,
 }
 
+/// A temporary: its type, and its number among the locals.
+#[derive(Clone, Copy, Debug, PartialEq, Eq)]
+pub struct Temp {
+    pub ty: ValType,
+    pub local: u32,
+}
+
 impl Pool {
-    ghost use Rattle.i64_split.specs.Split.{pool_local};
+    ghost use Rattle.i64_split.specs.Pushing.{AddsPrefix};
+    ghost use Rattle.i64_split.specs.Split.{pool_local, pool_groups, temps_from, HasTemps};
 
     /// The local that is temporary `k` of its type.
     pub fn local(&self, ty: ValType, k: u32) -> u32
@@ -25,5 +44,57 @@ impl Pool {
             ValType::I32 => self.base + k,
             ValType::I64 => self.base + self.ints + k,
         }
+    }
+
+    /// Temporaries of these types, all at once: the first i32 is temporary `skip` of its type, the first i64 temporary 0.
+    /// An `Err` comes where there is no memory.
+    pub fn temps(
+        &self,
+        alloc: Global,
+        types: &[ValType],
+        skip: u32,
+    ) -> Result<Vec<Temp>, AllocError>
+        requires { HasTemps self.now skip types.now }
+        ensures { IfOk result (λ temps. temps.items ≡ temps_from self.now skip 0 types.now) }
+    {
+        let mut temps = Vec::with_capacity(alloc, types.len())?;
+        let mut ints = skip;
+        let mut longs = 0;
+        for ty in types {
+            match ty {
+                ValType::I32 => {
+                    let local = self.local(*ty, ints);
+                    temps.push(Temp { ty: *ty, local })?;
+                    ints += 1;
+                }
+                ValType::I64 => {
+                    let local = self.local(*ty, longs);
+                    temps.push(Temp { ty: *ty, local })?;
+                    longs += 1;
+                }
+            }
+        }
+        Ok(temps)
+    }
+
+    /// Adds the groups of locals that the temporaries are: those of type i32, then those of type i64, each where there are
+    /// any. An `Err` comes where there is no memory; the first group may stand there then.
+    pub fn push_groups(&self, groups: &mut Vec<Group>) -> Result<(), AllocError>
+        ensures added { OnOk result (groups.new.items ≡ groups.old.items ++ pool_groups self.now) }
+        ensures prefix { AddsPrefix groups.old.items groups.new.items (pool_groups self.now) }
+    {
+        if self.ints > 0 {
+            groups.push(Group {
+                count: self.ints,
+                ty: ValType::I32,
+            })?;
+        }
+        if self.longs > 0 {
+            groups.push(Group {
+                count: self.longs,
+                ty: ValType::I64,
+            })?;
+        }
+        Ok(())
     }
 }

@@ -18,10 +18,11 @@ use Rattle.hook_mono.specs.Keys.{is_wanted, with_key, distinct_keys}
 use Rattle.hook_mono.specs.Needed.{Site, site_of, live_keys, wanted_keys, needed_keys}
 use Rattle.wasm_sem.specs.Link.{hook_module}
 use Rattle.rewrite.specs.Setting.{Setting}
-use Rattle.rewrite.specs.Temporaries.{place_temps, body_temps, greatest, ints_in, longs_in}
+use Rattle.rewrite.specs.Temporaries.{place_temps, body_temps, greatest}
 use Rattle.rewrite.specs.Rewrite.{live_code, rewritten_body}
 use Rattle.instrument.specs.Nops.{nops, nop_module, no_groups, nop_group}
 use Rattle.hook_mono.specs.Texts.{hook_text}
+use Rattle.i64_split.specs.Split.{ints_in, longs_in}
 use Rattle.instrument.specs.Output.{hook_module_text, output, output_with}
 
 -- nops, the first of them at p, each behind its hook call

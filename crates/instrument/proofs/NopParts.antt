@@ -13,7 +13,8 @@ use Rattle.module_ast.specs.Canonical.{func_type_bytes, import_bytes, export_byt
 use Rattle.wasm_num.specs.declared.ValType.{ValType}
 use Rattle.hook_select.specs.declared.Hooks.{Hooks}
 use Rattle.hook_mono.specs.Needed.{Site}
-use Rattle.rewrite.specs.Temporaries.{pool_groups, greatest, ints_in, longs_in}
+use Rattle.i64_split.specs.Split.{pool_groups, ints_in, longs_in}
+use Rattle.rewrite.specs.Temporaries.{greatest}
 use Rattle.rewrite.specs.Rewrite.{rewritten_body}
 use Rattle.rewrite.specs.Nops.{IsFirst, nop_keys, nop_setting, nops_rewritten}
 use Rattle.rewrite.proofs.Lengths.{unsigned_five, sized_length, section_length, rewritten_length}
