@@ -1,6 +1,7 @@
 pub mod Compare
 pub mod Computed
 pub mod Exact
+pub mod Few
 pub mod Judged
 pub mod Live
 pub mod Moves

@@ -89,4 +89,11 @@ impl HookTable {
     {
         self.keys.as_slice()
     }
+
+    /// The keys, in order, as a list of their own. An `Err` comes where there is no memory for it.
+    pub fn into_keys(self, alloc: Global) -> Result<Vec<HookKey>, NoMemory>
+        ensures { IfOk result (λ keys. keys.items ≡ self) }
+    {
+        self.keys.into_iter().collect(alloc)
+    }
 }

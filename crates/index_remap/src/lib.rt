@@ -1,7 +1,10 @@
 // Function indices with the hooks put behind the imports.
 #![tactic(auto)]
 
+mod code;
+mod copies;
 pub mod laws;
+mod modules;
 
 ghost use Rattle.std.specs.Prelude.{◌≡◌, ◌+◌, ◌^◌, ◌<◌};
 

@@ -3,6 +3,5 @@ pub mod Checked
 pub mod Counted
 pub mod Crosses
 pub mod Each
-pub mod Few
 pub mod Firsts
 pub mod Initial

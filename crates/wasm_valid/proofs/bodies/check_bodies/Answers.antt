@@ -1,8 +1,7 @@
 use Rattle.std.proofs.Common.{◌∙◌, ap, length, arith}
 use Rattle.module_ast.specs.declared.spaces.Counts.{Counts}
 use Rattle.module_ast.specs.Spaces.{SpaceTable}
-use Rattle.wasm_valid.proofs.Few.{entries_fit}
-use Rattle.wasm_valid.proofs.Counted.{imported_few}
+use Rattle.code_valid.proofs.Few.{entries_fit, imported_few}
 use Rattle.wasm_valid.proofs.Checked.{checked_more, checked_all}
 use Rattle.wasm_valid.proofs.bodies.check_bodies.Goals as goal
 

@@ -1,4 +1,4 @@
--- A module has fewer entries than canonical bytes.
+-- A module has fewer entries than canonical bytes, and no more functions are imported than there are imports.
 use Rattle.std.proofs.Common.{◌≡◌, ℕ, suc, zero, ◌+◌, ◌/◌, ◌%◌, ◌≤◌, Bool, true, false, List, [], ◌∷◌, ◌++◌, length, length-append, arith}
 use Rattle.std.specs.Prelude.{nat_lt, Option, Some, None}
 use Rattle.module_ast.specs.declared.module.Range.{Range}
@@ -9,6 +9,7 @@ use Rattle.module_ast.specs.declared.module.Import.{Import}
 use Rattle.module_ast.specs.declared.module.Module.{Module}
 use Rattle.leb_binary.specs.Shortest.{unsigned_within, unsigned_bytes}
 use Rattle.module_ast.specs.Grammar.{header}
+use Rattle.module_ast.specs.Spaces.{imported_funcs}
 use Rattle.module_ast.specs.Limits.{IsWhole}
 use Rattle.module_ast.specs.Canonical.{items_bytes, vec_bytes, sized_bytes, vec_section, start_bytes, module_bytes, func_type_bytes, import_bytes, item_bytes, table_bytes, limits_bytes, global_bytes, export_bytes, element_bytes, body_bytes, segment_bytes}
 
@@ -73,3 +74,13 @@ entries_few m =
 -- in a whole module
 pub entries_fit : (m : Module) → IsWhole m → entries m ≤ 268435456
 entries_fit m w = omega (arith, entries_few m, w.size)
+
+imported_one : (i : Import) (item : Item) (is : List Import) → length (imported_funcs is) ≤ length is → (let j = record i { item = item } in length (imported_funcs (j ∷ is)) ≤ length (j ∷ is))
+imported_one i (items.Func ty) is h = omega arith
+imported_one i (items.Table r) is h = omega arith
+imported_one i (items.Memory r) is h = omega arith
+imported_one i (items.Global g) is h = omega arith
+
+pub imported_few : (is : List Import) → length (imported_funcs is) ≤ length is
+imported_few [] = omega arith
+imported_few (i ∷ is) = imported_one i i.item is (imported_few is)

@@ -1,0 +1,118 @@
+// Modules with their references to functions remapped.
+
+ghost use Rattle.std.specs.Prelude.{◌≡◌, All, IfOk, map, option_map};
+ghost use Rattle.std.specs.Option.{ForSome};
+ghost use Rattle.module_ast.specs.declared.module.Element.{Element};
+ghost use Rattle.module_ast.specs.declared.module.Export.{Export};
+ghost use Rattle.index_remap.specs.Remap.{map_index, map_reference, map_export, map_element, map_module, MapsIndex, MapsReference, MapsModule};
+
+use crate::Remap;
+use crate::copies::{
+    copy_code, copy_globals, copy_imports, copy_list, copy_name, copy_names, copy_segments,
+    copy_types,
+};
+use module_ast::module::{Element, Export, ExportKind, Module};
+use module_ast::seq::Seq;
+use std::alloc::{AllocError, Global};
+
+impl Remap {
+    fn map_reference(&self, kind: ExportKind, index: u32) -> u32
+        requires { MapsReference self.now kind index }
+        ensures { result ≡ map_reference self.now kind index }
+    {
+        match kind {
+            ExportKind::Func => self.map(index),
+            ExportKind::Table => index,
+            ExportKind::Memory => index,
+            ExportKind::Global => index,
+        }
+    }
+
+    fn map_export(&self, alloc: Global, export: &Export) -> Result<Export, AllocError>
+        requires { MapsReference self.now export.now.kind export.now.index }
+        ensures { IfOk result (λ copy. copy ≡ map_export self.now export.now) }
+    {
+        let name = copy_name(alloc, &export.name)?;
+        let kind = export.kind;
+        let index = self.map_reference(kind, export.index);
+        Ok(Export { name, kind, index })
+    }
+
+    fn map_exports(&self, alloc: Global, exports: &[Export]) -> Result<Seq<Export>, AllocError>
+        requires { All (λ (e : Export). MapsReference self.now e.kind e.index) exports.now }
+        ensures { IfOk result (λ copies. copies ≡ map (map_export self.now) exports.now) }
+    {
+        let mut copies = Vec::with_capacity(alloc, exports.len())?;
+        for export in exports {
+            copies.push(self.map_export(alloc, export)?)?;
+        }
+        Ok(Seq::from_vec(copies))
+    }
+
+    fn map_start(&self, start: Option<u32>) -> Option<u32>
+        requires { ForSome start (MapsIndex self.now) }
+        ensures { result ≡ option_map (map_index self.now) start }
+    {
+        match start {
+            None => None,
+            Some(func) => Some(self.map(func)),
+        }
+    }
+
+    fn map_funcs(&self, alloc: Global, funcs: &[u32]) -> Result<Seq<u32>, AllocError>
+        requires { All (MapsIndex self.now) funcs.now }
+        ensures { IfOk result (λ copies. copies ≡ map (map_index self.now) funcs.now) }
+    {
+        let mut copies = Vec::with_capacity(alloc, funcs.len())?;
+        for func in funcs {
+            copies.push(self.map(*func))?;
+        }
+        Ok(Seq::from_vec(copies))
+    }
+
+    fn map_element(&self, alloc: Global, element: &Element) -> Result<Element, AllocError>
+        requires { All (MapsIndex self.now) element.now.funcs }
+        ensures { IfOk result (λ copy. copy ≡ map_element self.now element.now) }
+    {
+        let offset = copy_code(alloc, &element.offset)?;
+        let funcs = self.map_funcs(alloc, element.funcs.as_slice())?;
+        Ok(Element {
+            table: element.table,
+            offset,
+            funcs,
+        })
+    }
+
+    fn map_elements(&self, alloc: Global, elements: &[Element]) -> Result<Seq<Element>, AllocError>
+        requires { All (λ (e : Element). All (MapsIndex self.now) e.funcs) elements.now }
+        ensures { IfOk result (λ copies. copies ≡ map (map_element self.now) elements.now) }
+    {
+        let mut copies = Vec::with_capacity(alloc, elements.len())?;
+        for element in elements {
+            copies.push(self.map_element(alloc, element)?)?;
+        }
+        Ok(Seq::from_vec(copies))
+    }
+
+    /// A copy of the module without its bodies, in which exports, elements and start name the functions of the output. All
+    /// else is as it was. An `Err` comes where there is no memory.
+    pub fn map_module(&self, alloc: Global, m: &Module) -> Result<Module, AllocError>
+        requires { MapsModule self.now m.now }
+        ensures { IfOk result (λ copy. copy ≡ map_module self.now m.now) }
+    {
+        Ok(Module {
+            types: copy_types(alloc, m.types.as_slice())?,
+            imports: copy_imports(alloc, m.imports.as_slice())?,
+            funcs: copy_list(alloc, &m.funcs)?,
+            tables: copy_list(alloc, &m.tables)?,
+            memories: copy_list(alloc, &m.memories)?,
+            globals: copy_globals(alloc, m.globals.as_slice())?,
+            exports: self.map_exports(alloc, m.exports.as_slice())?,
+            start: self.map_start(m.start),
+            elements: self.map_elements(alloc, m.elements.as_slice())?,
+            bodies: Seq::from_vec(Vec::new(alloc)),
+            segments: copy_segments(alloc, m.segments.as_slice())?,
+            customs: copy_names(alloc, m.customs.as_slice())?,
+        })
+    }
+}

@@ -1,0 +1,15 @@
+-- Marks in rising order.
+use Rattle.std.specs.Prelude.{ℕ, ◌+◌, ◌≤◌, ◌==◌, List, [], ◌∷◌, Option, None, Some, cond}
+use Rattle.wasm_num.specs.declared.ValType.{ValType}
+use Rattle.wasm_num.specs.declared.ValType.TheVariants.{I32}
+use Rattle.module_ast.specs.Marks.{Mark}
+
+-- each stands behind the one before it, and the first at p or behind it
+abbrev pub RiseFrom : (p : ℕ) → List Mark → Type 0
+RiseFrom p [] = Unit {0}
+RiseFrom p (m ∷ ms) = (p ≤ m.place) × RiseFrom (m.place + 1) ms
+
+-- the type of this mark at a position
+abbrev pub type_in : Option Mark → (x : ℕ) → ValType
+type_in None x = I32
+type_in (Some m) x = cond (m.place == x) m.ty I32

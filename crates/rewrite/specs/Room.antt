@@ -1,0 +1,54 @@
+-- How many temporaries of each type the templates of a body need at most, place by place.
+use Rattle.std.specs.Prelude.{ℕ, ◌+◌, ℤ, nat_abs, List, [], ◌∷◌, Bool, Option, None, Some, fold, max}
+use Rattle.wasm_num.specs.declared.ValType.{ValType}
+use Rattle.wasm_num.specs.declared.ValType.TheVariants.{I32, I64}
+use Rattle.module_ast.specs.declared.code.Instr.{Instr}
+use Rattle.module_ast.specs.Lists.{when}
+use Rattle.module_ast.specs.Plains.{plain_of}
+use Rattle.module_ast.specs.Tree.{Plain}
+use Rattle.branch_resolve.specs.declared.place.Opcode.{Opcode}
+use Rattle.branch_resolve.specs.declared.place.Opcode.TheVariants.{Enters, Acts, Opens, Alternates, Closes}
+use Rattle.hook_select.specs.declared.Hooks.{Hooks}
+use Rattle.hook_mono.specs.Needed.{Site}
+use Rattle.rewrite.specs.Temporaries.{ints_in, longs_in, plain_temps, open_temps, close_temps}
+use Rattle.rewrite.specs.declared.pool.Room.{Room}
+
+-- for these at once
+abbrev pub room_for : List ValType → Room
+room_for types = record { ints = ints_in types; longs = longs_in types }
+
+-- with one more
+abbrev pub with_one : Room → ValType → Room
+with_one r I32 = record r { ints = r.ints + 1 }
+with_one r I64 = record r { longs = r.longs + 1 }
+
+-- enough for both
+abbrev pub wider : Room → Room → Room
+wider r more = record { ints = max r.ints more.ints; longs = max r.longs more.longs }
+
+-- enough for each of these
+abbrev pub widened : Room → List (List ValType) → Room
+widened r lists = fold (λ r types. wider r (room_for types)) r lists
+
+abbrev pub no_room : Room
+no_room = record { ints = 0; longs = 0 }
+
+-- where they are wanted
+abbrev pub widened_where : Bool → Room → List ValType → Room
+widened_where wanted r types = widened r (when wanted (types ∷ []))
+
+-- ---- a place
+
+abbrev pub temps_of : Hooks → Site → (p : ℕ) → Option Plain → List (List ValType)
+temps_of hooks s p None = []
+temps_of hooks s p (Some i) = plain_temps hooks s p i
+
+abbrev pub instr_temps : Hooks → Site → (p : ℕ) → Instr → List (List ValType)
+instr_temps hooks s p i = temps_of hooks s p (plain_of i)
+
+abbrev pub temps_at : Hooks → Site → (p : ℤ) → Opcode → List (List ValType)
+temps_at hooks s p Enters = []
+temps_at hooks s p (Acts i) = instr_temps hooks s (nat_abs p) i.now
+temps_at hooks s p (Opens b) = open_temps hooks b.kind
+temps_at hooks s p (Alternates a b live) = []
+temps_at hooks s p (Closes b) = close_temps hooks s b.kind
