@@ -51,15 +51,15 @@ fn note_sizes(code: &Code, sizes: &mut Vec<u32>) -> Result<u32, AllocError>
     Ok(size)
 }
 
-// The size of a sequence, and those of the blocks in it.
+/// The size of a sequence, and those of the blocks in it.
 #[derive(Debug, Drop)]
 pub struct Sizes {
     pub whole: u32,
     pub inside: Vec<u32>,
 }
 
-// The size of the code, and those of the blocks in it in the order of their opcodes: how many positions stand between
-// the opcode and its end. An `if` has two with an `else`.
+/// The size of the code, and those of the blocks in it in the order of their opcodes: how many positions stand between
+/// the opcode and its end. An `if` has two with an `else`. An `Err` comes where there is no memory.
 pub fn sizes_of(alloc: Global, code: &Code) -> Result<Sizes, AllocError>
     requires few { code_size code.now + 1 ≤ 268435456 }
     requires flat { code_nesting code.now ≤ 1002 }

@@ -1,7 +1,10 @@
 // What holds of keys and their types.
 
+ghost use Rattle.module_ast.specs.declared.module.Module.{Module};
+ghost use Rattle.hook_select.specs.declared.Hooks.{Hooks};
 ghost use Rattle.hook_mono.specs.Keys.{KeysDiffer};
 ghost use Rattle.hook_mono.specs.Names.{NamesDiffer, NamesLeadBack};
+ghost use Rattle.hook_mono.specs.Needed.{NeedsJoin};
 
 use crate::{HookKey, HookTable};
 
@@ -14,6 +17,11 @@ pub fn names_differ()
 /// Keys that are found equal are one key.
 pub fn keys_differ()
     ensures { KeysDiffer }
+{}
+
+/// The keys that the bodies of a module need, joined in the order of its functions, are those that the module needs.
+pub fn needs_join()
+    ensures { (m : Module) (hooks : Hooks) → NeedsJoin m hooks }
 {}
 
 /// A key may go to other threads, and several may read one at once.

@@ -2,7 +2,7 @@
 use Rattle.std.proofs.Common.{◌≡◌, ℕ, ◌+◌, List, [], ◌∷◌, ◌++◌, map, Bool, true, ◌&&◌, refl, sym, subst, append_assoc}
 use Rattle.wasm_num.specs.declared.BlockKind.{BlockKind}
 use Rattle.wasm_num.specs.declared.BlockKind.TheVariants as kinds
-use Rattle.module_ast.specs.Positions.{Scope, function_scope, block_scope, loop_scope, if_scope, then_scope, else_scope, Opcode, enters, acts, opens, alternates, closes, Place, at, ends_live, goes_on, code_places, places}
+use Rattle.module_ast.specs.Positions.{Scope, function_scope, block_scope, loop_scope, if_scope, then_scope, else_scope, Opcode, enters, opens, alternates, closes, Place, at, ends_live, goes_on, code_places, places}
 use Rattle.module_ast.specs.Tree.{Tree, done, plain, block, loop, if_then, if_else}
 
 abbrev pub kinds_of : List Scope → List BlockKind
@@ -41,29 +41,39 @@ code_chained scopes live p done rest h = h
 code_chained scopes live p (plain i k) rest h = (refl, code_chained scopes (live && goes_on i) (p + 1) k rest h)
 code_chained scopes live p (block ty body k) rest h =
     let s = block_scope p body in
-    let behind = at s.end (ends_live live body) (closes s) scopes ∷ code_places scopes live (s.end + 1) k in
-    (refl, regrouped (s.kind ∷ kinds_of scopes) (code_places (s ∷ scopes) live (p + 1) body) behind rest
-    (code_chained (s ∷ scopes) live (p + 1) body (behind ++ rest) (refl, code_chained scopes live (s.end + 1) k rest h)))
+    let behind = at s.end (ends_live live body) (closes s) scopes ∷ code_places scopes live (s.end + 1) k in (
+      refl,
+      regrouped (s.kind ∷ kinds_of scopes) (code_places (s ∷ scopes) live (p + 1) body) behind rest
+          (code_chained (s ∷ scopes) live (p + 1) body (behind ++ rest) (refl, code_chained scopes live (s.end + 1) k rest h)),
+    )
 code_chained scopes live p (loop ty body k) rest h =
     let s = loop_scope p body in
-    let behind = at s.end (ends_live live body) (closes s) scopes ∷ code_places scopes live (s.end + 1) k in
-    (refl, regrouped (s.kind ∷ kinds_of scopes) (code_places (s ∷ scopes) live (p + 1) body) behind rest
-    (code_chained (s ∷ scopes) live (p + 1) body (behind ++ rest) (refl, code_chained scopes live (s.end + 1) k rest h)))
+    let behind = at s.end (ends_live live body) (closes s) scopes ∷ code_places scopes live (s.end + 1) k in (
+      refl,
+      regrouped (s.kind ∷ kinds_of scopes) (code_places (s ∷ scopes) live (p + 1) body) behind rest
+          (code_chained (s ∷ scopes) live (p + 1) body (behind ++ rest) (refl, code_chained scopes live (s.end + 1) k rest h)),
+    )
 code_chained scopes live p (if_then ty body k) rest h =
     let s = if_scope p body in
-    let behind = at s.end (ends_live live body) (closes s) scopes ∷ code_places scopes live (s.end + 1) k in
-    (refl, regrouped (s.kind ∷ kinds_of scopes) (code_places (s ∷ scopes) live (p + 1) body) behind rest
-    (code_chained (s ∷ scopes) live (p + 1) body (behind ++ rest) (refl, code_chained scopes live (s.end + 1) k rest h)))
+    let behind = at s.end (ends_live live body) (closes s) scopes ∷ code_places scopes live (s.end + 1) k in (
+      refl,
+      regrouped (s.kind ∷ kinds_of scopes) (code_places (s ∷ scopes) live (p + 1) body) behind rest
+          (code_chained (s ∷ scopes) live (p + 1) body (behind ++ rest) (refl, code_chained scopes live (s.end + 1) k rest h)),
+    )
 code_chained scopes live p (if_else ty body other k) rest h =
     let a = then_scope p body other in
     let b = else_scope p body other in
     let last = at b.end (ends_live live other) (closes b) scopes ∷ code_places scopes live (b.end + 1) k in
     let two = code_places (b ∷ scopes) live (a.end + 1) other ++ last in
-    let behind = at a.end live (alternates a b (ends_live live body)) scopes ∷ two in
-    (refl, regrouped (a.kind ∷ kinds_of scopes) (code_places (a ∷ scopes) live (p + 1) body) behind rest
-    (code_chained (a ∷ scopes) live (p + 1) body (behind ++ rest)
-    (refl, regrouped (b.kind ∷ kinds_of scopes) (code_places (b ∷ scopes) live (a.end + 1) other) last rest
-    (code_chained (b ∷ scopes) live (a.end + 1) other (last ++ rest) (refl, code_chained scopes live (b.end + 1) k rest h)))))
+    let behind = at a.end live (alternates a b (ends_live live body)) scopes ∷ two in (
+      refl,
+      regrouped (a.kind ∷ kinds_of scopes) (code_places (a ∷ scopes) live (p + 1) body) behind rest
+          (code_chained (a ∷ scopes) live (p + 1) body (behind ++ rest) (
+            refl,
+            regrouped (b.kind ∷ kinds_of scopes) (code_places (b ∷ scopes) live (a.end + 1) other) last rest
+                (code_chained (b ∷ scopes) live (a.end + 1) other (last ++ rest) (refl, code_chained scopes live (b.end + 1) k rest h)),
+          )),
+    )
 
 -- the places of a body begin inside no block
 pub places_chained : (code : Tree) → AreChained [] (places code)

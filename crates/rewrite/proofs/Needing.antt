@@ -2,8 +2,7 @@
 --     PlaceAdded, place_added      what a place adds, and the open blocks behind it
 --     IsUnderway, underway_first, underway_next, underway_last      the table on the way over the places
 --     few_added      how much it adds at most
---     EndsMore, ends_more, ends_over      one of the blocks that a branch leaves, and none
-use Rattle.std.proofs.Common.{◌≡◌, inl, inr, ℕ, zero, suc, ◌+◌, ◌-◌, ◌*◌, ◌<◌, ◌≤◌, ℤ, nat_abs, List, [], ◌∷◌, ◌++◌, length, map, take, fold, Bool, true, false, cond, Option, Some, None, leb, leb-true, refl, sym, ap, ap₂, ◌∙◌, subst, subst₂, flat_map, append-nil, length-append, min, arith}
+use Rattle.std.proofs.Common.{◌≡◌, inl, ℕ, zero, suc, ◌+◌, ◌-◌, ◌*◌, ◌≤◌, ℤ, nat_abs, List, [], ◌∷◌, ◌++◌, length, take, Bool, true, false, cond, Option, Some, None, leb, refl, sym, ap, ap₂, ◌∙◌, subst, subst₂, flat_map, append-nil, length-append, min, arith}
 use Rattle.std.proofs.lemmas.List.{take_min, take_all, length-map}
 use Rattle.std.proofs.lemmas.List.Sums.{fold-append}
 use Rattle.wasm_num.specs.declared.BlockKind.{BlockKind}
@@ -12,7 +11,7 @@ use Rattle.module_ast.specs.Lists.{when}
 use Rattle.module_ast.specs.Plains.{plain_of}
 use Rattle.module_ast.specs.Positions as positions
 use Rattle.module_ast.specs.Positions.{Scope, function_scope, at, closes, ends_live, code_places, code_size, places}
-use Rattle.module_ast.specs.Tree.{Tree, Plain, unreachable, nop, br, br_if, br_table, return_, call, call_indirect, drop_, select, local_get, local_set, local_tee, global_get, global_set, load, store, memory_size, memory_grow, i32_const, i64_const, num}
+use Rattle.module_ast.specs.Tree.{Tree, Plain, br, br_if, return_}
 use Rattle.branch_resolve.specs.Scopes.{block_of, blocks_around}
 use Rattle.branch_resolve.specs.Walks.{IsOpcodeOf, IsPlaceOf}
 use Rattle.branch_resolve.specs.declared.Block.{Block}
@@ -27,7 +26,7 @@ use Rattle.hook_mono.specs.Needed as needed
 use Rattle.hook_mono.specs.Needed.{Site, end_keys, plain_keys, open_keys, close_keys, place_keys, live_keys}
 use Rattle.rewrite.specs.declared.needs.OpenBlock.{OpenBlock}
 use Rattle.rewrite.specs.declared.needs.Needs.{Needs}
-use Rattle.rewrite.specs.Needing.{with_wanted, with_each_wanted, with_needed, own_keys, instr_keys, opcode_keys, kept_of, kept_by, kept_at, first_left, rest_left, all_left, with_ends, after_branch, kind_opened, with_block, out_to, after_live, after_opcode, into_block, after_place}
+use Rattle.rewrite.specs.Needing.{with_wanted, with_each_wanted, own_keys, opcode_keys, kept_of, kept_at, rest_left, all_left, with_ends, kind_opened, with_block, out_to, after_live, into_block, after_place}
 use Rattle.wasm_sem.proofs.Placed.{places_length}
 use Rattle.rewrite.proofs.Known.{wanted_each, few_more, few_each}
 use Rattle.rewrite.proofs.Unended.{AreUnended, ends_of, entry_of, leave_none, leave_one, unended_each, left_ends, branched}
@@ -238,55 +237,6 @@ few_added s d y n = go y.live
         )
     go false = omega (arith, rest_few d n.stack, block_few d (kind_opened y.opcode) (rest_left d n.stack))
 
--- ---- the blocks that a branch leaves, one by one
-
-pub record EndsMore (hooks : Hooks) (kept : ℕ) (stack : List OpenBlock) (table : List HookKey) (kind : BlockKind) : Type 0 where
-  pub told : with_ends hooks kept (rest_left kept stack) (with_wanted hooks table (keys.End kind)) ≡ with_ends hooks kept stack table
-  pub left : all_left kept (rest_left kept stack) ≡ all_left kept stack
-  pub fewer : suc (length (rest_left kept stack)) ≡ length stack
-
--- whether the innermost block is left
-left_if : (kept : ℕ) (b : OpenBlock) (bs : List OpenBlock) (o : Option BlockKind) → first_left kept (b ∷ bs) ≡ o → (c : Bool) → leb kept b.around ≡ c → cond c (Some b.kind) None ≡ o
-left_if kept b bs o e c h = sym (ap (λ c. cond c (Some b.kind) None) h) ∙ e
-
-pub ends_more : (hooks : Hooks) (kept : ℕ) (stack : List OpenBlock) (table : List HookKey) (kind : BlockKind) → first_left kept stack ≡ Some kind → EndsMore hooks kept stack table kind
-ends_more hooks kept [] table kind e = cc
-ends_more hooks kept (b ∷ bs) table kind e = go (leb kept b.around) refl
-  where
-    go : (c : Bool) → leb kept b.around ≡ c → EndsMore hooks kept (b ∷ bs) table kind
-    go true h =
-        let left : rest_left kept (b ∷ bs) ≡ bs = ap (λ c. cond c bs (b ∷ bs)) h in
-        let all : all_left kept (b ∷ bs) ≡ all_left kept bs = ap (λ c. cond c (all_left kept bs) (b ∷ bs)) h in
-        let found = left_if kept b bs (Some kind) e true h in
-        let is : b.kind ≡ kind = cc in
-        let told : with_ends hooks kept (b ∷ bs) table ≡ with_ends hooks kept bs (with_wanted hooks table (keys.End b.kind)) = ap (λ c. cond c (with_ends hooks kept bs (with_wanted hooks table (keys.End b.kind))) table) h in
-        record {
-          told =
-              ap (λ xs. with_ends hooks kept xs (with_wanted hooks table (keys.End kind))) left
-              ∙ ap (λ k. with_ends hooks kept bs (with_wanted hooks table (keys.End k))) (sym is)
-              ∙ sym told;
-          left = ap (all_left kept) left ∙ sym all;
-          fewer = ap (λ xs. suc (length xs)) left;
-        }
-    go false h = let found = left_if kept b bs (Some kind) e false h in cc
-
-pub record EndsOver (hooks : Hooks) (kept : ℕ) (stack : List OpenBlock) (table : List HookKey) : Type 0 where
-  pub told : with_ends hooks kept stack table ≡ table
-  pub left : all_left kept stack ≡ stack
-  pub same : rest_left kept stack ≡ stack
-
-pub ends_over : (hooks : Hooks) (kept : ℕ) (stack : List OpenBlock) (table : List HookKey) → first_left kept stack ≡ None → EndsOver hooks kept stack table
-ends_over hooks kept [] table e = record { told = refl; left = refl; same = refl }
-ends_over hooks kept (b ∷ bs) table e = go (leb kept b.around) refl
-  where
-    go : (c : Bool) → leb kept b.around ≡ c → EndsOver hooks kept (b ∷ bs) table
-    go true h = let found = left_if kept b bs None e true h in cc
-    go false h = record {
-      told = ap (λ c. cond c (with_ends hooks kept bs (with_wanted hooks table (keys.End b.kind))) table) h;
-      left = ap (λ c. cond c (all_left kept bs) (b ∷ bs)) h;
-      same = ap (λ c. cond c bs (b ∷ bs)) h;
-    }
-
 -- ---- all places
 
 -- no place but the entry and the last `end` stands beside the opcodes
@@ -336,4 +286,3 @@ underway_next hooks s n x left y d is e h =
 
 pub underway_last : (hooks : Hooks) (s : Site) (n : Needs) (left : List positions.Place) → left ≡ [] → IsUnderway hooks s n left → n.table ≡ needed.needs_of hooks s
 underway_last hooks s n left e h = sym (ap (λ xs. with_each_wanted hooks n.table (flat_map (live_keys s) xs)) e) ∙ h.rest
-

@@ -1,8 +1,8 @@
 -- Place by place the room becomes what the templates of a body need.
---     room_behind, counts_all      values in a row
+--     room_behind      one value more
 --     widened_more, widened_greatest      lists of values in a row
 --     IsMeasured, measured_next, measured_last      the room on the way over the places
-use Rattle.std.proofs.Common.{◌≡◌, ℕ, ◌+◌, ◌≤◌, ℤ, nat_abs, List, [], ◌∷◌, ◌++◌, length, fold, flat_map, max, Bool, true, false, Option, Some, None, refl, sym, ap, ap₂, ◌∙◌, subst, arith}
+use Rattle.std.proofs.Common.{◌≡◌, ℕ, ℤ, nat_abs, List, [], ◌∷◌, ◌++◌, flat_map, max, sym, ap, ap₂, ◌∙◌, arith}
 use Rattle.std.proofs.lemmas.List.Sums.{fold-append}
 use Rattle.wasm_num.specs.declared.ValType.{ValType}
 use Rattle.wasm_num.specs.declared.ValType.TheVariants.{I32, I64}
@@ -15,34 +15,21 @@ use Rattle.branch_resolve.specs.declared.place.Opcode.{Opcode}
 use Rattle.branch_resolve.specs.declared.place.Opcode.TheVariants.{Enters, Acts, Opens, Alternates, Closes}
 use Rattle.hook_select.specs.declared.Hooks.{Hooks}
 use Rattle.hook_mono.specs.Needed.{Site}
-use Rattle.rewrite.specs.Temporaries.{ints_in, longs_in, greatest, opcode_temps, place_temps, body_temps}
+use Rattle.i64_split.specs.Split.{ints_in, longs_in}
+use Rattle.i64_split.proofs.Temporaries.{ints_in-push_int, ints_in-push_long, longs_in-push_int, longs_in-push_long}
+use Rattle.rewrite.specs.Temporaries.{greatest, opcode_temps, place_temps, body_temps}
 use Rattle.rewrite.specs.declared.pool.Room.{Room}
 use Rattle.rewrite.specs.Room.{room_for, with_one, wider, widened, no_room, temps_of, temps_at}
 
 -- ---- values in a row
-
-ints_more : (ts us : List ValType) → ints_in (ts ++ us) ≡ ints_in ts + ints_in us
-ints_more [] us = omega arith
-ints_more (I32 ∷ ts) us = let h = ints_more ts us in omega arith
-ints_more (I64 ∷ ts) us = ints_more ts us
-
-longs_more : (ts us : List ValType) → longs_in (ts ++ us) ≡ longs_in ts + longs_in us
-longs_more [] us = omega arith
-longs_more (I32 ∷ ts) us = longs_more ts us
-longs_more (I64 ∷ ts) us = let h = longs_more ts us in omega arith
 
 same_room : (a b c d : ℕ) → a ≡ c → b ≡ d → (let r : Room = record { ints = a; longs = b } in let s : Room = record { ints = c; longs = d } in r ≡ s)
 same_room a b c d e f = λ i. record { ints = e i; longs = f i }
 
 -- one behind the others
 pub room_behind : (ts : List ValType) (t : ValType) → with_one (room_for ts) t ≡ room_for (ts ++ t ∷ [])
-room_behind ts I32 = same_room _ _ _ _ (sym (ints_more ts (I32 ∷ []))) (let h = longs_more ts (I32 ∷ []) in omega arith)
-room_behind ts I64 = same_room _ _ _ _ (let h = ints_more ts (I64 ∷ []) in omega arith) (sym (longs_more ts (I64 ∷ [])))
-
-pub counts_all : (ts : List ValType) → ints_in ts + longs_in ts ≡ length ts
-counts_all [] = omega arith
-counts_all (I32 ∷ ts) = let h = counts_all ts in omega arith
-counts_all (I64 ∷ ts) = let h = counts_all ts in omega arith
+room_behind ts I32 = same_room _ _ _ _ (sym (ints_in-push_int ts)) (sym (longs_in-push_int ts))
+room_behind ts I64 = same_room _ _ _ _ (sym (ints_in-push_long ts)) (sym (longs_in-push_long ts))
 
 -- ---- lists in a row
 

@@ -1,6 +1,6 @@
 -- The site of a body, among those of its module.
-use Rattle.std.proofs.Common.{◌≡◌, ◌∙◌, ℕ, zero, suc, ◌+◌, ◌<◌, List, [], ◌∷◌, length, Some, None, Bool, refl, sym, ap, ap₂, subst, slice_get, get_or, arith}
-use Rattle.std.proofs.lemmas.Option.{slice_get-get_or, slice_get_within}
+use Rattle.std.proofs.Common.{◌≡◌, ◌∙◌, ℕ, zero, suc, ◌+◌, ◌<◌, List, [], ◌∷◌, length, Some, None, Bool, sym, ap, ap₂, subst, slice_get, get_or, arith}
+use Rattle.std.proofs.lemmas.Option.{slice_get-get_or}
 use Rattle.module_ast.specs.declared.module.Body.{Body}
 use Rattle.module_ast.specs.declared.module.FuncType.{FuncType}
 use Rattle.module_ast.specs.declared.module.Module.{Module}

@@ -3,7 +3,7 @@
 --     leave_one, leave_none      out of the innermost block, and out of none
 --     unended_each      the table with further keys
 --     branched      a branch needs the ends of all blocks that it leaves
-use Rattle.std.proofs.Common.{◌≡◌, ◌⊎◌, inl, inr, ℕ, zero, suc, ◌+◌, ◌-◌, ◌<◌, ◌≤◌, List, [], ◌∷◌, length, map, take, Bool, true, false, cond, leb, leb-true, leb-false, refl, sym, ap, ◌∙◌, subst, arith}
+use Rattle.std.proofs.Common.{◌≡◌, ◌⊎◌, inl, inr, ℕ, suc, ◌-◌, ◌<◌, ◌≤◌, List, [], ◌∷◌, length, map, take, Bool, true, false, cond, leb, leb-true, leb-false, refl, sym, ap, ◌∙◌, subst, arith}
 use Rattle.std.proofs.lemmas.Bool.Decides.{nat_tests}
 use Rattle.wasm_num.specs.declared.BlockKind.{BlockKind}
 use Rattle.hook_select.specs.declared.Hooks.{Hooks}

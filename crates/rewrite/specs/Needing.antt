@@ -1,5 +1,5 @@
 -- Needed keys place by place: a branch needs the ends of the open blocks that no branch before it has left.
-use Rattle.std.specs.Prelude.{ℕ, ◌+◌, ◌-◌, ℤ, nat_abs, List, [], ◌∷◌, ◌++◌, Bool, true, false, Option, None, Some, cond, fold, leb}
+use Rattle.std.specs.Prelude.{ℕ, ◌+◌, ◌-◌, ℤ, nat_abs, List, [], ◌∷◌, ◌++◌, Option, None, Some, cond, fold, leb}
 use Rattle.wasm_num.specs.declared.BlockKind.{BlockKind}
 use Rattle.wasm_num.specs.declared.BlockKind.TheVariants as kinds
 use Rattle.module_ast.specs.declared.code.Instr.{Instr}

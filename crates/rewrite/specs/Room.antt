@@ -10,7 +10,8 @@ use Rattle.branch_resolve.specs.declared.place.Opcode.{Opcode}
 use Rattle.branch_resolve.specs.declared.place.Opcode.TheVariants.{Enters, Acts, Opens, Alternates, Closes}
 use Rattle.hook_select.specs.declared.Hooks.{Hooks}
 use Rattle.hook_mono.specs.Needed.{Site}
-use Rattle.rewrite.specs.Temporaries.{ints_in, longs_in, plain_temps, open_temps, close_temps}
+use Rattle.i64_split.specs.Split.{ints_in, longs_in}
+use Rattle.rewrite.specs.Temporaries.{plain_temps, open_temps, close_temps}
 use Rattle.rewrite.specs.declared.pool.Room.{Room}
 
 -- for these at once

@@ -331,11 +331,7 @@ fn table_of(alloc: Global, site: &Site, hooks: Hooks) -> Result<HookTable, NoMem
 /// The keys of the hooks that the body calls where these groups are selected, distinct, in the order of first need: by
 /// position, and by their order at one position. Code that is not live needs none. It takes time in proportion to the body.
 /// An `Err` comes where there is no memory.
-pub fn needs_of(
-    alloc: Global,
-    body: TypedBody<'_>,
-    hooks: Hooks,
-) -> Result<Vec<HookKey>, NoMemory>
+pub fn needs_of(alloc: Global, body: TypedBody<'_>, hooks: Hooks) -> Result<Vec<HookKey>, NoMemory>
     ensures { IfOk result (λ keys. option_map (needs_of hooks) (slice_get (sites body.entry.module) body.entry.defined) ≡ Some keys.items) }
 {
     let site = Site::of(alloc, &body)?;

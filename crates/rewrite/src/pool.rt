@@ -71,7 +71,11 @@ impl Room {
     fn or_types(self, wanted: bool, types: &[ValType]) -> Room
         ensures { result ≡ widened_where wanted self types.now }
     {
-        if wanted { self.or(Room::of(types)) } else { self }
+        if wanted {
+            self.or(Room::of(types))
+        } else {
+            self
+        }
     }
 
     // Enough for an i32 and values of these types too, where they are wanted.
@@ -137,7 +141,10 @@ impl Room {
             }
             Instr::MemorySize => self.or_types(hooks.has(GroupName::MemorySize), &one),
             Instr::MemoryGrow => {
-                self.or_types(hooks.has(GroupName::MemoryGrow), &[ValType::I32, ValType::I32])
+                self.or_types(
+                    hooks.has(GroupName::MemoryGrow),
+                    &[ValType::I32, ValType::I32],
+                )
             }
             Instr::Num(op) => self.or_num(hooks.has(num_group(*op)), *op),
             _ => self,

@@ -1,5 +1,5 @@
-use Rattle.std.proofs.Common.{◌≡◌, ◌+◌, drop, length}
-use Rattle.rewrite.specs.Temporaries.{ints_in, longs_in}
+use Rattle.std.proofs.Common.{◌≡◌, ◌+◌, drop}
+use Rattle.i64_split.specs.Split.{ints_in, longs_in}
 use Rattle.rewrite.proofs.pool.Room.of.Given as goal
 
 abbrev pub invariant-loop-ty : goal.invariant-loop-ty

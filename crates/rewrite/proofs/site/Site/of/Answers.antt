@@ -1,14 +1,12 @@
-use Rattle.std.proofs.Common.{◌≡◌, ℕ, ◌+◌, ◌≤◌, ◌∙◌, List, Some, Bool, sym, ap, length, subst, arith}
-use Rattle.module_ast.specs.declared.module.Body.{Body}
+use Rattle.std.proofs.Common.{◌≡◌, ◌+◌, ◌∙◌, List, Some, sym, ap, subst, arith}
 use Rattle.module_ast.specs.declared.module.Module.{Module}
 use Rattle.module_ast.specs.Marks.{Mark}
 use Rattle.module_ast.specs.Start.{is_start}
-use Rattle.module_ast.specs.Typing.{Context}
 use Rattle.code_valid.proofs.Few.{entries_fit, imported_few}
 use Rattle.code_valid.proofs.Sizes.{few_positions, flat}
-use Rattle.hook_mono.specs.Needed.{Site, import_count}
+use Rattle.hook_mono.specs.Needed.{import_count}
 use Rattle.module_ast.specs.declared.spaces.Counts.{Counts}
-use Rattle.module_ast.specs.Spaces.{SpaceTable, imported_funcs}
+use Rattle.module_ast.specs.Spaces.{SpaceTable}
 use Rattle.code_valid.specs.declared.marks.Marks.{Marks}
 use Rattle.rewrite.specs.Rising.{RiseFrom}
 use Rattle.rewrite.proofs.Sites.{marks_rise, site_with, site_is}
@@ -41,7 +39,7 @@ returns c =
     let counted = ap (λ (n : Counts). n.funcs) c.imported.ensures ∙ ap (λ (s : SpaceTable). s.imported.funcs) c.spaces.ensures in
     let at : c.imported.result.funcs + c.defined.result ≡ import_count m + d = omega (arith, counted, c.defined.ensures) in
     let starts : c.starts_with.result ≡ is_start m.start (c.imported.result.funcs + c.defined.result) =
-        c.starts_with.ensures ∙ ap (λ (m : Module). is_start m.start (c.imported.result.funcs + c.defined.result)) c.module.ensures in
+    c.starts_with.ensures ∙ ap (λ (m : Module). is_start m.start (c.imported.result.funcs + c.defined.result)) c.module.ensures in
     let marks = c.as_slice.ensures ∙ ap (λ (t : Marks). t.types) c.marks-marks.ensures.marks in
     let env = c.in_ok-env.field-0 in
     let b = c.body.result.now in

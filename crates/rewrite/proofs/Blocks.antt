@@ -1,0 +1,43 @@
+-- What labels name, from the blocks that the program keeps.
+use Rattle.std.proofs.Common.{◌≡◌, ℕ, zero, suc, ◌+◌, List, [], ◌∷◌, ◌++◌, map, take, refl, ap, ◌∙◌, false}
+use Rattle.std.specs.Prelude.{unwrap_or}
+use Rattle.module_ast.specs.Positions.{Scope, target_of, left_by}
+use Rattle.branch_resolve.specs.declared.Block.{Block}
+use Rattle.branch_resolve.specs.Scopes.{blocks_around, ends, end_of}
+use Rattle.module_ast.specs.Lists.{when}
+use Rattle.module_ast.specs.Tree.{i32_const}
+use Rattle.hook_select.specs.declared.GroupName.TheVariants as groups
+use Rattle.hook_select.specs.Groups.{has}
+use Rattle.hook_mono.specs.declared.HookKey.TheVariants as keys
+use Rattle.branch_resolve.specs.declared.EndOf.{EndOf}
+use Rattle.rewrite.specs.Setting.{Setting, tell, tell_end, tell_ends}
+use Rattle.rewrite.specs.Emitted.{target_word, ends_code}
+
+target_around : (ss : List Scope) (l : ℕ) → target_word (blocks_around ss) l ≡ unwrap_or (target_of ss l) 0
+target_around [] l = refl
+target_around (s ∷ ss) zero = refl
+target_around (s ∷ ss) (suc l) = target_around ss l
+
+pub target_is : (bs : List Block) (ss : List Scope) (l : ℕ) → bs ≡ blocks_around ss → target_word bs l ≡ unwrap_or (target_of ss l) 0
+target_is bs ss l e = ap (λ b. target_word b l) e ∙ target_around ss l
+
+ends_around : (w : Setting) (ss : List Scope) → ends_code w (map end_of (blocks_around ss)) ≡ tell_ends w ss
+ends_around w [] = refl
+ends_around w (s ∷ ss) = ap (λ l. tell_end w s ++ l) (ends_around w ss)
+
+pub all_is : (w : Setting) (bs : List Block) (ss : List Scope) → bs ≡ blocks_around ss → ends_code w (map end_of bs) ≡ tell_ends w ss
+all_is w bs ss e = ap (λ b. ends_code w (map end_of b)) e ∙ ends_around w ss
+
+left_around : (w : Setting) (ss : List Scope) (n : ℕ) → ends_code w (map end_of (take n (blocks_around ss))) ≡ tell_ends w (take n ss)
+left_around w [] zero = refl
+left_around w [] (suc n) = refl
+left_around w (s ∷ ss) zero = refl
+left_around w (s ∷ ss) (suc n) = ap (λ l. tell_end w s ++ l) (left_around w ss n)
+
+pub left_is : (w : Setting) (bs : List Block) (ss : List Scope) (l : ℕ) → bs ≡ blocks_around ss → ends_code w (ends bs l) ≡ tell_ends w (left_by ss l)
+left_is w bs ss l e = ap (λ b. ends_code w (ends b l)) e ∙ left_around w ss (l + 1)
+
+-- where ends are not selected
+pub no_ends : (w : Setting) (passed : List EndOf) → has w.hooks groups.End ≡ false → ends_code w passed ≡ []
+no_ends w [] h = refl
+no_ends w (b ∷ bs) h = ap (λ v. when v (tell w b.end (keys.End b.kind) (i32_const b.begin ∷ [])) ++ ends_code w bs) h ∙ no_ends w bs h

@@ -1,0 +1,84 @@
+// What goes along with the rewriting of a body.
+
+ghost use Rattle.std.specs.Prelude.{◌≡◌, ◌∷◌, ◌<◌, length, drop};
+ghost use Rattle.module_ast.specs.Seen.{before};
+ghost use Rattle.module_ast.specs.Tree.{done};
+ghost use Rattle.branch_resolve.specs.Levels.{block_sizes};
+ghost use Rattle.rewrite.specs.Live.{BeginsWith, LeavesBehind};
+
+use branch_resolve::Scopes;
+use module_ast::code::{Code, Instr};
+use std::marker::Model;
+
+/// The blocks around a place of a body, and the sizes of those that open behind it.
+#[derive(Drop)]
+pub(crate) struct Along {
+    pub(crate) scopes: Scopes,
+    pub(crate) sizes: SizesLeft,
+}
+
+/// The sizes of blocks in the order of their opcodes, which contracts see as the list of those that are left.
+#[derive(Drop)]
+pub(crate) struct SizesLeft {
+    sizes: Vec<u32>,
+    used: usize,
+}
+
+impl Model for SizesLeft {
+    ghost use Rattle.std.specs.Prelude.{List, ℕ, drop};
+
+    ghost Value = { List ℕ };
+
+    ghost view = { λ a. drop a.used a.sizes.items };
+}
+
+impl SizesLeft {
+    /// All of these are left.
+    pub fn new(sizes: Vec<u32>) -> SizesLeft
+        ensures { result ≡ sizes.items }
+    {
+        SizesLeft { sizes, used: 0 }
+    }
+
+    /// Takes the first of those that are left.
+    pub fn next(&mut self) -> u32
+        requires { 0 < length self.old }
+        ensures { self.old ≡ result ∷ self.new }
+    {
+        let size = self.sizes[self.used];
+        self.used += 1;
+        size
+    }
+
+    /// Goes over the blocks of this instruction.
+    #[cycle(skip)]
+    pub fn skip_instr(&mut self, instr: &Instr)
+        requires { BeginsWith (block_sizes (before instr.now done)) self.old }
+        ensures { LeavesBehind (block_sizes (before instr.now done)) self.old self.new }
+    {
+        match instr {
+            Instr::Block(_, body) | Instr::Loop(_, body) | Instr::If(_, body, None) => {
+                self.next();
+                self.skip_code(body);
+            }
+            Instr::If(_, body, Some(other)) => {
+                self.next();
+                self.next();
+                self.skip_code(body);
+                self.skip_code(other);
+            }
+            _ => {}
+        }
+    }
+
+    // The same for a sequence.
+    #[cycle(skip)]
+    fn skip_code(&mut self, code: &Code)
+        requires { BeginsWith (block_sizes code.now) self.old }
+        ensures { LeavesBehind (block_sizes code.now) self.old self.new }
+    {
+        for instr in code.as_slice() {
+            self.skip_instr(instr);
+        }
+    }
+}

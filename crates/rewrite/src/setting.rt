@@ -1,0 +1,77 @@
+// What the rewriting of a body reads.
+
+ghost use Rattle.std.specs.Prelude.{◌≡◌, length, slice_get, Some, IfOk};
+ghost use Rattle.hook_select.specs.Groups.{has};
+ghost use Rattle.hook_mono.specs.Needed.{sites};
+ghost use Rattle.rewrite.specs.Rewrite.{setting_of};
+ghost use Rattle.rewrite.specs.Conditions.{CanRewrite, IsReady};
+
+use crate::pool::pool_of;
+use crate::site::Site;
+use code_valid::TypedBody;
+use hook_mono::HookTable;
+use hook_select::{GroupName, Hooks};
+use i64_split::Pool;
+use index_remap::Remap;
+use std::alloc::Global;
+use std::marker::Model;
+use wasm_num::NoMemory;
+
+/// What the rewriting of a body reads: the selected groups, the hooks of the module, the function, and its temporaries.
+#[derive(Drop)]
+pub(crate) struct Setting<'m> {
+    pub(crate) hooks: Hooks,
+    pub(crate) table: &'m HookTable,
+    pub(crate) remap: Remap,
+    pub(crate) site: Site<'m>,
+    pub(crate) pool: Pool,
+}
+
+impl<'m> Model for Setting<'m> {
+    ghost use Rattle.std.specs.Prelude.{◌≡◌, ◌+◌, ◌^◌, ◌<◌, length};
+    ghost use Rattle.rewrite.specs.Setting.{Setting as shown};
+    ghost use Rattle.module_ast.specs.contracts.module.Body as of_body;
+    ghost use Rattle.std.specs.Coded.{codes};
+
+    ghost Value = { shown };
+
+    ghost coded = { Prim.hlevel (codes, of_body.the_row.coded) };
+
+    ghost view = { λ a. record { hooks = a.hooks; keys = a.table.now; imports = a.remap.imports; site = a.site; pool = a.pool } };
+
+    ghost invariant = { λ a. (a.remap.added ≡ length a.table.now) × (a.remap.imports + length a.table.now < 2 ^ 32) };
+}
+
+impl<'m> Setting<'m> {
+    /// For the function of this body. It takes time in proportion to the body. An `Err` comes where there is no memory.
+    pub fn of(
+        alloc: Global,
+        body: &TypedBody<'m>,
+        hooks: Hooks,
+        table: &'m HookTable,
+        remap: Remap,
+    ) -> Result<Setting<'m>, NoMemory>
+        requires added { remap.added ≡ length table.now }
+        requires numbers { CanRewrite body.now.module body.now.defined hooks table.now remap.imports }
+        ensures site { IfOk result (λ w. slice_get (sites body.now.module) body.now.defined ≡ Some w.site) }
+        ensures is { IfOk result (λ w. w ≡ setting_of hooks table.now remap.imports w.site) }
+        ensures ready { IfOk result IsReady }
+    {
+        let site = Site::of(alloc, body)?;
+        let pool = pool_of(alloc, &site, hooks)?;
+        Ok(Setting {
+            hooks,
+            table,
+            remap,
+            site,
+            pool,
+        })
+    }
+
+    /// Whether the group is selected.
+    pub fn has(&self, group: GroupName) -> bool
+        ensures { result ≡ has self.now.hooks group }
+    {
+        self.hooks.has(group)
+    }
+}
