@@ -1,5 +1,5 @@
 -- What holds of an entry and of those behind it holds of all, where those before it are done.
-use Rattle.std.proofs.Common.{◌≡◌, ℕ, suc, ◌+◌, ◌<◌, List, ◌∷◌, length, get_or, drop, drop-cons, add-one, All, subst, sym, ap, ◌∙◌}
+use Rattle.std.proofs.Common.{ℕ, suc, ◌+◌, ◌<◌, List, length, get_or, drop, drop-cons, add-one, All, subst, sym}
 use Rattle.std.proofs.lemmas.List.Elements.{All-cons}
 
 pub all_next : {X : Type 0} (P : X → Type 0) (xs : List X) (i : ℕ) (d : X) → i < length xs → P (get_or xs i d)

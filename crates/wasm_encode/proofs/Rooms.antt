@@ -1,5 +1,5 @@
 -- The bytes of all bodies are among those of the module.
-use Rattle.std.proofs.Common.{◌≡◌, ℕ, ◌<◌, ◌^◌, List, [], ◌∷◌, ◌++◌, length, arith, length-append}
+use Rattle.std.proofs.Common.{ℕ, ◌<◌, ◌^◌, List, [], ◌∷◌, length, arith, length-append}
 use Rattle.leb_binary.specs.Shortest.{unsigned_bytes}
 use Rattle.module_ast.specs.Canonical.{vec_bytes, vec_section, body_bytes, sized_bytes, module_bytes}
 use Rattle.module_ast.specs.declared.module.Body.{Body}

@@ -1,36 +1,43 @@
 // How many bytes instructions have.
 
-ghost use Rattle.std.specs.Prelude.{◌≡◌, [], ◌∷◌, ◌++◌, ◌+◌, ◌<◌, ◌≤◌, ◌^◌, All, length};
+ghost use Rattle.std.specs.Prelude.{◌≡◌, [], ◌∷◌, ◌++◌, ◌+◌, ◌*◌, ◌<◌, ◌≤◌, ◌^◌, All, length};
 ghost use Rattle.leb_binary.specs.Shortest.{unsigned_bytes, signed_bytes};
 ghost use Rattle.module_ast.specs.Tree.{Tree, done};
 ghost use Rattle.module_ast.specs.Seen.{before};
+ghost use Rattle.module_ast.specs.Plains.{IsPlainInstr};
 ghost use Rattle.module_ast.specs.Fits.{FitsIndex, FitsMemArg, FitsCode};
 ghost use Rattle.module_ast.specs.Canonical.{vec_bytes, mem_arg_bytes, code_bytes, expr_bytes};
+ghost use Rattle.wasm_encode.specs.Lengths.{most_bytes};
 
-use crate::numbers::{index_length, signed_length};
-use crate::vectors::vec_length;
+use crate::numbers::{index_length, signed_length, unsigned_length};
 use module_ast::code::{Code, Instr};
 use module_ast::ops::MemArg;
 
 // An opcode with one index.
 fn indexed_length(index: u32) -> u64
-    ensures { result ≡ 1 + length (unsigned_bytes index) }
+    ensures length { result ≡ 1 + length (unsigned_bytes index) }
+    ensures bound { result ≤ 6 }
 {
     1 + index_length(index)
 }
 
 // A branch by a table.
 fn table_branch_length(labels: &[u32], last: u32) -> u64
-    requires { 1 + length (vec_bytes unsigned_bytes labels.now ++ unsigned_bytes last) < 2 ^ 63 }
     ensures length { result ≡ 1 + length (vec_bytes unsigned_bytes labels.now ++ unsigned_bytes last) }
+    ensures bound { result ≤ 16 + 5 * length labels.now }
     ensures fit { All FitsIndex labels.now }
 {
-    vec_length(labels) + indexed_length(last)
+    let mut total = unsigned_length(labels.len() as u64);
+    for label in labels {
+        total += index_length(*label);
+    }
+    total + indexed_length(last)
 }
 
 // The opcode of a load or store, its alignment and its offset.
 fn access_length(arg: MemArg) -> u64
     ensures length { result ≡ 1 + length (mem_arg_bytes arg) }
+    ensures bound { result ≤ 11 }
     ensures fit { FitsMemArg arg }
 {
     1 + index_length(arg.align) + index_length(arg.offset)
@@ -38,9 +45,37 @@ fn access_length(arg: MemArg) -> u64
 
 // A constant.
 fn const_length(value: i64) -> u64
-    ensures { result ≡ 1 + length (signed_bytes value) }
+    ensures length { result ≡ 1 + length (signed_bytes value) }
+    ensures bound { result ≤ 11 }
 {
     1 + signed_length(value)
+}
+
+/// How many bytes an instruction has that has no sequence in it (5.4).
+pub fn plain_length(instr: &Instr) -> u64
+    requires { IsPlainInstr instr.now }
+    ensures length { (t : Tree) → result + length (code_bytes t) ≡ length (code_bytes (before instr.now t)) }
+    ensures bound { result ≤ most_bytes instr.now }
+    ensures fit { (t : Tree) → FitsCode t → FitsCode (before instr.now t) }
+{
+    match instr {
+        Instr::Br(label) => indexed_length(*label),
+        Instr::BrIf(label) => indexed_length(*label),
+        Instr::BrTable(labels, last) => table_branch_length(labels.as_slice(), *last),
+        Instr::Call(func) => indexed_length(*func),
+        Instr::CallIndirect(ty) => 1 + indexed_length(*ty),
+        Instr::LocalGet(local) => indexed_length(*local),
+        Instr::LocalSet(local) => indexed_length(*local),
+        Instr::LocalTee(local) => indexed_length(*local),
+        Instr::GlobalGet(global) => indexed_length(*global),
+        Instr::GlobalSet(global) => indexed_length(*global),
+        Instr::Load(_, arg) => access_length(*arg),
+        Instr::Store(_, arg) => access_length(*arg),
+        Instr::MemorySize | Instr::MemoryGrow => 2,
+        Instr::I32Const(value) => const_length(i64::from(*value)),
+        Instr::I64Const(value) => const_length(*value),
+        _ => 1,
+    }
 }
 
 /// How many bytes instructions have, with nothing that closes them.
@@ -65,32 +100,11 @@ fn instr_length(instr: &Instr) -> u64
     ensures fit { (t : Tree) → FitsCode t → FitsCode (before instr.now t) }
 {
     match instr {
-        Instr::Unreachable => 1,
-        Instr::Nop => 1,
         Instr::Block(_, body) => 3 + code_length(body),
         Instr::Loop(_, body) => 3 + code_length(body),
         Instr::If(_, body, None) => 3 + code_length(body),
         Instr::If(_, body, Some(other)) => 4 + code_length(body) + code_length(other),
-        Instr::Br(label) => indexed_length(*label),
-        Instr::BrIf(label) => indexed_length(*label),
-        Instr::BrTable(labels, last) => table_branch_length(labels.as_slice(), *last),
-        Instr::Return => 1,
-        Instr::Call(func) => indexed_length(*func),
-        Instr::CallIndirect(ty) => 1 + indexed_length(*ty),
-        Instr::Drop => 1,
-        Instr::Select => 1,
-        Instr::LocalGet(local) => indexed_length(*local),
-        Instr::LocalSet(local) => indexed_length(*local),
-        Instr::LocalTee(local) => indexed_length(*local),
-        Instr::GlobalGet(global) => indexed_length(*global),
-        Instr::GlobalSet(global) => indexed_length(*global),
-        Instr::Load(_, arg) => access_length(*arg),
-        Instr::Store(_, arg) => access_length(*arg),
-        Instr::MemorySize => 2,
-        Instr::MemoryGrow => 2,
-        Instr::I32Const(value) => const_length(i64::from(*value)),
-        Instr::I64Const(value) => const_length(*value),
-        Instr::Num(_) => 1,
+        _ => plain_length(instr),
     }
 }
 

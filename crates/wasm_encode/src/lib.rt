@@ -23,6 +23,8 @@ mod vectors;
 mod whole;
 
 use crate::bodies::bodies_length;
+pub use crate::code_length::plain_length;
+pub use crate::numbers::unsigned_length;
 use crate::whole::{module_length, spell_module};
 use module_ast::module::Module;
 use std::alloc::{AllocError, Global};

@@ -10,7 +10,7 @@ use std::alloc::AllocError;
 /// How many bytes an unsigned number takes in its shortest spelling (5.2.2): 1 to 10.
 pub fn unsigned_length(n: u64) -> u64
     ensures value { result ≡ length (unsigned_bytes n) }
-    ensures bound { result ≤ n + 1 }
+    ensures bound { result ≤ 10 }
 {
     if n < 128 {
         return 1;
@@ -20,9 +20,10 @@ pub fn unsigned_length(n: u64) -> u64
 
 // How many bytes `n` takes as a signed number, and -`n` - 1.
 fn sign_extended_length(n: u64) -> u64
+    requires { n < 2 ^ 63 }
     ensures positive { result ≡ length (positive_within n n) }
     ensures negative { result ≡ length (negative_within n n) }
-    ensures bound { result ≤ n + 1 }
+    ensures bound { result ≤ 10 }
 {
     if n < 64 {
         return 1;
@@ -33,7 +34,7 @@ fn sign_extended_length(n: u64) -> u64
 /// How many bytes a signed number takes in its shortest spelling (5.2.2): 1 to 10.
 pub fn signed_length(v: i64) -> u64
     ensures value { result ≡ length (signed_bytes v) }
-    ensures bound { result ≤ 2 ^ 63 }
+    ensures bound { result ≤ 10 }
 {
     if v < 0 {
         sign_extended_length((-(v + 1)) as u64)
@@ -42,10 +43,11 @@ pub fn signed_length(v: i64) -> u64
     }
 }
 
-/// How many bytes the shortest spelling of an index has.
+/// How many bytes the shortest spelling of an index has: 1 to 5.
+#[tactic(auto, using(crate::proofs::Short::unsigned_five))]
 pub fn index_length(index: u32) -> u64
     ensures length { result ≡ length (unsigned_bytes index) }
-    ensures bound { result ≤ 2 ^ 32 }
+    ensures bound { result ≤ 5 }
     ensures fit { FitsIndex index }
 {
     unsigned_length(u64::from(index))

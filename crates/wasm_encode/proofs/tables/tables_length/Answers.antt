@@ -1,4 +1,4 @@
-use Rattle.std.proofs.Common.{drop, arith}
+use Rattle.std.proofs.Common.{arith}
 use Rattle.std.proofs.lemmas.Grind.{common_steps}
 use Rattle.module_ast.specs.Fits.{FitsRange}
 use Rattle.wasm_encode.proofs.Fitting.{all_next}
