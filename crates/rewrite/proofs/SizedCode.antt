@@ -10,12 +10,13 @@ use Rattle.module_ast.specs.Tree.{Tree, done, plain, block, loop, if_then, if_el
 use Rattle.hook_select.specs.declared.GroupName.TheVariants as groups
 use Rattle.hook_select.specs.Groups.{has}
 use Rattle.hook_mono.specs.declared.HookKey.TheVariants as keys
-use Rattle.i64_split.specs.Split.{Temp, temps, gets, words_code}
+use Rattle.i64_split.specs.declared.Temp.{Temp}
+use Rattle.i64_split.specs.Split.{temps, gets, words_code, pool_groups}
 use Rattle.wasm_num.specs.declared.ValType.TheVariants.{I32}
 use Rattle.index_remap.specs.Remap.{map_tree, map_plain}
 use Rattle.rewrite.specs.Setting.{Setting, remap, constant, tells, tell_ends}
 use Rattle.rewrite.specs.Templates.{template, tee_code, target_code, tell_before, tell_begin, end_code}
-use Rattle.rewrite.specs.Temporaries.{watches_br_if, pool_groups}
+use Rattle.rewrite.specs.Temporaries.{watches_br_if}
 use Rattle.rewrite.specs.Rewrite.{if_taken, br_if_before, instr_code, live_code, entry_code, rewritten_code, size_of}
 use Rattle.rewrite.specs.Sizes.{plains_length, before_opening, place_length, places_length}
 
@@ -47,23 +48,23 @@ type_length (Value t) = refl
 
 -- ---- blocks in bytes
 
-block_length : (ty : BlockType) (body k : Tree) → code_length (block ty body k) ≡ 2 + (code_length body + (1 + code_length k))
+pub block_length : (ty : BlockType) (body k : Tree) → code_length (block ty body k) ≡ 2 + (code_length body + (1 + code_length k))
 block_length ty body k = let e = type_length ty in omega (arith, length-append (block_type_bytes ty ++ code_bytes body) (0x0B ∷ code_bytes k), length-append (block_type_bytes ty) (code_bytes body))
 
-loop_length : (ty : BlockType) (body k : Tree) → code_length (loop ty body k) ≡ 2 + (code_length body + (1 + code_length k))
+pub loop_length : (ty : BlockType) (body k : Tree) → code_length (loop ty body k) ≡ 2 + (code_length body + (1 + code_length k))
 loop_length ty body k = let e = type_length ty in omega (arith, length-append (block_type_bytes ty ++ code_bytes body) (0x0B ∷ code_bytes k), length-append (block_type_bytes ty) (code_bytes body))
 
-then_length : (ty : BlockType) (body k : Tree) → code_length (if_then ty body k) ≡ 2 + (code_length body + (1 + code_length k))
+pub then_length : (ty : BlockType) (body k : Tree) → code_length (if_then ty body k) ≡ 2 + (code_length body + (1 + code_length k))
 then_length ty body k = let e = type_length ty in omega (arith, length-append (block_type_bytes ty ++ code_bytes body) (0x0B ∷ code_bytes k), length-append (block_type_bytes ty) (code_bytes body))
 
-both_length : (ty : BlockType) (body other k : Tree) → code_length (if_else ty body other k) ≡ 2 + (code_length body + (1 + (code_length other + (1 + code_length k))))
+pub both_length : (ty : BlockType) (body other k : Tree) → code_length (if_else ty body other k) ≡ 2 + (code_length body + (1 + (code_length other + (1 + code_length k))))
 both_length ty body other k =
     let e = type_length ty in
     omega (arith, length-append (block_type_bytes ty ++ code_bytes body) (0x05 ∷ (code_bytes other ++ 0x0B ∷ code_bytes k)), length-append (block_type_bytes ty) (code_bytes body), length-append (code_bytes other) (0x0B ∷ code_bytes k))
 
 -- ---- an instruction before what follows it
 
-plain_before : (i : Plain) (k : Tree) → code_length (plain i k) ≡ length (plain_bytes i) + code_length k
+pub plain_before : (i : Plain) (k : Tree) → code_length (plain i k) ≡ length (plain_bytes i) + code_length k
 plain_before i k = length-append (plain_bytes i) (code_bytes k)
 
 branch_before : (l : ℕ) (k : Tree) → code_length (plain (br_if l) k) ≡ code_length (plain (br_if l) done) + code_length k

@@ -95,7 +95,7 @@ module _ (hooks : Hooks) (s : Site) where
       ∙ ap₂ (λ (l r : List (List ValType)). l ++ r) (live_placed (f ∷ []) 0 code) (append-nil (place_temps hooks s end))
 
 -- the pool of the greatest numbers has temporaries for each list
-has_room : (pool : Pool) (lists : List (List ValType)) → greatest ints_in lists ≤ pool.ints → greatest longs_in lists ≤ pool.longs → pool.base + pool.ints + pool.longs ≤ 2 ^ 32 → HasRoom pool lists
+pub has_room : (pool : Pool) (lists : List (List ValType)) → greatest ints_in lists ≤ pool.ints → greatest longs_in lists ≤ pool.longs → pool.base + pool.ints + pool.longs ≤ 2 ^ 32 → HasRoom pool lists
 has_room pool [] ints longs fits = tt
 has_room pool (tys ∷ lists) ints longs fits = (record { ints = omega arith; longs = omega arith; fits = fits }, has_room pool lists (omega arith) (omega arith) fits)
 

@@ -1,17 +1,23 @@
 -- How many bytes of a rewritten body stand for each place of the original.
-use Rattle.std.specs.Prelude.{ℕ, ◌+◌, nat_abs, ℤ, List, [], ◌∷◌, length, cond}
+use Rattle.std.specs.Prelude.{◌≡◌, ℕ, ◌+◌, ◌<◌, ◌≤◌, ◌^◌, nat_abs, ℤ, ◌⊎◌, List, [], ◌∷◌, length, Bool, cond}
+use Rattle.std.specs.List.{AllByRecursion}
 use Rattle.wasm_num.specs.declared.BlockKind.{BlockKind}
 use Rattle.wasm_num.specs.declared.BlockKind.TheVariants as kinds
 use Rattle.module_ast.specs.Lists.{when}
+use Rattle.module_ast.specs.Plains.{instr_of}
 use Rattle.module_ast.specs.Canonical.{items_bytes, plain_bytes, code_bytes}
 use Rattle.module_ast.specs.Positions.{Scope, Place, Opcode, enters, acts, opens, alternates, closes}
-use Rattle.module_ast.specs.Tree.{Plain, done}
+use Rattle.module_ast.specs.declared.module.FuncType.{FuncType}
+use Rattle.module_ast.specs.Tree.{Plain, done, br, br_if, br_table, return_}
+use Rattle.module_ast.specs.Typing.{Context}
 use Rattle.hook_select.specs.declared.GroupName.TheVariants as groups
 use Rattle.hook_mono.specs.declared.HookKey.TheVariants as keys
-use Rattle.index_remap.specs.Remap.{map_plain}
-use Rattle.rewrite.specs.Setting.{Setting, remap}
+use Rattle.index_remap.specs.declared.Remap.{Remap}
+use Rattle.index_remap.specs.Remap.{map_plain, MapsPlain}
+use Rattle.rewrite.specs.Setting.{Setting, remap, tell_ends}
 use Rattle.rewrite.specs.Templates.{tell_before, tell_begin, end_code}
 use Rattle.rewrite.specs.Rewrite.{instr_code, entry_code}
+use Rattle.wasm_encode.specs.Lengths.{most_bytes}
 
 abbrev pub plains_length : List Plain → ℕ
 plains_length is = length (items_bytes plain_bytes is)
@@ -44,3 +50,57 @@ place_length w x = cond x.live (live_length w x.position x.scopes x.opcode) (dea
 abbrev pub places_length : Setting → List Place → ℕ
 places_length w [] = 0
 places_length w (x ∷ xs) = place_length w x + places_length w xs
+
+-- ---- how the count goes along a body
+
+-- a number of bytes that these instructions do not exceed
+abbrev pub plains_most : List Plain → ℕ
+plains_most [] = 0
+plains_most (i ∷ is) = most_bytes (instr_of i) + plains_most is
+
+-- for each open block, innermost first, the bytes of the end hooks' calls of the block and of those around it
+abbrev pub end_sums : Setting → List Scope → List ℕ
+end_sums w [] = []
+end_sums w (b ∷ bs) = plains_length (tell_ends w (b ∷ bs)) ∷ end_sums w bs
+
+-- at most one block is entered or left
+abbrev pub IsNear : (old new : List Scope) → Type 0
+IsNear old new = (new ≡ old) ⊎ (((s : Scope) × (old ≡ s ∷ new)) ⊎ ((s : Scope) × (new ≡ s ∷ old)))
+
+-- places in a row, each as near to the one before as that, where these blocks are around what stands before
+abbrev pub AreLinked : List Scope → List Place → Type 0
+AreLinked ss [] = Unit {0}
+AreLinked ss (x ∷ xs) = IsNear ss x.scopes × AreLinked x.scopes xs
+
+-- no branch to a label, and no return
+abbrev pub IsStraight : Plain → Type 0
+IsStraight (br l) = ⊥
+IsStraight (br_if l) = ⊥
+IsStraight (br_table ls l) = ⊥
+IsStraight return_ = ⊥
+IsStraight _ = Unit {0}
+
+-- no type has more parameters and results together, and the function no more results
+pub record IsNarrow (most : ℕ) (c : Context) : Type 0 where
+  pub types : AllByRecursion (λ (t : FuncType). length t.params + length t.results ≤ most) c.types
+  pub results : length c.results ≤ most
+
+-- more than the bytes of a place that is no instruction, and of an instruction beside its own ones
+abbrev pub opcode_most : Opcode → ℕ
+opcode_most (acts i) = most_bytes (instr_of i)
+opcode_most _ = 0
+
+abbrev pub opcodes_most : List Place → ℕ
+opcodes_most [] = 0
+opcodes_most (x ∷ xs) = opcode_most x.opcode + opcodes_most xs
+
+-- what the count needs of an opcode inside these blocks: the index of a called function fits in the output, an `else`
+-- stands inside a block, and the last `end` is the function's
+abbrev pub FitsOpcode : Remap → Opcode → List Scope → Type 0
+FitsOpcode r (acts i) ss = MapsPlain r i
+FitsOpcode r (alternates a b live) ss = 0 < length ss
+FitsOpcode r (closes s) ss = ss ≡ [] → s.kind ≡ kinds.Function
+FitsOpcode r _ ss = Unit {0}
+
+abbrev pub FitsPlace : Remap → Place → Type 0
+FitsPlace r x = (nat_abs x.position < 2 ^ 31) × FitsOpcode r x.opcode x.scopes

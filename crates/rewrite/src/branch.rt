@@ -23,7 +23,7 @@ use wasm_num::ValType;
 
 impl<'m> Setting<'m> {
     // Whether a `br_if` has a template.
-    fn watches_br_if(&self) -> bool
+    pub fn watches_br_if(&self) -> bool
         ensures { result ≡ watches_br_if self.now.hooks }
     {
         self.has(GroupName::BrIf) || self.has(GroupName::End)

@@ -1,0 +1,23 @@
+use Rattle.std.proofs.Common.{◌≡◌, ◌∙◌, ◌++◌, List, [], ◌∷◌, refl, ap, sym, arith, pos, length, length-append}
+use Rattle.module_ast.specs.declared.code.Instr.{Instr}
+use Rattle.module_ast.specs.Tree.{Plain, done, return_, br_if}
+use Rattle.i64_split.specs.Pushing.{instrs}
+use Rattle.rewrite.proofs.Emitting.{few_of}
+use Rattle.module_ast.specs.Lists.{first_or}
+use Rattle.rewrite.specs.Emitted.{target_word}
+use Rattle.rewrite.specs.Sizing.{br_told}
+use Rattle.rewrite.proofs.Blocks.{target_is}
+use Rattle.rewrite.proofs.BranchBytes.{br_bytes}
+use Rattle.rewrite.proofs.EndSums.{left_is_sum}
+use Rattle.rewrite.proofs.setting.Setting.br_length.Goals as goal
+
+emitted : (old new slice : List Instr) (is : List Plain) → old ≡ [] → new ≡ old ++ instrs is → slice ≡ new → slice ≡ instrs is
+emitted old new slice is empty added same = same ∙ added ∙ ap (λ (l : List Instr). l ++ instrs is) empty
+
+pub returns-clause-length : goal.returns-clause-length
+returns-clause-length c ss a =
+    let to = target_word c.args.scopes.now c.args.label in
+    let is = br_told c.args.self.now c.args.position c.args.label to in
+    br_bytes c.args.self.now ss c.args.position c.args.label to c.emitted_length.result c.left_by.result (target_is c.args.scopes.now ss c.args.label a.blocks)
+    (c.emitted_length.ensures is (emitted _ _ _ is c.clear.ensures.items c.in_ok-push_br_told.ensures c.deref.ensures.value))
+    (left_is_sum c.args.self.now c.args.label ss c.args.sums.now c.left_by.result a.ends c.left_by.ensures)

@@ -1,0 +1,606 @@
+// How many bytes a rewritten body has.
+
+ghost use Rattle.std.specs.Prelude.{◌≡◌, ◌+◌, ◌*◌, ◌++◌, ◌∷◌, [], pos, ◌<◌, ◌≤◌, ◌^◌, ℕ, List, length, option_map, slice_get, IfOk, OnOk, true, Some};
+ghost use Rattle.wasm_num.specs.declared.ValType.TheVariants.{I32};
+ghost use Rattle.module_ast.specs.Lists.{when, first_or};
+ghost use Rattle.module_ast.specs.Tree as tree;
+ghost use Rattle.module_ast.specs.Tree.{Plain, done};
+ghost use Rattle.module_ast.specs.Plains.{plain_of, IsPlainInstr};
+ghost use Rattle.module_ast.specs.Seen.{before};
+ghost use Rattle.module_ast.specs.Positions as positions;
+ghost use Rattle.module_ast.specs.Positions.{Scope};
+ghost use Rattle.module_ast.specs.Canonical.{plain_bytes, code_bytes, items_bytes, vec_bytes, group_bytes, body_bytes};
+ghost use Rattle.branch_resolve.specs.declared.Block.{Block as Around};
+ghost use Rattle.branch_resolve.specs.Walks.{IsPlaceOf};
+ghost use Rattle.branch_resolve.specs.Scopes.{end_of, block_of, blocks_around};
+ghost use Rattle.hook_mono.specs.declared.HookKey.TheVariants as keys;
+ghost use Rattle.hook_select.specs.declared.GroupName.TheVariants as groups;
+ghost use Rattle.i64_split.specs.Pushing.{instrs};
+ghost use Rattle.i64_split.specs.Split.{pool_groups, gets, HasTemps};
+ghost use Rattle.index_remap.specs.Remap.{map_plain, Maps};
+ghost use Rattle.wasm_encode.specs.Lengths.{most_bytes};
+ghost use Rattle.rewrite.specs.Setting.{remap, tell_end};
+ghost use Rattle.rewrite.specs.Temporaries.{plain_temps, wanted_temps, open_temps};
+ghost use Rattle.rewrite.specs.Templates.{template, tell_begin, tell_before, tell_results};
+ghost use Rattle.rewrite.specs.Emitted.{end_code, target_word, HasRoom, temps_of};
+ghost use Rattle.hook_mono.specs.Needed.{sites};
+ghost use Rattle.rewrite.specs.Conditions.{CanRewrite};
+ghost use Rattle.rewrite.specs.Rewrite.{entry_code, br_if_before, size_of, setting_of};
+ghost use Rattle.rewrite.specs.Sizes.{plains_length, end_sums, before_opening, live_length, dead_length, place_length, opcode_most, FitsPlace, IsNear, IsNarrow};
+ghost use Rattle.rewrite.specs.Sizing.{AreFew, AreBytes, AreBelow, AreAround, IsAt, CanCount, IsCountable, IsTable, IsStraightInstr, br_told, br_if_told, types_most, ends_most, place_most};
+
+use crate::end_sums::EndSums;
+use crate::setting::Setting;
+use crate::templates::push_tee;
+use branch_resolve::{Block, Opcode, Place, Scopes, Walk};
+use code_valid::TypedBody;
+use hook_mono::HookTable;
+use hook_select::{GroupName, Hooks};
+use i64_split::{Temp, push_each, push_gets};
+use index_remap::Remap;
+use module_ast::code::Instr;
+use module_ast::module::Group;
+use std::alloc::{AllocError, Global};
+use wasm_encode::{plain_length, unsigned_length};
+use wasm_num::{BlockKind, NoMemory, ValType};
+
+// The bytes of instructions without sequences in them.
+fn emitted_length(emitted: &[Instr]) -> u64
+    requires { AreFew emitted.now }
+    ensures { (is : List Plain) → emitted.now ≡ instrs is → AreBytes is result }
+{
+    let mut total = 0;
+    for instr in emitted {
+        total += plain_length(instr);
+    }
+    total
+}
+
+// The bytes of groups of locals.
+fn groups_length(groups: &[Group]) -> u64
+    ensures length { result ≡ length (items_bytes group_bytes groups.now) }
+    ensures bound { result ≤ 11 * length groups.now }
+{
+    let mut total = 0;
+    for group in groups {
+        total += unsigned_length(u64::from(group.count)) + 1;
+    }
+    total
+}
+
+// Adds what these temporaries hold, where `wanted`.
+fn push_gets_where(
+    wanted: bool,
+    temps: &[Temp],
+    code: &mut Vec<Instr>,
+) -> Result<(), AllocError>
+    ensures { OnOk result (code.new.items ≡ code.old.items ++ instrs (when wanted (gets temps.now))) }
+{
+    if !wanted {
+        return Ok(());
+    }
+    push_gets(code, temps)
+}
+
+impl<'m> Setting<'m> {
+    // The bytes of the call of a block's end hook.
+    fn end_length(&self, block: Block, scratch: &mut Vec<Instr>) -> Result<u64, AllocError>
+        ensures { IfOk result (AreBytes (end_code self.now (end_of block))) }
+    {
+        scratch.clear();
+        self.push_end(block.end_of(), scratch)?;
+        Ok(emitted_length(scratch))
+    }
+
+    // The bytes of the call of the innermost block's end hook.
+    fn innermost_length(
+        &self,
+        alloc: Global,
+        scopes: &Scopes,
+        scratch: &mut Vec<Instr>,
+    ) -> Result<u64, AllocError>
+        ensures length { IfOk result (λ n. (s : Scope) (ss : List Scope) → scopes.now ≡ blocks_around (s ∷ ss) → n ≡ plains_length (tell_end self.now s)) }
+        ensures bound { IfOk result (λ n. n ≤ 64) }
+    {
+        scratch.clear();
+        let innermost = scopes.ends(alloc, 0)?;
+        self.push_ends(&innermost, scratch)?;
+        Ok(emitted_length(scratch))
+    }
+
+    // Takes the sums along to a place inside these blocks, of which at most one was entered or left since.
+    fn follow(
+        &self,
+        alloc: Global,
+        scopes: &Scopes,
+        sums: &mut EndSums,
+        scratch: &mut Vec<Instr>,
+    ) -> Result<(), AllocError>
+        requires few { first_or sums.old 0 + 64 ≤ ends_most }
+        ensures around { OnOk result ((ss : List Scope) (tt : List Scope) → sums.old ≡ end_sums self.now ss → scopes.now ≡ blocks_around tt → IsNear ss tt → sums.new ≡ end_sums self.now tt) }
+        ensures below { OnOk result ((m : ℕ) → m + 64 ≤ ends_most → AreBelow (m + 64) sums.old → AreBelow m sums.new) }
+    {
+        if scopes.depth() < sums.depth() {
+            sums.leave();
+            return Ok(());
+        }
+        if scopes.depth() == sums.depth() {
+            return Ok(());
+        }
+        let length = self.innermost_length(alloc, scopes, scratch)?;
+        sums.enter(length)
+    }
+
+    // What the entry of the function adds.
+    fn entry_length(&self, scratch: &mut Vec<Instr>) -> Result<u64, AllocError>
+        ensures { IfOk result (AreBytes (entry_code self.now)) }
+    {
+        scratch.clear();
+        self.push_entry(scratch)?;
+        Ok(emitted_length(scratch))
+    }
+
+    // Adds what stands before the opcode of a block of this kind.
+    fn push_opening(
+        &self,
+        kind: BlockKind,
+        position: u32,
+        code: &mut Vec<Instr>,
+    ) -> Result<(), AllocError>
+        requires low { position < 2 ^ 31 }
+        requires room { HasRoom self.now.pool (open_temps self.now.hooks kind) }
+        ensures { OnOk result (code.new.items ≡ code.old.items ++ instrs (before_opening self.now position kind)) }
+    {
+        match kind {
+            BlockKind::If => {
+                let wanted = self.has(GroupName::If);
+                self.push_tell_before(position as i32, GroupName::If, wanted, code)
+            }
+            _ => Ok(()),
+        }
+    }
+
+    // Its bytes.
+    fn before_length(
+        &self,
+        kind: BlockKind,
+        position: u32,
+        scratch: &mut Vec<Instr>,
+    ) -> Result<u64, AllocError>
+        requires low { position < 2 ^ 31 }
+        requires room { HasRoom self.now.pool (open_temps self.now.hooks kind) }
+        ensures { IfOk result (AreBytes (before_opening self.now position kind)) }
+    {
+        scratch.clear();
+        self.push_opening(kind, position, scratch)?;
+        Ok(emitted_length(scratch))
+    }
+
+    // What stands at the begin of a part.
+    fn begin_length(&self, block: Block, scratch: &mut Vec<Instr>) -> Result<u64, AllocError>
+        ensures { IfOk result (AreBytes (tell_begin self.now block.begin block.kind)) }
+    {
+        scratch.clear();
+        self.push_begin(block.begin, block.kind, scratch)?;
+        Ok(emitted_length(scratch))
+    }
+
+    // The results of the function, where the block that ends is its outermost one.
+    fn push_last_results(
+        &self,
+        alloc: Global,
+        outermost: bool,
+        position: i32,
+        scratch: &mut Vec<Instr>,
+    ) -> Result<(), AllocError>
+        requires { let ts = self.now.site.context.results in HasRoom self.now.pool (when outermost (wanted_temps self.now.hooks (keys.Return ts) ts)) }
+        ensures { OnOk result (scratch.new.items ≡ scratch.old.items ++ instrs (when outermost (tell_results self.now position))) }
+    {
+        if !outermost {
+            return Ok(());
+        }
+        self.push_results(alloc, position, scratch)
+    }
+
+    // Adds what stands before the end of a live block.
+    fn push_closing(
+        &self,
+        alloc: Global,
+        block: Block,
+        outermost: bool,
+        code: &mut Vec<Instr>,
+    ) -> Result<(), AllocError>
+        requires { let ts = self.now.site.context.results in HasRoom self.now.pool (when outermost (wanted_temps self.now.hooks (keys.Return ts) ts)) }
+        ensures { OnOk result (code.new.items ≡ code.old.items ++ instrs (when outermost (tell_results self.now block.end) ++ end_code self.now (end_of block))) }
+    {
+        self.push_last_results(alloc, outermost, block.end, code)?;
+        self.push_end(block.end_of(), code)
+    }
+
+    // Its bytes.
+    fn closing_length(
+        &self,
+        alloc: Global,
+        block: Block,
+        outermost: bool,
+        scratch: &mut Vec<Instr>,
+    ) -> Result<u64, AllocError>
+        requires room { let ts = self.now.site.context.results in HasRoom self.now.pool (when outermost (wanted_temps self.now.hooks (keys.Return ts) ts)) }
+        requires narrow { IsNarrow types_most self.now.site.context }
+        ensures length { IfOk result (AreBytes (when outermost (tell_results self.now block.end) ++ end_code self.now (end_of block))) }
+        ensures bound { IfOk result (λ n. n + 1 ≤ place_most) }
+    {
+        scratch.clear();
+        self.push_closing(alloc, block, outermost, scratch)?;
+        Ok(emitted_length(scratch))
+    }
+
+    // What stands before the end of a then part, where that is live.
+    fn then_length(
+        &self,
+        then_live: bool,
+        block: Block,
+        scratch: &mut Vec<Instr>,
+    ) -> Result<u64, AllocError>
+        ensures { IfOk result (λ n. AreBytes (when then_live (end_code self.now (end_of block))) n) }
+    {
+        if !then_live {
+            return Ok(0);
+        }
+        self.end_length(block, scratch)
+    }
+
+    // Adds a live `br` without the ends that it passes.
+    fn push_br_told(
+        &self,
+        label: u32,
+        scopes: &Scopes,
+        position: u32,
+        code: &mut Vec<Instr>,
+    ) -> Result<(), AllocError>
+        requires { position < 2 ^ 31 }
+        ensures { OnOk result (code.new.items ≡ code.old.items ++ instrs (br_told self.now position label (target_word scopes.now label))) }
+    {
+        self.push_branch_tell(GroupName::Br, label, scopes, &[], position as i32, code)?;
+        push_each(code, [Instr::Br(label)])
+    }
+
+    // A live `br`.
+    fn br_length(
+        &self,
+        label: u32,
+        scopes: &Scopes,
+        sums: &EndSums,
+        position: u32,
+        scratch: &mut Vec<Instr>,
+    ) -> Result<u64, AllocError>
+        requires low { position < 2 ^ 31 }
+        requires few { first_or sums.now 0 ≤ ends_most }
+        ensures length { IfOk result (λ n. (ss : List Scope) → AreAround self.now ss scopes.now sums.now → n ≡ live_length self.now (pos position) ss (positions.acts (tree.br label))) }
+        ensures bound { IfOk result (λ n. n ≤ place_most) }
+    {
+        scratch.clear();
+        self.push_br_told(label, scopes, position, scratch)?;
+        Ok(emitted_length(scratch) + sums.left_by(label))
+    }
+
+    // Adds what stands before a live `br_if` without the ends that it passes, with a copy of its condition where these
+    // are told.
+    fn push_br_if_told(
+        &self,
+        label: u32,
+        scopes: &Scopes,
+        position: u32,
+        ends: bool,
+        code: &mut Vec<Instr>,
+    ) -> Result<(), AllocError>
+        requires low { position < 2 ^ 31 }
+        requires room { HasTemps self.now.pool 0 (I32 ∷ []) }
+        ensures { OnOk result (code.new.items ≡ code.old.items ++ instrs (br_if_told self.now position label (target_word scopes.now label) ends)) }
+    {
+        let kept = self.one_temp(ValType::I32);
+        push_tee(&kept, code)?;
+        self.push_branch_tell(GroupName::BrIf, label, scopes, &kept, position as i32, code)?;
+        push_gets_where(ends, &kept, code)
+    }
+
+    // A live `br_if` that is told, or whose ends are.
+    fn told_br_if_length(
+        &self,
+        label: u32,
+        scopes: &Scopes,
+        sums: &EndSums,
+        position: u32,
+        scratch: &mut Vec<Instr>,
+    ) -> Result<u64, AllocError>
+        requires low { position < 2 ^ 31 }
+        requires room { HasTemps self.now.pool 0 (I32 ∷ []) }
+        requires few { first_or sums.now 0 ≤ ends_most }
+        ensures length { IfOk result (λ n. (ss : List Scope) → AreAround self.now ss scopes.now sums.now → n ≡ length (code_bytes (br_if_before true self.now ss position label done))) }
+        ensures bound { IfOk result (λ n. n ≤ place_most) }
+    {
+        let ends = self.has(GroupName::End);
+        scratch.clear();
+        self.push_br_if_told(label, scopes, position, ends, scratch)?;
+        let told = emitted_length(scratch) + plain_length(&Instr::BrIf(label));
+        if !ends {
+            return Ok(told);
+        }
+        Ok(told + 3 + sums.left_by(label))
+    }
+
+    // A live `br_if`.
+    fn br_if_length(
+        &self,
+        label: u32,
+        scopes: &Scopes,
+        sums: &EndSums,
+        position: u32,
+        scratch: &mut Vec<Instr>,
+    ) -> Result<u64, AllocError>
+        requires low { position < 2 ^ 31 }
+        requires room { HasRoom self.now.pool (plain_temps self.now.hooks self.now.site position (tree.br_if label)) }
+        requires few { first_or sums.now 0 ≤ ends_most }
+        ensures length { IfOk result (λ n. (ss : List Scope) → AreAround self.now ss scopes.now sums.now → n ≡ live_length self.now (pos position) ss (positions.acts (tree.br_if label))) }
+        ensures bound { IfOk result (λ n. n ≤ place_most) }
+    {
+        if self.watches_br_if() {
+            return self.told_br_if_length(label, scopes, sums, position, scratch);
+        }
+        Ok(plain_length(&Instr::BrIf(label)))
+    }
+
+    // Adds the index of a live `br_table`, told before it.
+    fn push_table_told(&self, position: u32, code: &mut Vec<Instr>) -> Result<(), AllocError>
+        requires low { position < 2 ^ 31 }
+        requires room { HasRoom self.now.pool (wanted_temps self.now.hooks (keys.Plain groups.BrTable) (I32 ∷ [])) }
+        ensures { OnOk result (code.new.items ≡ code.old.items ++ instrs (tell_before self.now position (keys.Plain groups.BrTable))) }
+    {
+        let wanted = self.has(GroupName::BrTable) || self.has(GroupName::End);
+        self.push_tell_before(position as i32, GroupName::BrTable, wanted, code)
+    }
+
+    // A live `br_table`, whose labels are counted where they stand.
+    fn table_length(
+        &self,
+        instr: &Instr,
+        position: u32,
+        scratch: &mut Vec<Instr>,
+    ) -> Result<u64, AllocError>
+        requires low { position < 2 ^ 31 }
+        requires room { HasRoom self.now.pool (wanted_temps self.now.hooks (keys.Plain groups.BrTable) (I32 ∷ [])) }
+        requires table { IsTable instr.now }
+        requires few { place_most + most_bytes instr.now < 2 ^ 64 }
+        ensures length { IfOk result (λ n. (ss : List Scope) (i : Plain) → plain_of instr.now ≡ Some i → n ≡ live_length self.now (pos position) ss (positions.acts i)) }
+        ensures bound { IfOk result (λ n. n ≤ place_most + most_bytes instr.now) }
+    {
+        scratch.clear();
+        self.push_table_told(position, scratch)?;
+        Ok(emitted_length(scratch) + plain_length(instr))
+    }
+
+    // Adds a live `return` without the ends that it passes.
+    fn push_return_told(
+        &self,
+        alloc: Global,
+        position: u32,
+        code: &mut Vec<Instr>,
+    ) -> Result<(), AllocError>
+        requires low { position < 2 ^ 31 }
+        requires room { HasRoom self.now.pool (plain_temps self.now.hooks self.now.site position tree.return_) }
+        ensures { OnOk result (code.new.items ≡ code.old.items ++ instrs (tell_results self.now (pos position) ++ tree.return_ ∷ [])) }
+    {
+        self.push_results(alloc, position as i32, code)?;
+        push_each(code, [Instr::Return])
+    }
+
+    // A live `return`.
+    fn return_length(
+        &self,
+        alloc: Global,
+        sums: &EndSums,
+        position: u32,
+        scratch: &mut Vec<Instr>,
+    ) -> Result<u64, AllocError>
+        requires low { position < 2 ^ 31 }
+        requires room { HasRoom self.now.pool (plain_temps self.now.hooks self.now.site position tree.return_) }
+        requires narrow { IsNarrow types_most self.now.site.context }
+        requires few { first_or sums.now 0 ≤ ends_most }
+        ensures length { IfOk result (λ n. (ss : List Scope) → sums.now ≡ end_sums self.now ss → n ≡ live_length self.now (pos position) ss (positions.acts tree.return_)) }
+        ensures bound { IfOk result (λ n. n ≤ place_most) }
+    {
+        scratch.clear();
+        self.push_return_told(alloc, position, scratch)?;
+        Ok(emitted_length(scratch) + sums.all())
+    }
+
+    // A live instruction that is no branch and no return.
+    fn straight_length(
+        &self,
+        alloc: Global,
+        instr: &Instr,
+        scopes: &Scopes,
+        position: u32,
+        scratch: &mut Vec<Instr>,
+    ) -> Result<u64, AllocError>
+        requires low { position < 2 ^ 31 }
+        requires room { HasRoom self.now.pool (temps_of self.now.hooks self.now.site position instr.now) }
+        requires maps { Maps (remap self.now) (before instr.now done) }
+        requires narrow { IsNarrow types_most self.now.site.context }
+        requires straight { IsStraightInstr instr.now }
+        requires around { (ss : List Scope) × (scopes.now ≡ blocks_around ss) }
+        ensures length { IfOk result (λ n. (ss : List Scope) (i : Plain) → plain_of instr.now ≡ Some i → scopes.now ≡ blocks_around ss → n ≡ live_length self.now (pos position) ss (positions.acts i)) }
+        ensures bound { IfOk result (λ n. n ≤ place_most) }
+    {
+        scratch.clear();
+        self.push_plain(alloc, instr, scopes, position, scratch)?;
+        Ok(emitted_length(scratch))
+    }
+
+    // A live instruction without a sequence in it.
+    fn act_length(
+        &self,
+        alloc: Global,
+        instr: &Instr,
+        scopes: &Scopes,
+        sums: &EndSums,
+        position: u32,
+        scratch: &mut Vec<Instr>,
+    ) -> Result<u64, AllocError>
+        requires plain { IsPlainInstr instr.now }
+        requires low { position < 2 ^ 31 }
+        requires room { HasRoom self.now.pool (temps_of self.now.hooks self.now.site position instr.now) }
+        requires maps { Maps (remap self.now) (before instr.now done) }
+        requires narrow { IsNarrow types_most self.now.site.context }
+        requires few { first_or sums.now 0 ≤ ends_most }
+        requires around { (ss : List Scope) × (scopes.now ≡ blocks_around ss) }
+        requires own { place_most + most_bytes instr.now < 2 ^ 64 }
+        ensures length { IfOk result (λ n. (ss : List Scope) (i : Plain) → plain_of instr.now ≡ Some i → AreAround self.now ss scopes.now sums.now → n ≡ live_length self.now (pos position) ss (positions.acts i)) }
+        ensures bound { IfOk result (λ n. n ≤ place_most + most_bytes instr.now) }
+    {
+        match instr {
+            Instr::Br(label) => self.br_length(*label, scopes, sums, position, scratch),
+            Instr::BrIf(label) => self.br_if_length(*label, scopes, sums, position, scratch),
+            Instr::BrTable(_, _) => self.table_length(instr, position, scratch),
+            Instr::Return => self.return_length(alloc, sums, position, scratch),
+            _ => self.straight_length(alloc, instr, scopes, position, scratch),
+        }
+    }
+
+    // An instruction that is not live: its own bytes, with the function that it calls remapped.
+    fn dead_act_length(&self, instr: &Instr) -> u64
+        requires plain { IsPlainInstr instr.now }
+        requires maps { Maps (remap self.now) (before instr.now done) }
+        ensures length { (i : Plain) → plain_of instr.now ≡ Some i → result ≡ length (plain_bytes (map_plain (remap self.now) i)) }
+        ensures bound { result ≤ most_bytes instr.now }
+    {
+        match instr {
+            Instr::Call(func) => plain_length(&Instr::Call(self.remap.map(*func))),
+            _ => plain_length(instr),
+        }
+    }
+
+    // A place that is live.
+    fn live_length(
+        &self,
+        alloc: Global,
+        place: &Place<'_>,
+        scopes: &Scopes,
+        sums: &EndSums,
+        scratch: &mut Vec<Instr>,
+    ) -> Result<u64, AllocError>
+        requires can { CanCount self.now place.now scopes.now sums.now }
+        requires live { place.now.live ≡ true }
+        requires narrow { IsNarrow types_most self.now.site.context }
+        requires few { first_or sums.now 0 ≤ ends_most }
+        ensures length { IfOk result (λ n. (x : positions.Place) → IsAt self.now x place.now scopes.now sums.now → n ≡ live_length self.now x.position x.scopes x.opcode) }
+        ensures bound { IfOk result (λ n. (x : positions.Place) → IsAt self.now x place.now scopes.now sums.now → n ≤ place_most + opcode_most x.opcode) }
+    {
+        let position = place.position.unsigned_abs();
+        match place.opcode {
+            Opcode::Enters => self.entry_length(scratch),
+            Opcode::Acts(instr) => self.act_length(alloc, instr, scopes, sums, position, scratch),
+            Opcode::Opens(block) => {
+                let before = self.before_length(block.kind, position, scratch)?;
+                Ok(before + 2 + self.begin_length(block, scratch)?)
+            }
+            Opcode::Alternates {
+                then_part,
+                else_part,
+                then_live,
+            } => {
+                let end = self.then_length(then_live, then_part, scratch)?;
+                Ok(end + 1 + self.begin_length(else_part, scratch)?)
+            }
+            Opcode::Closes(block) => {
+                let outermost = scopes.depth() == 0;
+                Ok(self.closing_length(alloc, block, outermost, scratch)? + 1)
+            }
+        }
+    }
+
+    // A place that is not.
+    fn dead_length(&self, place: &Place<'_>) -> u64
+        requires fits { (x : positions.Place) × IsPlaceOf x place.now × FitsPlace (remap self.now) x }
+        ensures length { (x : positions.Place) → IsPlaceOf x place.now → result ≡ dead_length self.now x.opcode }
+        ensures bound { (x : positions.Place) → IsPlaceOf x place.now → result ≤ 2 + opcode_most x.opcode }
+    {
+        match place.opcode {
+            Opcode::Enters => 0,
+            Opcode::Acts(instr) => self.dead_act_length(instr),
+            Opcode::Opens(_) => 2,
+            Opcode::Alternates { .. } | Opcode::Closes(_) => 1,
+        }
+    }
+
+    // A place.
+    fn place_length(
+        &self,
+        alloc: Global,
+        place: &Place<'_>,
+        scopes: &Scopes,
+        sums: &EndSums,
+        scratch: &mut Vec<Instr>,
+    ) -> Result<u64, AllocError>
+        requires can { CanCount self.now place.now scopes.now sums.now }
+        requires narrow { IsNarrow types_most self.now.site.context }
+        requires few { first_or sums.now 0 ≤ ends_most }
+        ensures length { IfOk result (λ n. (x : positions.Place) → IsAt self.now x place.now scopes.now sums.now → n ≡ place_length self.now x) }
+        ensures bound { IfOk result (λ n. (x : positions.Place) → IsAt self.now x place.now scopes.now sums.now → n ≤ place_most + opcode_most x.opcode) }
+    {
+        if !place.live {
+            return Ok(self.dead_length(place));
+        }
+        self.live_length(alloc, place, scopes, sums, scratch)
+    }
+
+    // The groups of locals, those of the temporaries among them, with their number in front.
+    fn locals_length(&self, alloc: Global) -> Result<u64, AllocError>
+        requires { length (body_bytes self.now.site.body) ≤ 268435456 }
+        ensures length { IfOk result (λ n. n ≡ length (vec_bytes group_bytes (self.now.site.body.groups ++ pool_groups self.now.pool))) }
+        ensures bound { IfOk result (λ n. n ≤ 268435500) }
+    {
+        let own = self.site.body().groups.as_slice();
+        let mut added = Vec::new(alloc);
+        self.pool.push_groups(&mut added)?;
+        let count = unsigned_length(own.len() as u64 + added.len() as u64);
+        Ok(count + groups_length(own) + groups_length(&added))
+    }
+
+    /// How many bytes the rewritten body has. It takes time in proportion to the body as it is, however many ends its
+    /// branches leave. An `Err` comes where there is no memory.
+    pub fn rewritten_length(&self, alloc: Global) -> Result<u64, AllocError>
+        requires { IsCountable self.now }
+        ensures { IfOk result (λ n. n ≡ size_of self.now) }
+    {
+        let mut total = self.locals_length(alloc)?;
+        let mut walk = Walk::new(alloc, &self.site.body().code)?;
+        let mut sums = EndSums::new(alloc);
+        let mut scratch = Vec::new(alloc);
+        while let Some(place) = walk.next()? {
+            self.follow(alloc, walk.scopes(), &mut sums, &mut scratch)?;
+            total += self.place_length(alloc, &place, walk.scopes(), &sums, &mut scratch)?;
+        }
+        Ok(total)
+    }
+}
+
+/// How many bytes the body that `rewrite_body` makes has, under the same conditions: those that stand behind its size in
+/// the code section. It takes time in proportion to the body as it is, however many ends its branches pass. An `Err` comes
+/// where there is no memory. (Standard, 5.5.13)
+pub fn size_of(
+    alloc: Global,
+    body: TypedBody<'_>,
+    hooks: Hooks,
+    table: &HookTable,
+    remap: Remap,
+) -> Result<u64, NoMemory>
+    requires added { remap.added ≡ length table.now }
+    requires numbers { CanRewrite body.module body.defined hooks table.now remap.imports }
+    ensures { IfOk result (λ n. option_map (λ s. size_of (setting_of hooks table.now remap.imports s)) (slice_get (sites body.entry.module) body.entry.defined) ≡ Some n) }
+{
+    // Its module is whole, so that it came from a file.
+    let _ = body.marks();
+    let setting = Setting::of(alloc, &body, hooks, table, remap)?;
+    setting.rewritten_length(alloc)
+}
