@@ -1,5 +1,5 @@
 -- The bytes of instructions that were put into a list of the program.
-use Rattle.std.proofs.Common.{◌≡◌, ℕ, zero, suc, ◌+◌, ◌<◌, ◌≤◌, ◌^◌, List, [], ◌∷◌, length, drop, drop-cons, add-one, Some, map, get_or, refl, sym, ap, ◌∙◌, subst, arith}
+use Rattle.std.proofs.Common.{◌≡◌, ℕ, zero, suc, ◌+◌, ◌<◌, ◌≤◌, ◌^◌, List, [], ◌∷◌, length, drop, drop-cons, add-one, Some, get_or, refl, sym, ap, ◌∙◌, subst, arith}
 use Rattle.module_ast.specs.declared.code.Instr.{Instr}
 use Rattle.module_ast.specs.declared.code.Instr.TheVariants.{Call}
 use Rattle.module_ast.specs.Canonical.{code_bytes}
@@ -9,7 +9,7 @@ use Rattle.module_ast.specs.Seen.{before, code_of}
 use Rattle.module_ast.specs.Tree.{Tree, done, plain, Plain, unreachable, call}
 use Rattle.i64_split.specs.Pushing.{instrs}
 use Rattle.rewrite.specs.Sizes.{plains_length, plains_most}
-use Rattle.rewrite.specs.Sizing.{AreFew, AreBytes, instrs_most}
+use Rattle.rewrite.specs.Sizing.{AreShortInstrs, HaveBytes, instrs_most}
 use Rattle.rewrite.proofs.SizedCode.{plains_before}
 
 before_is : (i : Plain) (t : Tree) → before (instr_of i) t ≡ plain i t
@@ -36,7 +36,7 @@ plain_in [] k d h = absurd (omega arith)
 plain_in (i ∷ is) zero d h = is_plain i
 plain_in (i ∷ is) (suc k) d h = plain_in is k d (omega arith)
 
-module _ (emitted : List Instr) (few : AreFew emitted) where
+module _ (emitted : List Instr) (few : AreShortInstrs emitted) where
   pub plain_at : (k : ℕ) (d : Instr) → k < length emitted → IsPlainInstr (get_or emitted k d)
   plain_at k d h =
       subst (λ (l : List Instr). IsPlainInstr (get_or l k d)) (sym few.are) (plain_in few.plains k d (subst (λ (l : List Instr). k < length l) few.are h))
@@ -45,14 +45,14 @@ module _ (emitted : List Instr) (few : AreFew emitted) where
   within = subst (λ n. n < 2 ^ 63) (sym (ap instrs_most few.are ∙ most_is few.plains)) few.few
 
 -- what was counted is the bytes of these instructions
-pub counted : (emitted : List Instr) (n : ℕ) → n ≡ length (code_bytes (code_of emitted)) → n ≤ instrs_most emitted → (is : List Plain) → emitted ≡ instrs is → AreBytes is n
+pub counted : (emitted : List Instr) (n : ℕ) → n ≡ length (code_bytes (code_of emitted)) → n ≤ instrs_most emitted → (is : List Plain) → emitted ≡ instrs is → HaveBytes is n
 counted emitted n e l is a = record {
   value = e ∙ ap (λ (l : List Instr). length (code_bytes (code_of l))) a ∙ bytes_are is;
   bound = subst (λ m. n ≤ m) (ap instrs_most a ∙ most_is is) l;
 }
 
 -- instructions that were put into an empty list
-pub few_of : (emitted items : List Instr) (is : List Plain) → emitted ≡ items → items ≡ instrs is → plains_most is < 2 ^ 63 → AreFew emitted
+pub few_of : (emitted items : List Instr) (is : List Plain) → emitted ≡ items → items ≡ instrs is → plains_most is < 2 ^ 63 → AreShortInstrs emitted
 few_of emitted items is a b l = record { plains = is; are = a ∙ b; few = l }
 
 -- as one more instruction

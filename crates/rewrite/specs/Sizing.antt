@@ -1,5 +1,5 @@
 -- What the count of a rewritten body's bytes promises of its parts.
-use Rattle.std.specs.Prelude.{◌≡◌, ℕ, ◌+◌, ◌*◌, ◌<◌, ◌≤◌, ◌^◌, List, [], ◌∷◌, ◌++◌, pos, map, length, Bool}
+use Rattle.std.specs.Prelude.{◌≡◌, ℕ, ◌+◌, ◌<◌, ◌≤◌, ◌^◌, List, [], ◌∷◌, ◌++◌, pos, map, length, Bool}
 use Rattle.std.specs.List.{AllByRecursion}
 use Rattle.module_ast.specs.declared.code.Instr.{Instr}
 use Rattle.module_ast.specs.declared.code.Instr.TheVariants.{Block, Loop, If, Br, BrIf, BrTable, Return}
@@ -26,13 +26,13 @@ use Rattle.rewrite.specs.Emitted.{HasRoom}
 use Rattle.rewrite.specs.Sizes.{plains_length, plains_most, end_sums, opcode_most, FitsPlace, IsNarrow}
 
 -- these instructions of the program have no sequences in them, and not too many bytes
-pub record AreFew (emitted : List Instr) : Type 0 where
+pub record AreShortInstrs (emitted : List Instr) : Type 0 where
   pub plains : List Plain
   pub are : emitted ≡ map instr_of plains
   pub few : plains_most plains < 2 ^ 63
 
 -- a number is that of the bytes of these instructions
-pub record AreBytes (is : List Plain) (n : ℕ) : Type 0 where
+pub record HaveBytes (is : List Plain) (n : ℕ) : Type 0 where
   pub value : n ≡ plains_length is
   pub bound : n ≤ plains_most is
 
@@ -52,14 +52,14 @@ abbrev pub AreBelow : (more : ℕ) → List ℕ → Type 0
 AreBelow more sums = AllByRecursion (λ n. n + more ≤ ends_most) sums
 
 -- these blocks and these sums are those of scopes
-pub record AreAround (w : Setting) (ss : List Scope) (around : List Around) (sums : List ℕ) : Type 0 where
+pub record AreBlocksAround (w : Setting) (ss : List Scope) (around : List Around) (sums : List ℕ) : Type 0 where
   pub blocks : around ≡ blocks_around ss
   pub ends : sums ≡ end_sums w ss
 
 -- a place of the standard's text, as the program reads it
 pub record IsAt (w : Setting) (x : positions.Place) (y : Place) (around : List Around) (sums : List ℕ) : Type 0 where
   pub place : IsPlaceOf x y
-  pub inside : AreAround w x.scopes around sums
+  pub inside : AreBlocksAround w x.scopes around sums
 
 -- such a place can be counted
 pub record CanCount (w : Setting) (y : Place) (around : List Around) (sums : List ℕ) : Type 0 where
@@ -80,9 +80,9 @@ pub record IsCountable (w : Setting) : Type 0 where
   pub bytes : length (body_bytes w.site.body) ≤ 268435456
 
 -- the instruction of a branch by a table
-abbrev pub IsTable : Instr → Type 0
-IsTable (BrTable ls l) = Unit {0}
-IsTable _ = ⊥
+abbrev pub IsBranchTable : Instr → Type 0
+IsBranchTable (BrTable ls l) = Unit {0}
+IsBranchTable _ = ⊥
 
 -- no branch, no return, and nothing with a sequence
 abbrev pub IsStraightInstr : Instr → Type 0

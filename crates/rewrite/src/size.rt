@@ -22,12 +22,13 @@ ghost use Rattle.wasm_encode.specs.Lengths.{most_bytes};
 ghost use Rattle.rewrite.specs.Setting.{remap, tell_end};
 ghost use Rattle.rewrite.specs.Temporaries.{plain_temps, wanted_temps, open_temps};
 ghost use Rattle.rewrite.specs.Templates.{template, tell_begin, tell_before, tell_results};
-ghost use Rattle.rewrite.specs.Emitted.{end_code, target_word, HasRoom, temps_of};
+ghost use Rattle.rewrite.specs.Room.{instr_temps};
+ghost use Rattle.rewrite.specs.Emitted.{block_end_code, target_word, HasRoom};
 ghost use Rattle.hook_mono.specs.Needed.{sites};
 ghost use Rattle.rewrite.specs.Conditions.{CanRewrite};
 ghost use Rattle.rewrite.specs.Rewrite.{entry_code, br_if_before, size_of, setting_of};
 ghost use Rattle.rewrite.specs.Sizes.{plains_length, end_sums, before_opening, live_length, dead_length, place_length, opcode_most, FitsPlace, IsNear, IsNarrow};
-ghost use Rattle.rewrite.specs.Sizing.{AreFew, AreBytes, AreBelow, AreAround, IsAt, CanCount, IsCountable, IsTable, IsStraightInstr, br_told, br_if_told, types_most, ends_most, place_most};
+ghost use Rattle.rewrite.specs.Sizing.{AreShortInstrs, HaveBytes, AreBelow, AreBlocksAround, IsAt, CanCount, IsCountable, IsBranchTable, IsStraightInstr, br_told, br_if_told, types_most, ends_most, place_most};
 
 use crate::end_sums::EndSums;
 use crate::setting::Setting;
@@ -46,8 +47,8 @@ use wasm_num::{BlockKind, NoMemory, ValType};
 
 // The bytes of instructions without sequences in them.
 fn emitted_length(emitted: &[Instr]) -> u64
-    requires { AreFew emitted.now }
-    ensures { (is : List Plain) → emitted.now ≡ instrs is → AreBytes is result }
+    requires { AreShortInstrs emitted.now }
+    ensures { (is : List Plain) → emitted.now ≡ instrs is → HaveBytes is result }
 {
     let mut total = 0;
     for instr in emitted {
@@ -69,11 +70,7 @@ fn groups_length(groups: &[Group]) -> u64
 }
 
 // Adds what these temporaries hold, where `wanted`.
-fn push_gets_where(
-    wanted: bool,
-    temps: &[Temp],
-    code: &mut Vec<Instr>,
-) -> Result<(), AllocError>
+fn push_gets_where(wanted: bool, temps: &[Temp], code: &mut Vec<Instr>) -> Result<(), AllocError>
     ensures { OnOk result (code.new.items ≡ code.old.items ++ instrs (when wanted (gets temps.now))) }
 {
     if !wanted {
@@ -85,7 +82,7 @@ fn push_gets_where(
 impl<'m> Setting<'m> {
     // The bytes of the call of a block's end hook.
     fn end_length(&self, block: Block, scratch: &mut Vec<Instr>) -> Result<u64, AllocError>
-        ensures { IfOk result (AreBytes (end_code self.now (end_of block))) }
+        ensures { IfOk result (HaveBytes (block_end_code self.now (end_of block))) }
     {
         scratch.clear();
         self.push_end(block.end_of(), scratch)?;
@@ -133,7 +130,7 @@ impl<'m> Setting<'m> {
 
     // What the entry of the function adds.
     fn entry_length(&self, scratch: &mut Vec<Instr>) -> Result<u64, AllocError>
-        ensures { IfOk result (AreBytes (entry_code self.now)) }
+        ensures { IfOk result (HaveBytes (entry_code self.now)) }
     {
         scratch.clear();
         self.push_entry(scratch)?;
@@ -169,7 +166,7 @@ impl<'m> Setting<'m> {
     ) -> Result<u64, AllocError>
         requires low { position < 2 ^ 31 }
         requires room { HasRoom self.now.pool (open_temps self.now.hooks kind) }
-        ensures { IfOk result (AreBytes (before_opening self.now position kind)) }
+        ensures { IfOk result (HaveBytes (before_opening self.now position kind)) }
     {
         scratch.clear();
         self.push_opening(kind, position, scratch)?;
@@ -178,7 +175,7 @@ impl<'m> Setting<'m> {
 
     // What stands at the begin of a part.
     fn begin_length(&self, block: Block, scratch: &mut Vec<Instr>) -> Result<u64, AllocError>
-        ensures { IfOk result (AreBytes (tell_begin self.now block.begin block.kind)) }
+        ensures { IfOk result (HaveBytes (tell_begin self.now block.begin block.kind)) }
     {
         scratch.clear();
         self.push_begin(block.begin, block.kind, scratch)?;
@@ -211,7 +208,7 @@ impl<'m> Setting<'m> {
         code: &mut Vec<Instr>,
     ) -> Result<(), AllocError>
         requires { let ts = self.now.site.context.results in HasRoom self.now.pool (when outermost (wanted_temps self.now.hooks (keys.Return ts) ts)) }
-        ensures { OnOk result (code.new.items ≡ code.old.items ++ instrs (when outermost (tell_results self.now block.end) ++ end_code self.now (end_of block))) }
+        ensures { OnOk result (code.new.items ≡ code.old.items ++ instrs (when outermost (tell_results self.now block.end) ++ block_end_code self.now (end_of block))) }
     {
         self.push_last_results(alloc, outermost, block.end, code)?;
         self.push_end(block.end_of(), code)
@@ -227,7 +224,7 @@ impl<'m> Setting<'m> {
     ) -> Result<u64, AllocError>
         requires room { let ts = self.now.site.context.results in HasRoom self.now.pool (when outermost (wanted_temps self.now.hooks (keys.Return ts) ts)) }
         requires narrow { IsNarrow types_most self.now.site.context }
-        ensures length { IfOk result (AreBytes (when outermost (tell_results self.now block.end) ++ end_code self.now (end_of block))) }
+        ensures length { IfOk result (HaveBytes (when outermost (tell_results self.now block.end) ++ block_end_code self.now (end_of block))) }
         ensures bound { IfOk result (λ n. n + 1 ≤ place_most) }
     {
         scratch.clear();
@@ -242,7 +239,7 @@ impl<'m> Setting<'m> {
         block: Block,
         scratch: &mut Vec<Instr>,
     ) -> Result<u64, AllocError>
-        ensures { IfOk result (λ n. AreBytes (when then_live (end_code self.now (end_of block))) n) }
+        ensures { IfOk result (λ n. HaveBytes (when then_live (block_end_code self.now (end_of block))) n) }
     {
         if !then_live {
             return Ok(0);
@@ -276,7 +273,7 @@ impl<'m> Setting<'m> {
     ) -> Result<u64, AllocError>
         requires low { position < 2 ^ 31 }
         requires few { first_or sums.now 0 ≤ ends_most }
-        ensures length { IfOk result (λ n. (ss : List Scope) → AreAround self.now ss scopes.now sums.now → n ≡ live_length self.now (pos position) ss (positions.acts (tree.br label))) }
+        ensures length { IfOk result (λ n. (ss : List Scope) → AreBlocksAround self.now ss scopes.now sums.now → n ≡ live_length self.now (pos position) ss (positions.acts (tree.br label))) }
         ensures bound { IfOk result (λ n. n ≤ place_most) }
     {
         scratch.clear();
@@ -316,7 +313,7 @@ impl<'m> Setting<'m> {
         requires low { position < 2 ^ 31 }
         requires room { HasTemps self.now.pool 0 (I32 ∷ []) }
         requires few { first_or sums.now 0 ≤ ends_most }
-        ensures length { IfOk result (λ n. (ss : List Scope) → AreAround self.now ss scopes.now sums.now → n ≡ length (code_bytes (br_if_before true self.now ss position label done))) }
+        ensures length { IfOk result (λ n. (ss : List Scope) → AreBlocksAround self.now ss scopes.now sums.now → n ≡ length (code_bytes (br_if_before true self.now ss position label done))) }
         ensures bound { IfOk result (λ n. n ≤ place_most) }
     {
         let ends = self.has(GroupName::End);
@@ -341,7 +338,7 @@ impl<'m> Setting<'m> {
         requires low { position < 2 ^ 31 }
         requires room { HasRoom self.now.pool (plain_temps self.now.hooks self.now.site position (tree.br_if label)) }
         requires few { first_or sums.now 0 ≤ ends_most }
-        ensures length { IfOk result (λ n. (ss : List Scope) → AreAround self.now ss scopes.now sums.now → n ≡ live_length self.now (pos position) ss (positions.acts (tree.br_if label))) }
+        ensures length { IfOk result (λ n. (ss : List Scope) → AreBlocksAround self.now ss scopes.now sums.now → n ≡ live_length self.now (pos position) ss (positions.acts (tree.br_if label))) }
         ensures bound { IfOk result (λ n. n ≤ place_most) }
     {
         if self.watches_br_if() {
@@ -369,7 +366,7 @@ impl<'m> Setting<'m> {
     ) -> Result<u64, AllocError>
         requires low { position < 2 ^ 31 }
         requires room { HasRoom self.now.pool (wanted_temps self.now.hooks (keys.Plain groups.BrTable) (I32 ∷ [])) }
-        requires table { IsTable instr.now }
+        requires table { IsBranchTable instr.now }
         requires few { place_most + most_bytes instr.now < 2 ^ 64 }
         ensures length { IfOk result (λ n. (ss : List Scope) (i : Plain) → plain_of instr.now ≡ Some i → n ≡ live_length self.now (pos position) ss (positions.acts i)) }
         ensures bound { IfOk result (λ n. n ≤ place_most + most_bytes instr.now) }
@@ -424,7 +421,7 @@ impl<'m> Setting<'m> {
         scratch: &mut Vec<Instr>,
     ) -> Result<u64, AllocError>
         requires low { position < 2 ^ 31 }
-        requires room { HasRoom self.now.pool (temps_of self.now.hooks self.now.site position instr.now) }
+        requires room { HasRoom self.now.pool (instr_temps self.now.hooks self.now.site position instr.now) }
         requires maps { Maps (remap self.now) (before instr.now done) }
         requires narrow { IsNarrow types_most self.now.site.context }
         requires straight { IsStraightInstr instr.now }
@@ -449,13 +446,13 @@ impl<'m> Setting<'m> {
     ) -> Result<u64, AllocError>
         requires plain { IsPlainInstr instr.now }
         requires low { position < 2 ^ 31 }
-        requires room { HasRoom self.now.pool (temps_of self.now.hooks self.now.site position instr.now) }
+        requires room { HasRoom self.now.pool (instr_temps self.now.hooks self.now.site position instr.now) }
         requires maps { Maps (remap self.now) (before instr.now done) }
         requires narrow { IsNarrow types_most self.now.site.context }
         requires few { first_or sums.now 0 ≤ ends_most }
         requires around { (ss : List Scope) × (scopes.now ≡ blocks_around ss) }
         requires own { place_most + most_bytes instr.now < 2 ^ 64 }
-        ensures length { IfOk result (λ n. (ss : List Scope) (i : Plain) → plain_of instr.now ≡ Some i → AreAround self.now ss scopes.now sums.now → n ≡ live_length self.now (pos position) ss (positions.acts i)) }
+        ensures length { IfOk result (λ n. (ss : List Scope) (i : Plain) → plain_of instr.now ≡ Some i → AreBlocksAround self.now ss scopes.now sums.now → n ≡ live_length self.now (pos position) ss (positions.acts i)) }
         ensures bound { IfOk result (λ n. n ≤ place_most + most_bytes instr.now) }
     {
         match instr {

@@ -1,14 +1,12 @@
-use Rattle.std.proofs.Common.{◌≡◌, ◌∙◌, ◌++◌, List, [], ◌∷◌, refl, ap, sym, arith, pos, length, length-append}
+use Rattle.std.proofs.Common.{◌≡◌, ◌∙◌, ◌++◌, List, [], refl, ap, sym, arith, length-append}
 use Rattle.leb_binary.specs.Shortest.{unsigned_bytes}
 use Rattle.module_ast.specs.declared.code.Instr.{Instr}
-use Rattle.module_ast.specs.Tree.{Plain, done, return_, br_if}
+use Rattle.module_ast.specs.Tree.{Plain, done}
 use Rattle.i64_split.specs.Pushing.{instrs}
 use Rattle.rewrite.proofs.Emitting.{few_of}
 use Rattle.std.proofs.Common.{true, false, subst}
-use Rattle.hook_select.specs.declared.GroupName.TheVariants as groups
-use Rattle.hook_select.specs.Groups.{has}
 use Rattle.rewrite.specs.Emitted.{target_word}
-use Rattle.rewrite.specs.Sizing.{br_if_told, AreBytes}
+use Rattle.rewrite.specs.Sizing.{br_if_told, HaveBytes}
 use Rattle.rewrite.proofs.Blocks.{target_is}
 use Rattle.rewrite.proofs.SizedMost.{most_told}
 use Rattle.rewrite.proofs.BranchBytes.{untaken_bytes, taken_bytes}
@@ -42,7 +40,7 @@ returns-then-not-ends-clause-length c ss a =
     let bytes = c.emitted_length.ensures is (emitted _ _ _ is c.clear.ensures.items c.in_ok-push_br_if_told.ensures c.deref.ensures.value) in
     let none : c.has-ends.result ≡ false = c.if-not-ends.true in
     untaken_bytes w ss c.args.position c.args.label to c.emitted_length.result c.plain_length.result (sym c.has-ends.ensures ∙ none)
-    (target_is c.args.scopes.now ss c.args.label a.blocks) (subst (λ b. AreBytes (br_if_told w c.args.position c.args.label to b) c.emitted_length.result) none bytes) (omega (arith, c.plain_length.ensures.length done, length-append (unsigned_bytes c.args.label) []))
+    (target_is c.args.scopes.now ss c.args.label a.blocks) (subst (λ b. HaveBytes (br_if_told w c.args.position c.args.label to b) c.emitted_length.result) none bytes) (omega (arith, c.plain_length.ensures.length done, length-append (unsigned_bytes c.args.label) []))
 
 pub returns-then-not-ends-clause-bound : goal.returns-then-not-ends-clause-bound
 returns-then-not-ends-clause-bound c =
@@ -76,7 +74,7 @@ returns-clause-length c ss a =
     let bytes = c.emitted_length.ensures is (emitted _ _ _ is c.clear.ensures.items c.in_ok-push_br_if_told.ensures c.deref.ensures.value) in
     let some : c.has-ends.result ≡ true = c.if-not-ends.false in
     taken_bytes w ss c.args.position c.args.label to c.emitted_length.result c.plain_length.result c.left_by.result (sym c.has-ends.ensures ∙ some)
-    (target_is c.args.scopes.now ss c.args.label a.blocks) (subst (λ b. AreBytes (br_if_told w c.args.position c.args.label to b) c.emitted_length.result) some bytes) (omega (arith, c.plain_length.ensures.length done, length-append (unsigned_bytes c.args.label) []))
+    (target_is c.args.scopes.now ss c.args.label a.blocks) (subst (λ b. HaveBytes (br_if_told w c.args.position c.args.label to b) c.emitted_length.result) some bytes) (omega (arith, c.plain_length.ensures.length done, length-append (unsigned_bytes c.args.label) []))
     (left_is_sum w c.args.label ss c.args.sums.now c.left_by.result a.ends c.left_by.ensures)
 
 pub returns-clause-bound : goal.returns-clause-bound
