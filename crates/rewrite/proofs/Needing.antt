@@ -1,6 +1,6 @@
 -- Place by place the table becomes what the body needs.
 --     PlaceAdded, place_added      what a place adds, and the open blocks behind it
---     IsUnderway, underway_first, underway_next, underway_last      the table on the way over the places
+--     IsUnderway, underway_first, underway_next      the table on the way over the places
 --     few_added      how much it adds at most
 use Rattle.std.proofs.Common.{◌≡◌, inl, ℕ, zero, suc, ◌+◌, ◌-◌, ◌*◌, ◌≤◌, ℤ, nat_abs, List, [], ◌∷◌, ◌++◌, length, take, Bool, true, false, cond, Option, Some, None, leb, refl, sym, ap, ap₂, ◌∙◌, subst, subst₂, flat_map, append-nil, length-append, min, arith}
 use Rattle.std.proofs.lemmas.List.{take_min, take_all, length-map}
@@ -283,6 +283,3 @@ underway_next hooks s n x left y d is e h =
           ∙ h.rest;
       few = omega (arith, h.few, few_added s d y n);
     }
-
-pub underway_last : (hooks : Hooks) (s : Site) (n : Needs) (left : List positions.Place) → left ≡ [] → IsUnderway hooks s n left → n.table ≡ needed.needs_of hooks s
-underway_last hooks s n left e h = sym (ap (λ xs. with_each_wanted hooks n.table (flat_map (live_keys s) xs)) e) ∙ h.rest

@@ -1,11 +1,9 @@
 -- Place by place the room becomes what the templates of a body need.
---     room_behind      one value more
 --     widened_more, widened_greatest      lists of values in a row
 --     IsMeasured, measured_next, measured_last      the room on the way over the places
-use Rattle.std.proofs.Common.{◌≡◌, ℕ, ℤ, nat_abs, List, [], ◌∷◌, ◌++◌, flat_map, max, sym, ap, ap₂, ◌∙◌, arith}
+use Rattle.std.proofs.Common.{◌≡◌, ℤ, nat_abs, List, [], ◌∷◌, ◌++◌, flat_map, max, sym, ap, ap₂, ◌∙◌, arith}
 use Rattle.std.proofs.lemmas.List.Sums.{fold-append}
 use Rattle.wasm_num.specs.declared.ValType.{ValType}
-use Rattle.wasm_num.specs.declared.ValType.TheVariants.{I32, I64}
 use Rattle.module_ast.specs.Lists.{when}
 use Rattle.module_ast.specs.Positions as positions
 use Rattle.branch_resolve.specs.declared.Block.{Block}
@@ -16,20 +14,9 @@ use Rattle.branch_resolve.specs.declared.place.Opcode.TheVariants.{Enters, Acts,
 use Rattle.hook_select.specs.declared.Hooks.{Hooks}
 use Rattle.hook_mono.specs.Needed.{Site}
 use Rattle.i64_split.specs.Split.{ints_in, longs_in}
-use Rattle.i64_split.proofs.Temporaries.{ints_in-push_int, ints_in-push_long, longs_in-push_int, longs_in-push_long}
 use Rattle.rewrite.specs.Temporaries.{greatest, opcode_temps, place_temps, body_temps}
 use Rattle.rewrite.specs.declared.pool.Room.{Room}
-use Rattle.rewrite.specs.Room.{room_for, with_one, wider, widened, no_room, plain_temps_of, temps_at}
-
--- ---- values in a row
-
-same_room : (a b c d : ℕ) → a ≡ c → b ≡ d → (let r : Room = record { ints = a; longs = b } in let s : Room = record { ints = c; longs = d } in r ≡ s)
-same_room a b c d e f = λ i. record { ints = e i; longs = f i }
-
--- one behind the others
-pub room_behind : (ts : List ValType) (t : ValType) → with_one (room_for ts) t ≡ room_for (ts ++ t ∷ [])
-room_behind ts I32 = same_room _ _ _ _ (sym (ints_in-push_int ts)) (sym (longs_in-push_int ts))
-room_behind ts I64 = same_room _ _ _ _ (sym (ints_in-push_long ts)) (sym (longs_in-push_long ts))
+use Rattle.rewrite.specs.Room.{room_for, wider, widened, no_room, plain_temps_of, temps_at}
 
 -- ---- lists in a row
 
