@@ -7,7 +7,7 @@ use Rattle.module_ast.specs.declared.code.Instr.{Instr}
 use Rattle.module_ast.specs.declared.code.Instr.TheVariants.{Block, Loop, If, Unreachable, Nop, Br, BrIf, BrTable, Return, Call, CallIndirect, Drop, Select, LocalGet, LocalSet, LocalTee, GlobalGet, GlobalSet, Load, Store, MemorySize, MemoryGrow, I32Const, I64Const, Num}
 use Rattle.module_ast.specs.declared.module.Group.{Group}
 use Rattle.module_ast.specs.declared.code.BlockType.TheVariants.{Empty}
-use Rattle.module_ast.specs.Canonical.{plain_bytes, code_bytes, items_bytes, vec_bytes, group_bytes}
+use Rattle.module_ast.specs.Canonical.{plain_bytes, items_bytes, vec_bytes, group_bytes}
 use Rattle.module_ast.specs.Lists.{when}
 use Rattle.module_ast.specs.Plains.{plains, plain_of}
 use Rattle.module_ast.specs.Positions.{Scope, target_of, left_by}
@@ -21,7 +21,7 @@ use Rattle.i64_split.specs.declared.Pool.{Pool}
 use Rattle.wasm_num.specs.declared.ValType.{ValType}
 use Rattle.i64_split.specs.Split.{temps, gets, words_code, pool_groups, locals_group}
 use Rattle.rewrite.specs.Setting.{Setting, constant, tells, tell_ends}
-use Rattle.rewrite.specs.Templates.{tee_code, target_code, tell_before, tell_results, template}
+use Rattle.rewrite.specs.Templates.{tee_code, tell_before, tell_results, template}
 use Rattle.rewrite.specs.Rewrite.{if_taken, br_if_before, instr_code}
 use Rattle.rewrite.specs.Emitted.{or_none, template_of}
 use Rattle.rewrite.specs.Sizes.{plains_length, plains_most, IsStraight, IsNarrow}
@@ -41,8 +41,16 @@ module _ (w : Setting) (ss : List Scope) (p : ℕ) where
   br_bytes l to n m e bytes ends =
       let told = br_tells l (target_at ss l) in
       let passed = tell_ends w (left_by ss l) in
-      omega (arith, bytes.value, plains_append (br_tells l to) (br l ∷ []), ap (λ t. plains_length (br_tells l t)) e, plains_before (told ++ (passed ++ br l ∷ [])) done,
-      plains_append told (passed ++ br l ∷ []), plains_append passed (br l ∷ []), ends)
+      omega (
+        arith,
+        bytes.value,
+        plains_append (br_tells l to) (br l ∷ []),
+        ap (λ t. plains_length (br_tells l t)) e,
+        plains_before (told ++ (passed ++ br l ∷ [])) done,
+        plains_append told (passed ++ br l ∷ []),
+        plains_append passed (br l ∷ []),
+        ends,
+      )
 
   pub return_bytes : (n m : ℕ) → AreBytes (tell_results w (pos p) ++ return_ ∷ []) n → m ≡ plains_length (tell_ends w ss) → n + m ≡ code_length (instr_code w ss p return_ done)
   return_bytes n m bytes ends =
@@ -76,16 +84,28 @@ module _ (w : Setting) (ss : List Scope) (p : ℕ) where
 
   taken_length : (l : ℕ) (left : List Scope) → code_length (if_taken true w left kept (plain (br_if l) done)) ≡ plains_length (gets kept) + 3 + plains_length (tell_ends w left) + length (plain_bytes (br_if l))
   taken_length l left =
-      omega (arith, plains_before (gets kept) (if_then Empty (plains (tell_ends w left) done) (plain (br_if l) done)), then_length Empty (plains (tell_ends w left) done) (plain (br_if l) done),
-      plains_before (tell_ends w left) done, plain_before (br_if l) done)
+      omega (
+        arith,
+        plains_before (gets kept) (if_then Empty (plains (tell_ends w left) done) (plain (br_if l) done)),
+        then_length Empty (plains (tell_ends w left) done) (plain (br_if l) done),
+        plains_before (tell_ends w left) done,
+        plain_before (br_if l) done,
+      )
 
   -- the bytes of what the branch is told with, and of what follows
   told_length : (l to n : ℕ) (ends : Bool) (t : Tree) → to ≡ target_at ss l → AreBytes (br_if_told w p l to ends) n
       → n + code_length t ≡ code_length (plains (tee_code kept) (plains (br_if_tells l (target_at ss l)) t)) + plains_length (when ends (gets kept))
   told_length l to n ends t e bytes =
       let told = br_if_tells l to in
-      omega (arith, bytes.value, plains_append (tee_code kept) (told ++ when ends (gets kept)), plains_append told (when ends (gets kept)), ap (λ t. plains_length (br_if_tells l t)) e,
-      plains_before (tee_code kept) (plains (br_if_tells l (target_at ss l)) t), plains_before (br_if_tells l (target_at ss l)) t)
+      omega (
+        arith,
+        bytes.value,
+        plains_append (tee_code kept) (told ++ when ends (gets kept)),
+        plains_append told (when ends (gets kept)),
+        ap (λ t. plains_length (br_if_tells l t)) e,
+        plains_before (tee_code kept) (plains (br_if_tells l (target_at ss l)) t),
+        plains_before (br_if_tells l (target_at ss l)) t,
+      )
 
   pub untaken_bytes : (l to n k : ℕ) → has w.hooks groups.End ≡ false → to ≡ target_at ss l → AreBytes (br_if_told w p l to false) n → k ≡ length (plain_bytes (br_if l))
       → n + k ≡ code_length (br_if_before true w ss p l done)
@@ -163,8 +183,16 @@ items_append (x ∷ xs) ys = ap (λ l. group_bytes x ++ l) (items_append xs ys) 
 pub groups_bytes : (own added : List Group) (a b c : ℕ) → a ≡ length (unsigned_bytes (length own + length added)) → b ≡ length (items_bytes group_bytes own) → c ≡ length (items_bytes group_bytes added)
     → a + b + c ≡ length (vec_bytes group_bytes (own ++ added))
 groups_bytes own added a b c count first second =
-    omega (arith, count, first, second, length-append (unsigned_bytes (length (own ++ added))) (items_bytes group_bytes (own ++ added)), ap (λ n. length (unsigned_bytes n)) (length-append own added),
-    ap length (items_append own added), length-append (items_bytes group_bytes own) (items_bytes group_bytes added))
+    omega (
+      arith,
+      count,
+      first,
+      second,
+      length-append (unsigned_bytes (length (own ++ added))) (items_bytes group_bytes (own ++ added)),
+      ap (λ n. length (unsigned_bytes n)) (length-append own added),
+      ap length (items_append own added),
+      length-append (items_bytes group_bytes own) (items_bytes group_bytes added),
+    )
 
 -- of the temporaries there are at most two
 pub pool_few : (pool : Pool) → length (pool_groups pool) ≤ 2

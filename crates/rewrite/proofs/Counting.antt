@@ -1,8 +1,8 @@
 -- The count of a rewritten body's bytes along its places.
-use Rattle.std.proofs.Common.{◌≡◌, ℕ, ◌+◌, ◌*◌, ◌<◌, ◌≤◌, ◌^◌, List, [], ◌∷◌, ◌++◌, length, refl, sym, ◌∙◌, length-append, arith}
+use Rattle.std.proofs.Common.{◌≡◌, ℕ, ◌+◌, ◌*◌, ◌<◌, ◌≤◌, ◌^◌, List, [], ◌∷◌, ◌++◌, length, refl, length-append, arith}
 use Rattle.std.specs.Prelude.{flat_map}
 use Rattle.std.specs.List.{AllByRecursion}
-use Rattle.module_ast.specs.Canonical.{code_bytes, expr_bytes, vec_bytes, group_bytes}
+use Rattle.module_ast.specs.Canonical.{expr_bytes, vec_bytes, group_bytes}
 use Rattle.module_ast.specs.Lists.{first_or}
 use Rattle.module_ast.specs.Positions.{Scope, Place, places}
 use Rattle.branch_resolve.specs.declared.Block.{Block}
@@ -14,7 +14,7 @@ use Rattle.rewrite.specs.Setting.{Setting, remap}
 use Rattle.rewrite.specs.Temporaries.{place_temps}
 use Rattle.rewrite.specs.Rewrite.{size_of}
 use Rattle.rewrite.specs.Emitted.{HasRoom}
-use Rattle.rewrite.specs.Sizes.{places_length, place_length, end_sums, opcode_most, opcodes_most, AreLinked, IsNear, FitsPlace}
+use Rattle.rewrite.specs.Sizes.{places_length, place_length, end_sums, opcode_most, opcodes_most, AreLinked, FitsPlace}
 use Rattle.rewrite.specs.Sizing.{IsCountable, CanCount, AreBelow, ends_most, place_most}
 use Rattle.rewrite.proofs.SizedCode.{size_by_places}
 use Rattle.rewrite.proofs.SizedPlaces.{body_most, body_count, body_fits}

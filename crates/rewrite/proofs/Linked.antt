@@ -1,7 +1,7 @@
 -- The places of a body in a row: from one to the next at most one block is entered or left.
 use Rattle.std.proofs.Common.{◌≡◌, ℕ, ◌+◌, List, [], ◌∷◌, ◌++◌, inl, inr, Bool, true, ◌&&◌, refl, sym, ap, subst, append_assoc}
 use Rattle.std.specs.Prelude.{◌⊎◌}
-use Rattle.module_ast.specs.Positions.{Scope, function_scope, block_scope, loop_scope, if_scope, then_scope, else_scope, enters, opens, alternates, closes, Place, at, ends_live, goes_on, code_places, places}
+use Rattle.module_ast.specs.Positions.{Scope, function_scope, block_scope, loop_scope, if_scope, then_scope, else_scope, alternates, closes, Place, at, ends_live, goes_on, code_places, places}
 use Rattle.module_ast.specs.Tree.{Tree, done, plain, block, loop, if_then, if_else}
 use Rattle.rewrite.specs.Sizes.{IsNear, AreLinked}
 
@@ -28,33 +28,44 @@ code_linked s around live p done rest more ss b = more ss b
 code_linked s around live p (plain i k) rest more ss b = (comes_in s around ss b, code_linked s around (live && goes_on i) (p + 1) k rest more (s ∷ around) (inl refl))
 code_linked s around live p (block ty body k) rest more ss b =
     let t = block_scope p body in
-    let behind = at t.end (ends_live live body) (closes t) (s ∷ around) ∷ code_places (s ∷ around) live (t.end + 1) k in
-    (comes_in s around ss b, regrouped (s ∷ around) (code_places (t ∷ (s ∷ around)) live (p + 1) body) behind rest
-    (code_linked t (s ∷ around) live (p + 1) body (behind ++ rest)
-    (λ tt c. (comes_out t (s ∷ around) tt c, code_linked s around live (t.end + 1) k rest more (s ∷ around) (inl refl))) (s ∷ around) (inr refl)))
+    let behind = at t.end (ends_live live body) (closes t) (s ∷ around) ∷ code_places (s ∷ around) live (t.end + 1) k in (
+      comes_in s around ss b,
+      regrouped (s ∷ around) (code_places (t ∷ (s ∷ around)) live (p + 1) body) behind rest
+          (code_linked t (s ∷ around) live (p + 1) body (behind ++ rest)
+          (λ tt c. (comes_out t (s ∷ around) tt c, code_linked s around live (t.end + 1) k rest more (s ∷ around) (inl refl))) (s ∷ around) (inr refl)),
+    )
 code_linked s around live p (loop ty body k) rest more ss b =
     let t = loop_scope p body in
-    let behind = at t.end (ends_live live body) (closes t) (s ∷ around) ∷ code_places (s ∷ around) live (t.end + 1) k in
-    (comes_in s around ss b, regrouped (s ∷ around) (code_places (t ∷ (s ∷ around)) live (p + 1) body) behind rest
-    (code_linked t (s ∷ around) live (p + 1) body (behind ++ rest)
-    (λ tt c. (comes_out t (s ∷ around) tt c, code_linked s around live (t.end + 1) k rest more (s ∷ around) (inl refl))) (s ∷ around) (inr refl)))
+    let behind = at t.end (ends_live live body) (closes t) (s ∷ around) ∷ code_places (s ∷ around) live (t.end + 1) k in (
+      comes_in s around ss b,
+      regrouped (s ∷ around) (code_places (t ∷ (s ∷ around)) live (p + 1) body) behind rest
+          (code_linked t (s ∷ around) live (p + 1) body (behind ++ rest)
+          (λ tt c. (comes_out t (s ∷ around) tt c, code_linked s around live (t.end + 1) k rest more (s ∷ around) (inl refl))) (s ∷ around) (inr refl)),
+    )
 code_linked s around live p (if_then ty body k) rest more ss b =
     let t = if_scope p body in
-    let behind = at t.end (ends_live live body) (closes t) (s ∷ around) ∷ code_places (s ∷ around) live (t.end + 1) k in
-    (comes_in s around ss b, regrouped (s ∷ around) (code_places (t ∷ (s ∷ around)) live (p + 1) body) behind rest
-    (code_linked t (s ∷ around) live (p + 1) body (behind ++ rest)
-    (λ tt c. (comes_out t (s ∷ around) tt c, code_linked s around live (t.end + 1) k rest more (s ∷ around) (inl refl))) (s ∷ around) (inr refl)))
+    let behind = at t.end (ends_live live body) (closes t) (s ∷ around) ∷ code_places (s ∷ around) live (t.end + 1) k in (
+      comes_in s around ss b,
+      regrouped (s ∷ around) (code_places (t ∷ (s ∷ around)) live (p + 1) body) behind rest
+          (code_linked t (s ∷ around) live (p + 1) body (behind ++ rest)
+          (λ tt c. (comes_out t (s ∷ around) tt c, code_linked s around live (t.end + 1) k rest more (s ∷ around) (inl refl))) (s ∷ around) (inr refl)),
+    )
 code_linked s around live p (if_else ty body other k) rest more ss b =
     let t = then_scope p body other in
     let u = else_scope p body other in
     let last = at u.end (ends_live live other) (closes u) (s ∷ around) ∷ code_places (s ∷ around) live (u.end + 1) k in
     let two = code_places (u ∷ (s ∷ around)) live (t.end + 1) other ++ last in
-    let behind = at t.end live (alternates t u (ends_live live body)) (s ∷ around) ∷ two in
-    (comes_in s around ss b, regrouped (s ∷ around) (code_places (t ∷ (s ∷ around)) live (p + 1) body) behind rest
-    (code_linked t (s ∷ around) live (p + 1) body (behind ++ rest)
-    (λ tt c. (comes_out t (s ∷ around) tt c, regrouped (s ∷ around) (code_places (u ∷ (s ∷ around)) live (t.end + 1) other) last rest
-    (code_linked u (s ∷ around) live (t.end + 1) other (last ++ rest)
-    (λ vv d. (comes_out u (s ∷ around) vv d, code_linked s around live (u.end + 1) k rest more (s ∷ around) (inl refl))) (s ∷ around) (inr refl)))) (s ∷ around) (inr refl)))
+    let behind = at t.end live (alternates t u (ends_live live body)) (s ∷ around) ∷ two in (
+      comes_in s around ss b,
+      regrouped (s ∷ around) (code_places (t ∷ (s ∷ around)) live (p + 1) body) behind rest
+          (code_linked t (s ∷ around) live (p + 1) body (behind ++ rest)
+          (λ tt c. (
+            comes_out t (s ∷ around) tt c,
+            regrouped (s ∷ around) (code_places (u ∷ (s ∷ around)) live (t.end + 1) other) last rest
+                (code_linked u (s ∷ around) live (t.end + 1) other (last ++ rest)
+                (λ vv d. (comes_out u (s ∷ around) vv d, code_linked s around live (u.end + 1) k rest more (s ∷ around) (inl refl))) (s ∷ around) (inr refl)),
+          )) (s ∷ around) (inr refl)),
+    )
 
 -- from the entry on, which is in no block
 pub places_linked : (code : Tree) → AreLinked [] (places code)

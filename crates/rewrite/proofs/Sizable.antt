@@ -1,5 +1,5 @@
 -- A typed body can be counted: it and the types of its module have no more bytes than a file.
-use Rattle.std.proofs.Common.{◌≡◌, ℕ, zero, suc, ◌+◌, ◌≤◌, ◌^◌, List, [], ◌∷◌, ◌++◌, length, Option, Some, None, refl, sym, ap, ◌∙◌, subst, slice_get, length-append, arith}
+use Rattle.std.proofs.Common.{◌≡◌, ℕ, zero, suc, ◌+◌, ◌≤◌, ◌^◌, List, [], ◌∷◌, length, Option, Some, None, refl, sym, ap, subst, slice_get, length-append, arith}
 use Rattle.std.specs.List.{AllByRecursion}
 use Rattle.wasm_num.specs.declared.ValType.{ValType}
 use Rattle.module_ast.specs.declared.module.FuncType.{FuncType}
@@ -9,7 +9,7 @@ use Rattle.module_ast.specs.Canonical.{val_type_bytes, vec_bytes, items_bytes, f
 use Rattle.module_ast.specs.Marks.{func_type_or}
 use Rattle.module_ast.specs.Limits.{IsWhole}
 use Rattle.module_ast.proofs.Each.{all_at}
-use Rattle.module_ast.proofs.Indexed.{IsIn, in_at, all_in}
+use Rattle.module_ast.proofs.Indexed.{in_at, all_in}
 use Rattle.module_ast.proofs.Sizes.{item_counts, section_counts, sized_counts, bodies_count}
 use Rattle.leb_binary.specs.Shortest.{unsigned_bytes}
 use Rattle.i64_split.specs.declared.Pool.{Pool}
@@ -30,8 +30,14 @@ values_count (t ∷ ts) = ap suc (values_count ts)
 
 type_counts : (t : FuncType) → length t.params + length t.results ≤ length (func_type_bytes t)
 type_counts t =
-    omega (arith, length-append (vec_bytes val_type_bytes t.params) (vec_bytes val_type_bytes t.results), length-append (unsigned_bytes (length t.params)) (items_bytes val_type_bytes t.params),
-    length-append (unsigned_bytes (length t.results)) (items_bytes val_type_bytes t.results), values_count t.params, values_count t.results)
+    omega (
+      arith,
+      length-append (vec_bytes val_type_bytes t.params) (vec_bytes val_type_bytes t.results),
+      length-append (unsigned_bytes (length t.params)) (items_bytes val_type_bytes t.params),
+      length-append (unsigned_bytes (length t.results)) (items_bytes val_type_bytes t.results),
+      values_count t.params,
+      values_count t.results,
+    )
 
 -- the types of a module
 types_count : (m : Module) → length (items_bytes func_type_bytes m.types) ≤ length (module_bytes m)

@@ -74,8 +74,14 @@ branch_before l k = omega (arith, plain_before (br_if l) k, plain_before (br_if 
 if_before : (is : List Plain) (inside : Tree) (l : ℕ) (k : Tree)
     → code_length (plains is (if_then Empty inside (plain (br_if l) k))) ≡ code_length (plains is (if_then Empty inside (plain (br_if l) done))) + code_length k
 if_before is inside l k =
-    omega (arith, plains_before is (if_then Empty inside (plain (br_if l) k)), plains_before is (if_then Empty inside (plain (br_if l) done)),
-    then_length Empty inside (plain (br_if l) k), then_length Empty inside (plain (br_if l) done), branch_before l k)
+    omega (
+      arith,
+      plains_before is (if_then Empty inside (plain (br_if l) k)),
+      plains_before is (if_then Empty inside (plain (br_if l) done)),
+      then_length Empty inside (plain (br_if l) k),
+      then_length Empty inside (plain (br_if l) done),
+      branch_before l k,
+    )
 
 taken_before : (told : Bool) (w : Setting) (left : List Scope) (ts : List Temp) (l : ℕ) (k : Tree)
     → code_length (if_taken told w left ts (plain (br_if l) k)) ≡ code_length (if_taken told w left ts (plain (br_if l) done)) + code_length k
@@ -132,31 +138,55 @@ module _ (w : Setting) where
       → places_length w (at p false (opens a) scopes ∷ (inner ++ at a.end false (alternates a b first) scopes ∷ (other ++ at b.end second (closes b) scopes ∷ rest)))
       ≡ 2 + (places_length w inner + (1 + (places_length w other + (1 + places_length w rest))))
   dead_both p first second a b scopes inner other rest e =
-      omega (arith, places_append w inner (at a.end false (alternates a b first) scopes ∷ (other ++ at b.end second (closes b) scopes ∷ rest)),
-      places_append w other (at b.end second (closes b) scopes ∷ rest), dead_end b.end second b scopes e)
+      omega (
+        arith,
+        places_append w inner (at a.end false (alternates a b first) scopes ∷ (other ++ at b.end second (closes b) scopes ∷ rest)),
+        places_append w other (at b.end second (closes b) scopes ∷ rest),
+        dead_end b.end second b scopes e,
+      )
 
   pub dead_code : (scopes : List Scope) (p : ℕ) (k : Tree) → places_length w (code_places scopes false p k) ≡ code_length (map_tree (remap w) k)
   dead_code scopes p done = refl
   dead_code scopes p (plain i k) = omega (arith, plain_before (map_plain (remap w) i) (map_tree (remap w) k), dead_code scopes (p + 1) k)
   dead_code scopes p (block ty body k) =
       let s = block_scope p body in
-      omega (arith, dead_block p (ends_live false body) s scopes (code_places (s ∷ scopes) false (p + 1) body) (code_places scopes false (s.end + 1) k) (ends_dead body),
-      dead_code (s ∷ scopes) (p + 1) body, dead_code scopes (s.end + 1) k, block_length ty (map_tree (remap w) body) (map_tree (remap w) k))
+      omega (
+        arith,
+        dead_block p (ends_live false body) s scopes (code_places (s ∷ scopes) false (p + 1) body) (code_places scopes false (s.end + 1) k) (ends_dead body),
+        dead_code (s ∷ scopes) (p + 1) body,
+        dead_code scopes (s.end + 1) k,
+        block_length ty (map_tree (remap w) body) (map_tree (remap w) k),
+      )
   dead_code scopes p (loop ty body k) =
       let s = loop_scope p body in
-      omega (arith, dead_block p (ends_live false body) s scopes (code_places (s ∷ scopes) false (p + 1) body) (code_places scopes false (s.end + 1) k) (ends_dead body),
-      dead_code (s ∷ scopes) (p + 1) body, dead_code scopes (s.end + 1) k, loop_length ty (map_tree (remap w) body) (map_tree (remap w) k))
+      omega (
+        arith,
+        dead_block p (ends_live false body) s scopes (code_places (s ∷ scopes) false (p + 1) body) (code_places scopes false (s.end + 1) k) (ends_dead body),
+        dead_code (s ∷ scopes) (p + 1) body,
+        dead_code scopes (s.end + 1) k,
+        loop_length ty (map_tree (remap w) body) (map_tree (remap w) k),
+      )
   dead_code scopes p (if_then ty body k) =
       let s = if_scope p body in
-      omega (arith, dead_block p (ends_live false body) s scopes (code_places (s ∷ scopes) false (p + 1) body) (code_places scopes false (s.end + 1) k) (ends_dead body),
-      dead_code (s ∷ scopes) (p + 1) body, dead_code scopes (s.end + 1) k, then_length ty (map_tree (remap w) body) (map_tree (remap w) k))
+      omega (
+        arith,
+        dead_block p (ends_live false body) s scopes (code_places (s ∷ scopes) false (p + 1) body) (code_places scopes false (s.end + 1) k) (ends_dead body),
+        dead_code (s ∷ scopes) (p + 1) body,
+        dead_code scopes (s.end + 1) k,
+        then_length ty (map_tree (remap w) body) (map_tree (remap w) k),
+      )
   dead_code scopes p (if_else ty body other k) =
       let a = then_scope p body other in
       let b = else_scope p body other in
-      omega (arith, dead_both p (ends_live false body) (ends_live false other) a b scopes (code_places (a ∷ scopes) false (p + 1) body)
-      (code_places (b ∷ scopes) false (a.end + 1) other) (code_places scopes false (b.end + 1) k) (ends_dead other),
-      dead_code (a ∷ scopes) (p + 1) body, dead_code (b ∷ scopes) (a.end + 1) other, dead_code scopes (b.end + 1) k,
-      both_length ty (map_tree (remap w) body) (map_tree (remap w) other) (map_tree (remap w) k))
+      omega (
+        arith,
+        dead_both p (ends_live false body) (ends_live false other) a b scopes (code_places (a ∷ scopes) false (p + 1) body)
+            (code_places (b ∷ scopes) false (a.end + 1) other) (code_places scopes false (b.end + 1) k) (ends_dead other),
+        dead_code (a ∷ scopes) (p + 1) body,
+        dead_code (b ∷ scopes) (a.end + 1) other,
+        dead_code scopes (b.end + 1) k,
+        both_length ty (map_tree (remap w) body) (map_tree (remap w) other) (map_tree (remap w) k),
+      )
 
   -- a live block
   live_block : (p : ℕ) (ended : Bool) (s : Scope) (scopes : List Scope) (inner rest : List Place)
@@ -170,8 +200,12 @@ module _ (w : Setting) where
       ≡ plains_length (before_opening w p a.kind) + (2 + (plains_length (tell_begin w a.begin a.kind) + (places_length w inner + ending first (a ∷ scopes)
       + (1 + (plains_length (tell_begin w b.begin b.kind) + (places_length w other + ending second (b ∷ scopes) + (1 + places_length w rest)))))))
   live_both p first second a b scopes inner other rest =
-      omega (arith, places_append w inner (at a.end true (alternates a b first) scopes ∷ (other ++ at b.end second (closes b) scopes ∷ rest)),
-      places_append w other (at b.end second (closes b) scopes ∷ rest), closes_length b.end second b scopes)
+      omega (
+        arith,
+        places_append w inner (at a.end true (alternates a b first) scopes ∷ (other ++ at b.end second (closes b) scopes ∷ rest)),
+        places_append w other (at b.end second (closes b) scopes ∷ rest),
+        closes_length b.end second b scopes,
+      )
 
   -- what is left of a live sequence behind an instruction
   rest_code : (on : Bool) (scopes : List Scope) (p : ℕ) (k : Tree)
@@ -189,38 +223,58 @@ module _ (w : Setting) where
       let s = block_scope p body in
       let begin = tell_begin w s.begin s.kind in
       let inside = live_code w (s ∷ scopes) (p + 1) body in
-      omega (arith, live_block p (ends_live true body) s scopes (code_places (s ∷ scopes) true (p + 1) body) (code_places scopes true (s.end + 1) k),
-      live_places (s ∷ scopes) (p + 1) body, live_places scopes (s.end + 1) k,
-      block_length ty (plains begin inside) (live_code w scopes (s.end + 1) k), plains_before begin inside)
+      omega (
+        arith,
+        live_block p (ends_live true body) s scopes (code_places (s ∷ scopes) true (p + 1) body) (code_places scopes true (s.end + 1) k),
+        live_places (s ∷ scopes) (p + 1) body,
+        live_places scopes (s.end + 1) k,
+        block_length ty (plains begin inside) (live_code w scopes (s.end + 1) k),
+        plains_before begin inside,
+      )
   live_places scopes p (loop ty body k) =
       let s = loop_scope p body in
       let begin = tell_begin w s.begin s.kind in
       let inside = live_code w (s ∷ scopes) (p + 1) body in
-      omega (arith, live_block p (ends_live true body) s scopes (code_places (s ∷ scopes) true (p + 1) body) (code_places scopes true (s.end + 1) k),
-      live_places (s ∷ scopes) (p + 1) body, live_places scopes (s.end + 1) k,
-      loop_length ty (plains begin inside) (live_code w scopes (s.end + 1) k), plains_before begin inside)
+      omega (
+        arith,
+        live_block p (ends_live true body) s scopes (code_places (s ∷ scopes) true (p + 1) body) (code_places scopes true (s.end + 1) k),
+        live_places (s ∷ scopes) (p + 1) body,
+        live_places scopes (s.end + 1) k,
+        loop_length ty (plains begin inside) (live_code w scopes (s.end + 1) k),
+        plains_before begin inside,
+      )
   live_places scopes p (if_then ty body k) =
       let s = if_scope p body in
       let before = tell_before w p (keys.Plain groups.If) in
       let begin = tell_begin w s.begin s.kind in
       let inside = live_code w (s ∷ scopes) (p + 1) body in
-      omega (arith, live_block p (ends_live true body) s scopes (code_places (s ∷ scopes) true (p + 1) body) (code_places scopes true (s.end + 1) k),
-      live_places (s ∷ scopes) (p + 1) body, live_places scopes (s.end + 1) k,
-      plains_before before (if_then ty (plains begin inside) (live_code w scopes (s.end + 1) k)),
-      then_length ty (plains begin inside) (live_code w scopes (s.end + 1) k), plains_before begin inside)
+      omega (
+        arith,
+        live_block p (ends_live true body) s scopes (code_places (s ∷ scopes) true (p + 1) body) (code_places scopes true (s.end + 1) k),
+        live_places (s ∷ scopes) (p + 1) body,
+        live_places scopes (s.end + 1) k,
+        plains_before before (if_then ty (plains begin inside) (live_code w scopes (s.end + 1) k)),
+        then_length ty (plains begin inside) (live_code w scopes (s.end + 1) k),
+        plains_before begin inside,
+      )
   live_places scopes p (if_else ty body other k) =
       let a = then_scope p body other in
       let b = else_scope p body other in
       let before = tell_before w p (keys.Plain groups.If) in
       let first = plains (tell_begin w a.begin a.kind) (live_code w (a ∷ scopes) (p + 1) body) in
       let second = plains (tell_begin w b.begin b.kind) (live_code w (b ∷ scopes) (a.end + 1) other) in
-      omega (arith, live_both p (ends_live true body) (ends_live true other) a b scopes (code_places (a ∷ scopes) true (p + 1) body)
-      (code_places (b ∷ scopes) true (a.end + 1) other) (code_places scopes true (b.end + 1) k),
-      live_places (a ∷ scopes) (p + 1) body, live_places (b ∷ scopes) (a.end + 1) other, live_places scopes (b.end + 1) k,
-      plains_before before (if_else ty first second (live_code w scopes (b.end + 1) k)),
-      both_length ty first second (live_code w scopes (b.end + 1) k),
-      plains_before (tell_begin w a.begin a.kind) (live_code w (a ∷ scopes) (p + 1) body),
-      plains_before (tell_begin w b.begin b.kind) (live_code w (b ∷ scopes) (a.end + 1) other))
+      omega (
+        arith,
+        live_both p (ends_live true body) (ends_live true other) a b scopes (code_places (a ∷ scopes) true (p + 1) body)
+            (code_places (b ∷ scopes) true (a.end + 1) other) (code_places scopes true (b.end + 1) k),
+        live_places (a ∷ scopes) (p + 1) body,
+        live_places (b ∷ scopes) (a.end + 1) other,
+        live_places scopes (b.end + 1) k,
+        plains_before before (if_else ty first second (live_code w scopes (b.end + 1) k)),
+        both_length ty first second (live_code w scopes (b.end + 1) k),
+        plains_before (tell_begin w a.begin a.kind) (live_code w (a ∷ scopes) (p + 1) body),
+        plains_before (tell_begin w b.begin b.kind) (live_code w (b ∷ scopes) (a.end + 1) other),
+      )
 
   -- the bytes of rewritten code, its `end` among them, place by place
   pub code_by_places : (code : Tree) → length (expr_bytes (rewritten_code w code)) ≡ places_length w (places code)
@@ -228,8 +282,14 @@ module _ (w : Setting) where
       let f = function_scope code in
       let inner = code_places (f ∷ []) true 0 code in
       let last = at f.end (ends_live true code) (closes f) [] in
-      omega (arith, length-append (code_bytes (rewritten_code w code)) (0x0B ∷ []), plains_before (entry_code w) (live_code w (f ∷ []) 0 code),
-      live_places (f ∷ []) 0 code, places_append w inner (last ∷ []), closes_length f.end (ends_live true code) f [])
+      omega (
+        arith,
+        length-append (code_bytes (rewritten_code w code)) (0x0B ∷ []),
+        plains_before (entry_code w) (live_code w (f ∷ []) 0 code),
+        live_places (f ∷ []) 0 code,
+        places_append w inner (last ∷ []),
+        closes_length f.end (ends_live true code) f [],
+      )
 
 -- of a rewritten body: its groups of locals, and what stands for each place
 pub size_by_places : (w : Setting) → size_of w ≡ length (vec_bytes group_bytes (w.site.body.groups ++ pool_groups w.pool)) + places_length w (places w.site.body.code)

@@ -1,6 +1,5 @@
 -- How many bytes templates have at most.
 use Rattle.std.proofs.Common.{◌≡◌, ℕ, ◌+◌, ◌*◌, ◌≤◌, ℤ, pos, negsuc, List, [], ◌∷◌, ◌++◌, length, Option, Some, None, Bool, true, false, cond, refl, slice_get, arith}
-use Rattle.std.specs.List.{AllByRecursion}
 use Rattle.wasm_num.specs.declared.ValType.{ValType}
 use Rattle.wasm_num.specs.declared.ValType.TheVariants as types
 use Rattle.wasm_num.specs.declared.BlockKind.{BlockKind}
@@ -26,7 +25,7 @@ use Rattle.i64_split.specs.Split.{temps, words_by, word_code, words_code, sets, 
 use Rattle.index_remap.specs.Remap.{map_index}
 use Rattle.wasm_encode.specs.Lengths.{most_bytes}
 use Rattle.rewrite.specs.Setting.{Setting, remap, wants, constant, low_word, high_word, hook_index, tell, tells, tell_end}
-use Rattle.rewrite.specs.Templates.{num_code, result_code, store_code, drop_code, select_code, tee_code, watch_code, tell_before, tell_values, tell_results, tell_begin, end_code, post_code, call_code, indirect_code, local_code, global_code, template}
+use Rattle.rewrite.specs.Templates.{num_code, result_code, store_code, drop_code, select_code, tee_code, watch_code, tell_before, tell_values, tell_results, tell_begin, end_code, post_code, call_code, indirect_code, template}
 use Rattle.branch_resolve.specs.declared.EndOf.{EndOf}
 use Rattle.rewrite.specs.Emitted.{end_code as block_end}
 use Rattle.rewrite.specs.Sizing.{br_if_told}
@@ -80,8 +79,16 @@ most_gets (t ∷ ts) = omega (arith, most_gets ts)
 
 most_saved : (w : Setting) (p : ℤ) (key : HookKey) (first : List Plain) (ts : List Temp) → plains_most (tell_values w p key first ts) ≤ 128 * length ts + plains_most first + 48
 most_saved w p key first ts =
-    omega (arith, most_append (save_code ts) (tell w p key (first ++ words_code ts)), most_append (sets ts) (gets ts), most_sets ts, most_gets ts,
-    most_tell w p key (first ++ words_code ts), most_append first (words_code ts), most_words ts)
+    omega (
+      arith,
+      most_append (save_code ts) (tell w p key (first ++ words_code ts)),
+      most_append (sets ts) (gets ts),
+      most_sets ts,
+      most_gets ts,
+      most_tell w p key (first ++ words_code ts),
+      most_append first (words_code ts),
+      most_words ts,
+    )
 
 most_values : (w : Setting) (p : ℤ) (key : HookKey) (first : List Plain) (tys : List ValType) → plains_most (tell_values w p key first (temps w.pool tys)) ≤ 128 * length tys + plains_most first + 48
 most_values w p key first tys = omega (arith, most_saved w p key first (temps w.pool tys), temps_length w.pool tys)
@@ -103,8 +110,13 @@ most_opening w p kinds.Else = omega arith
 pub most_entry : (w : Setting) → plains_most (entry_code w) ≤ 96
 most_entry w =
     let start = tells w (negsuc 0) (keys.Plain groups.Start) [] in
-    omega (arith, most_append (when w.site.starts start) (tell_begin w (negsuc 0) kinds.Function), most_when w.site.starts start, most_tells w (negsuc 0) (keys.Plain groups.Start) [],
-    most_begin w (negsuc 0) kinds.Function)
+    omega (
+      arith,
+      most_append (when w.site.starts start) (tell_begin w (negsuc 0) kinds.Function),
+      most_when w.site.starts start,
+      most_tells w (negsuc 0) (keys.Plain groups.Start) [],
+      most_begin w (negsuc 0) kinds.Function,
+    )
 
 pub most_results : (w : Setting) (p : ℤ) → plains_most (tell_results w p) ≤ 128 * length w.site.context.results + 48
 most_results w p =
@@ -169,8 +181,17 @@ most_watched w p key first code tys i one three own few = go (wants w key)
     go : (b : Bool) → plains_most (cond b (code (temps w.pool tys) ++ tell w (pos p) key (first ++ words_code (temps w.pool tys))) (i ∷ [])) ≤ 448
     go true =
         let ts = temps w.pool tys in
-        omega (arith, most_append (code ts) (tell w (pos p) key (first ++ words_code ts)), most_tell w (pos p) key (first ++ words_code ts), most_append first (words_code ts),
-        most_words ts, temps_length w.pool tys, few ts, one, three)
+        omega (
+          arith,
+          most_append (code ts) (tell w (pos p) key (first ++ words_code ts)),
+          most_tell w (pos p) key (first ++ words_code ts),
+          most_append first (words_code ts),
+          most_words ts,
+          temps_length w.pool tys,
+          few ts,
+          one,
+          three,
+        )
     go false = omega (arith, own)
 
 -- ---- calls
@@ -200,8 +221,12 @@ most_call w p f t = go (wants w (keys.CallPre t.params))
 
     go : (b : Bool) → plains_most (cond b (tell_values w (pos p) (keys.CallPre t.params) (constant f ∷ []) (temps w.pool t.params) ++ (made ∷ post_code w p t.results)) (made ∷ [])) ≤ 128 * (length t.params + length t.results) + 128
     go true =
-        omega (arith, most_append (tell_values w (pos p) (keys.CallPre t.params) (constant f ∷ []) (temps w.pool t.params)) (made ∷ post_code w p t.results),
-        most_values w (pos p) (keys.CallPre t.params) (constant f ∷ []) t.params, most_post w p t.results)
+        omega (
+          arith,
+          most_append (tell_values w (pos p) (keys.CallPre t.params) (constant f ∷ []) (temps w.pool t.params)) (made ∷ post_code w p t.results),
+          most_values w (pos p) (keys.CallPre t.params) (constant f ∷ []) t.params,
+          most_post w p t.results,
+        )
     go false = omega arith
 
 most_indirect : (w : Setting) (p ty : ℕ) (t : FuncType) (ts : List Temp) → length ts ≤ length t.params + 1 → plains_most (indirect_code w p ty t ts) ≤ 128 * (length t.params + length t.results) + 400
@@ -209,8 +234,14 @@ most_indirect w p ty t [] few = omega arith
 most_indirect w p ty t (slot ∷ args) few =
     let first = constant ty ∷ word_code slot.ty slot.local in
     let behind = local_get slot.local ∷ call_indirect ty ∷ post_code w p t.results in
-    omega (arith, most_append (tell_values w (pos p) (keys.IndirectPre t.params) first args) behind, most_saved w (pos p) (keys.IndirectPre t.params) first args,
-    most_local_word slot.ty slot.local, most_post w p t.results, few)
+    omega (
+      arith,
+      most_append (tell_values w (pos p) (keys.IndirectPre t.params) first args) behind,
+      most_saved w (pos p) (keys.IndirectPre t.params) first args,
+      most_local_word slot.ty slot.local,
+      most_post w p t.results,
+      few,
+    )
 
 most_through : (w : Setting) (p ty : ℕ) (t : FuncType) (b : Bool)
     → plains_most (cond b (indirect_code w p ty t (temps w.pool (types.I32 ∷ t.params))) (call_indirect ty ∷ [])) ≤ 128 * (length t.params + length t.results) + 400

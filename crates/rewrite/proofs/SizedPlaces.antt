@@ -4,7 +4,7 @@ use Rattle.std.specs.List.{AllByRecursion}
 use Rattle.leb_binary.specs.Shortest.{unsigned_bytes, unsigned_within}
 use Rattle.module_ast.specs.Canonical.{items_bytes, plain_bytes, code_bytes, expr_bytes}
 use Rattle.module_ast.specs.Plains.{instr_of}
-use Rattle.module_ast.specs.Positions.{Scope, Place, function_scope, block_scope, loop_scope, if_scope, then_scope, else_scope, code_size, goes_on, ends_live, at, acts, opens, alternates, closes, code_places, places}
+use Rattle.module_ast.specs.Positions.{Scope, Place, function_scope, block_scope, loop_scope, if_scope, then_scope, else_scope, code_size, goes_on, ends_live, at, alternates, closes, code_places, places}
 use Rattle.module_ast.specs.Tree.{Tree, done, plain, block, loop, if_then, if_else, Plain, br_table}
 use Rattle.module_ast.proofs.Each.{all_both}
 use Rattle.index_remap.specs.declared.Remap.{Remap}
@@ -45,23 +45,44 @@ code_most scopes live p done = omega arith
 code_most scopes live p (plain i k) = omega (arith, plain_most i, code_most scopes (live && goes_on i) (p + 1) k, plain_before i k)
 code_most scopes live p (block ty body k) =
     let s = block_scope p body in
-    omega (arith, opcodes_append (code_places (s ∷ scopes) live (p + 1) body) (at s.end (ends_live live body) (closes s) scopes ∷ code_places scopes live (s.end + 1) k),
-    code_most (s ∷ scopes) live (p + 1) body, code_most scopes live (s.end + 1) k, block_length ty body k)
+    omega (
+      arith,
+      opcodes_append (code_places (s ∷ scopes) live (p + 1) body) (at s.end (ends_live live body) (closes s) scopes ∷ code_places scopes live (s.end + 1) k),
+      code_most (s ∷ scopes) live (p + 1) body,
+      code_most scopes live (s.end + 1) k,
+      block_length ty body k,
+    )
 code_most scopes live p (loop ty body k) =
     let s = loop_scope p body in
-    omega (arith, opcodes_append (code_places (s ∷ scopes) live (p + 1) body) (at s.end (ends_live live body) (closes s) scopes ∷ code_places scopes live (s.end + 1) k),
-    code_most (s ∷ scopes) live (p + 1) body, code_most scopes live (s.end + 1) k, loop_length ty body k)
+    omega (
+      arith,
+      opcodes_append (code_places (s ∷ scopes) live (p + 1) body) (at s.end (ends_live live body) (closes s) scopes ∷ code_places scopes live (s.end + 1) k),
+      code_most (s ∷ scopes) live (p + 1) body,
+      code_most scopes live (s.end + 1) k,
+      loop_length ty body k,
+    )
 code_most scopes live p (if_then ty body k) =
     let s = if_scope p body in
-    omega (arith, opcodes_append (code_places (s ∷ scopes) live (p + 1) body) (at s.end (ends_live live body) (closes s) scopes ∷ code_places scopes live (s.end + 1) k),
-    code_most (s ∷ scopes) live (p + 1) body, code_most scopes live (s.end + 1) k, then_length ty body k)
+    omega (
+      arith,
+      opcodes_append (code_places (s ∷ scopes) live (p + 1) body) (at s.end (ends_live live body) (closes s) scopes ∷ code_places scopes live (s.end + 1) k),
+      code_most (s ∷ scopes) live (p + 1) body,
+      code_most scopes live (s.end + 1) k,
+      then_length ty body k,
+    )
 code_most scopes live p (if_else ty body other k) =
     let a = then_scope p body other in
     let b = else_scope p body other in
     let last = at b.end (ends_live live other) (closes b) scopes ∷ code_places scopes live (b.end + 1) k in
-    omega (arith, opcodes_append (code_places (a ∷ scopes) live (p + 1) body) (at a.end live (alternates a b (ends_live live body)) scopes ∷ (code_places (b ∷ scopes) live (a.end + 1) other ++ last)),
-    opcodes_append (code_places (b ∷ scopes) live (a.end + 1) other) last,
-    code_most (a ∷ scopes) live (p + 1) body, code_most (b ∷ scopes) live (a.end + 1) other, code_most scopes live (b.end + 1) k, both_length ty body other k)
+    omega (
+      arith,
+      opcodes_append (code_places (a ∷ scopes) live (p + 1) body) (at a.end live (alternates a b (ends_live live body)) scopes ∷ (code_places (b ∷ scopes) live (a.end + 1) other ++ last)),
+      opcodes_append (code_places (b ∷ scopes) live (a.end + 1) other) last,
+      code_most (a ∷ scopes) live (p + 1) body,
+      code_most (b ∷ scopes) live (a.end + 1) other,
+      code_most scopes live (b.end + 1) k,
+      both_length ty body other k,
+    )
 
 -- a body
 pub body_most : (code : Tree) → opcodes_most (places code) ≤ 16 * code_size code + 5 * length (expr_bytes code)
@@ -76,23 +97,40 @@ code_count scopes live p done = refl
 code_count scopes live p (plain i k) = omega (arith, code_count scopes (live && goes_on i) (p + 1) k)
 code_count scopes live p (block ty body k) =
     let s = block_scope p body in
-    omega (arith, length-append (code_places (s ∷ scopes) live (p + 1) body) (at s.end (ends_live live body) (closes s) scopes ∷ code_places scopes live (s.end + 1) k),
-    code_count (s ∷ scopes) live (p + 1) body, code_count scopes live (s.end + 1) k)
+    omega (
+      arith,
+      length-append (code_places (s ∷ scopes) live (p + 1) body) (at s.end (ends_live live body) (closes s) scopes ∷ code_places scopes live (s.end + 1) k),
+      code_count (s ∷ scopes) live (p + 1) body,
+      code_count scopes live (s.end + 1) k,
+    )
 code_count scopes live p (loop ty body k) =
     let s = loop_scope p body in
-    omega (arith, length-append (code_places (s ∷ scopes) live (p + 1) body) (at s.end (ends_live live body) (closes s) scopes ∷ code_places scopes live (s.end + 1) k),
-    code_count (s ∷ scopes) live (p + 1) body, code_count scopes live (s.end + 1) k)
+    omega (
+      arith,
+      length-append (code_places (s ∷ scopes) live (p + 1) body) (at s.end (ends_live live body) (closes s) scopes ∷ code_places scopes live (s.end + 1) k),
+      code_count (s ∷ scopes) live (p + 1) body,
+      code_count scopes live (s.end + 1) k,
+    )
 code_count scopes live p (if_then ty body k) =
     let s = if_scope p body in
-    omega (arith, length-append (code_places (s ∷ scopes) live (p + 1) body) (at s.end (ends_live live body) (closes s) scopes ∷ code_places scopes live (s.end + 1) k),
-    code_count (s ∷ scopes) live (p + 1) body, code_count scopes live (s.end + 1) k)
+    omega (
+      arith,
+      length-append (code_places (s ∷ scopes) live (p + 1) body) (at s.end (ends_live live body) (closes s) scopes ∷ code_places scopes live (s.end + 1) k),
+      code_count (s ∷ scopes) live (p + 1) body,
+      code_count scopes live (s.end + 1) k,
+    )
 code_count scopes live p (if_else ty body other k) =
     let a = then_scope p body other in
     let b = else_scope p body other in
     let last = at b.end (ends_live live other) (closes b) scopes ∷ code_places scopes live (b.end + 1) k in
-    omega (arith, length-append (code_places (a ∷ scopes) live (p + 1) body) (at a.end live (alternates a b (ends_live live body)) scopes ∷ (code_places (b ∷ scopes) live (a.end + 1) other ++ last)),
-    length-append (code_places (b ∷ scopes) live (a.end + 1) other) last,
-    code_count (a ∷ scopes) live (p + 1) body, code_count (b ∷ scopes) live (a.end + 1) other, code_count scopes live (b.end + 1) k)
+    omega (
+      arith,
+      length-append (code_places (a ∷ scopes) live (p + 1) body) (at a.end live (alternates a b (ends_live live body)) scopes ∷ (code_places (b ∷ scopes) live (a.end + 1) other ++ last)),
+      length-append (code_places (b ∷ scopes) live (a.end + 1) other) last,
+      code_count (a ∷ scopes) live (p + 1) body,
+      code_count (b ∷ scopes) live (a.end + 1) other,
+      code_count scopes live (b.end + 1) k,
+    )
 
 pub body_count : (code : Tree) → length (places code) ≡ code_size code + 2
 body_count code =
@@ -110,27 +148,38 @@ module _ (r : Remap) where
   code_fits s around live p (plain i k) low maps = ((omega arith, maps.0), code_fits s around (live && goes_on i) (p + 1) k (omega arith) maps.1)
   code_fits s around live p (block ty body k) low maps =
       let t = block_scope p body in
-      let ss = s ∷ around in
-      ((omega arith, tt), all_both (FitsPlace r) (code_places (t ∷ ss) live (p + 1) body) (at t.end (ends_live live body) (closes t) ss ∷ code_places ss live (t.end + 1) k)
-      (code_fits t ss live (p + 1) body (omega arith) maps.0) ((omega arith, λ e. cc), code_fits s around live (t.end + 1) k (omega arith) maps.1))
+      let ss = s ∷ around in (
+        (omega arith, tt),
+        all_both (FitsPlace r) (code_places (t ∷ ss) live (p + 1) body) (at t.end (ends_live live body) (closes t) ss ∷ code_places ss live (t.end + 1) k)
+            (code_fits t ss live (p + 1) body (omega arith) maps.0) ((omega arith, λ e. cc), code_fits s around live (t.end + 1) k (omega arith) maps.1),
+      )
   code_fits s around live p (loop ty body k) low maps =
       let t = loop_scope p body in
-      let ss = s ∷ around in
-      ((omega arith, tt), all_both (FitsPlace r) (code_places (t ∷ ss) live (p + 1) body) (at t.end (ends_live live body) (closes t) ss ∷ code_places ss live (t.end + 1) k)
-      (code_fits t ss live (p + 1) body (omega arith) maps.0) ((omega arith, λ e. cc), code_fits s around live (t.end + 1) k (omega arith) maps.1))
+      let ss = s ∷ around in (
+        (omega arith, tt),
+        all_both (FitsPlace r) (code_places (t ∷ ss) live (p + 1) body) (at t.end (ends_live live body) (closes t) ss ∷ code_places ss live (t.end + 1) k)
+            (code_fits t ss live (p + 1) body (omega arith) maps.0) ((omega arith, λ e. cc), code_fits s around live (t.end + 1) k (omega arith) maps.1),
+      )
   code_fits s around live p (if_then ty body k) low maps =
       let t = if_scope p body in
-      let ss = s ∷ around in
-      ((omega arith, tt), all_both (FitsPlace r) (code_places (t ∷ ss) live (p + 1) body) (at t.end (ends_live live body) (closes t) ss ∷ code_places ss live (t.end + 1) k)
-      (code_fits t ss live (p + 1) body (omega arith) maps.0) ((omega arith, λ e. cc), code_fits s around live (t.end + 1) k (omega arith) maps.1))
+      let ss = s ∷ around in (
+        (omega arith, tt),
+        all_both (FitsPlace r) (code_places (t ∷ ss) live (p + 1) body) (at t.end (ends_live live body) (closes t) ss ∷ code_places ss live (t.end + 1) k)
+            (code_fits t ss live (p + 1) body (omega arith) maps.0) ((omega arith, λ e. cc), code_fits s around live (t.end + 1) k (omega arith) maps.1),
+      )
   code_fits s around live p (if_else ty body other k) low maps =
       let a = then_scope p body other in
       let b = else_scope p body other in
       let ss = s ∷ around in
-      let last = at b.end (ends_live live other) (closes b) ss ∷ code_places ss live (b.end + 1) k in
-      ((omega arith, tt), all_both (FitsPlace r) (code_places (a ∷ ss) live (p + 1) body) (at a.end live (alternates a b (ends_live live body)) ss ∷ (code_places (b ∷ ss) live (a.end + 1) other ++ last))
-      (code_fits a ss live (p + 1) body (omega arith) maps.0) ((omega arith, omega arith), all_both (FitsPlace r) (code_places (b ∷ ss) live (a.end + 1) other) last
-      (code_fits b ss live (a.end + 1) other (omega arith) maps.1) ((omega arith, λ e. cc), code_fits s around live (b.end + 1) k (omega arith) maps.2)))
+      let last = at b.end (ends_live live other) (closes b) ss ∷ code_places ss live (b.end + 1) k in (
+        (omega arith, tt),
+        all_both (FitsPlace r) (code_places (a ∷ ss) live (p + 1) body) (at a.end live (alternates a b (ends_live live body)) ss ∷ (code_places (b ∷ ss) live (a.end + 1) other ++ last))
+            (code_fits a ss live (p + 1) body (omega arith) maps.0) (
+              (omega arith, omega arith),
+              all_both (FitsPlace r) (code_places (b ∷ ss) live (a.end + 1) other) last
+                  (code_fits b ss live (a.end + 1) other (omega arith) maps.1) ((omega arith, λ e. cc), code_fits s around live (b.end + 1) k (omega arith) maps.2),
+            ),
+      )
 
   pub body_fits : (code : Tree) → code_size code < 2 ^ 31 → Maps r code → AllFit (places code)
   body_fits code low maps =

@@ -1,5 +1,5 @@
 -- How many bytes of a rewritten body stand for each place of the original.
-use Rattle.std.specs.Prelude.{◌≡◌, ℕ, ◌+◌, ◌<◌, ◌≤◌, ◌^◌, nat_abs, ℤ, ◌⊎◌, List, [], ◌∷◌, length, Bool, cond}
+use Rattle.std.specs.Prelude.{◌≡◌, ℕ, ◌+◌, ◌<◌, ◌≤◌, ◌^◌, nat_abs, ℤ, ◌⊎◌, List, [], ◌∷◌, length, cond}
 use Rattle.std.specs.List.{AllByRecursion}
 use Rattle.wasm_num.specs.declared.BlockKind.{BlockKind}
 use Rattle.wasm_num.specs.declared.BlockKind.TheVariants as kinds

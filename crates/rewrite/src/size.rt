@@ -69,11 +69,7 @@ fn groups_length(groups: &[Group]) -> u64
 }
 
 // Adds what these temporaries hold, where `wanted`.
-fn push_gets_where(
-    wanted: bool,
-    temps: &[Temp],
-    code: &mut Vec<Instr>,
-) -> Result<(), AllocError>
+fn push_gets_where(wanted: bool, temps: &[Temp], code: &mut Vec<Instr>) -> Result<(), AllocError>
     ensures { OnOk result (code.new.items ≡ code.old.items ++ instrs (when wanted (gets temps.now))) }
 {
     if !wanted {

@@ -5,7 +5,6 @@ use Rattle.module_ast.specs.Canonical.{code_bytes}
 use Rattle.module_ast.specs.Plains.{IsPlainInstr}
 use Rattle.module_ast.specs.Seen.{code_of}
 use Rattle.wasm_encode.specs.Lengths.{most_bytes}
-use Rattle.rewrite.specs.Sizing.{instrs_most}
 use Rattle.rewrite.proofs.Emitting.{plain_at, within, most_next, counted}
 use Rattle.rewrite.proofs.size.emitted_length.Goals as goal
 

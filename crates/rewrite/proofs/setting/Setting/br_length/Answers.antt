@@ -1,9 +1,7 @@
-use Rattle.std.proofs.Common.{◌≡◌, ◌∙◌, ◌++◌, List, [], ◌∷◌, refl, ap, sym, arith, pos, length, length-append}
+use Rattle.std.proofs.Common.{◌≡◌, ◌∙◌, ◌++◌, List, [], ap}
 use Rattle.module_ast.specs.declared.code.Instr.{Instr}
-use Rattle.module_ast.specs.Tree.{Plain, done, return_, br_if}
+use Rattle.module_ast.specs.Tree.{Plain}
 use Rattle.i64_split.specs.Pushing.{instrs}
-use Rattle.rewrite.proofs.Emitting.{few_of}
-use Rattle.module_ast.specs.Lists.{first_or}
 use Rattle.rewrite.specs.Emitted.{target_word}
 use Rattle.rewrite.specs.Sizing.{br_told}
 use Rattle.rewrite.proofs.Blocks.{target_is}

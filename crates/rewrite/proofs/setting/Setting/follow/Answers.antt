@@ -1,4 +1,4 @@
-use Rattle.std.proofs.Common.{◌≡◌, ◌∙◌, length, sym, subst, arith, drop}
+use Rattle.std.proofs.Common.{◌∙◌, sym, subst, arith}
 use Rattle.std.proofs.lemmas.Result.{on_ok_weaker}
 use Rattle.rewrite.specs.Sizing.{AreBelow}
 use Rattle.rewrite.proofs.EndSums.{sums_out, sums_on, sums_in, below_less, below_rest, below_more}

@@ -1,10 +1,9 @@
-use Rattle.std.proofs.Common.{◌≡◌, ◌∙◌, ◌+◌, ◌++◌, List, [], length, length-append, ap, subst₂, arith}
+use Rattle.std.proofs.Common.{◌≡◌, ◌∙◌, ◌+◌, ◌++◌, List, length, length-append, ap, subst₂, arith}
 use Rattle.leb_binary.specs.Shortest.{unsigned_bytes}
 use Rattle.module_ast.specs.declared.module.Group.{Group}
 use Rattle.module_ast.specs.declared.module.Body.{Body}
 use Rattle.module_ast.specs.Canonical.{vec_bytes, group_bytes, items_bytes, expr_bytes}
 use Rattle.i64_split.specs.Split.{pool_groups}
-use Rattle.i64_split.specs.declared.Pool.{Pool}
 use Rattle.rewrite.specs.Setting.{Setting}
 use Rattle.rewrite.proofs.BranchBytes.{groups_bytes, pool_few}
 use Rattle.rewrite.proofs.setting.Setting.locals_length.Goals as goal
@@ -17,7 +16,7 @@ returns-clause-length c =
     let count : c.unsigned_length-count.result ≡ length (unsigned_bytes (length own + length added)) = c.unsigned_length-count.ensures.value ∙ ap (λ n. length (unsigned_bytes (length own + n))) same in
     let first : own ≡ c.args.self.now.site.body.groups = c.as_slice-own.ensures ∙ ap (λ (b : Body). b.groups) c.body.ensures ∙ ap (λ (w : Setting). w.site.body.groups) c.self.view_is in
     let second : added ≡ pool_groups c.args.self.now.pool =
-        c.deref.ensures.value ∙ c.in_ok-push_groups.ensures.added ∙ ap (λ (l : List Group). l ++ pool_groups c.self.inside.pool) c.new-added.ensures.items ∙ ap (λ (w : Setting). pool_groups w.pool) c.self.view_is in
+    c.deref.ensures.value ∙ c.in_ok-push_groups.ensures.added ∙ ap (λ (l : List Group). l ++ pool_groups c.self.inside.pool) c.new-added.ensures.items ∙ ap (λ (w : Setting). pool_groups w.pool) c.self.view_is in
     subst₂ (λ (o a : List Group). c.unsigned_length-count.result + c.groups_length.result + c.groups_length-2.result ≡ length (vec_bytes group_bytes (o ++ a))) first second
     (groups_bytes own added c.unsigned_length-count.result c.groups_length.result c.groups_length-2.result count c.groups_length.ensures.length c.groups_length-2.ensures.length)
 
@@ -26,7 +25,16 @@ returns-clause-bound c =
     let body = c.args.self.now.site.body in
     let first : c.as_slice-own.result.now ≡ body.groups = c.as_slice-own.ensures ∙ ap (λ (b : Body). b.groups) c.body.ensures ∙ ap (λ (w : Setting). w.site.body.groups) c.self.view_is in
     let second : c.deref.result.now ≡ pool_groups c.self.inside.pool =
-        c.deref.ensures.value ∙ c.in_ok-push_groups.ensures.added ∙ ap (λ (l : List Group). l ++ pool_groups c.self.inside.pool) c.new-added.ensures.items in
-    omega (arith, c.unsigned_length-count.ensures.bound, c.groups_length.ensures.length, c.groups_length-2.ensures.bound, ap length second, pool_few c.self.inside.pool,
-    ap (λ (gs : List Group). length (items_bytes group_bytes gs)) first, c.requires, length-append (vec_bytes group_bytes body.groups) (expr_bytes body.code),
-    length-append (unsigned_bytes (length body.groups)) (items_bytes group_bytes body.groups))
+    c.deref.ensures.value ∙ c.in_ok-push_groups.ensures.added ∙ ap (λ (l : List Group). l ++ pool_groups c.self.inside.pool) c.new-added.ensures.items in
+    omega (
+      arith,
+      c.unsigned_length-count.ensures.bound,
+      c.groups_length.ensures.length,
+      c.groups_length-2.ensures.bound,
+      ap length second,
+      pool_few c.self.inside.pool,
+      ap (λ (gs : List Group). length (items_bytes group_bytes gs)) first,
+      c.requires,
+      length-append (vec_bytes group_bytes body.groups) (expr_bytes body.code),
+      length-append (unsigned_bytes (length body.groups)) (items_bytes group_bytes body.groups),
+    )

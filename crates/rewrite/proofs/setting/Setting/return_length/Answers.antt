@@ -1,6 +1,6 @@
-use Rattle.std.proofs.Common.{◌≡◌, ◌∙◌, ◌++◌, List, [], ◌∷◌, refl, ap, sym, arith, pos, length, length-append}
+use Rattle.std.proofs.Common.{◌≡◌, ◌∙◌, ◌++◌, List, [], ◌∷◌, refl, ap, arith, pos}
 use Rattle.module_ast.specs.declared.code.Instr.{Instr}
-use Rattle.module_ast.specs.Tree.{Plain, done, return_, br_if}
+use Rattle.module_ast.specs.Tree.{Plain, return_}
 use Rattle.i64_split.specs.Pushing.{instrs}
 use Rattle.rewrite.proofs.Emitting.{few_of}
 use Rattle.rewrite.specs.Templates.{tell_results}

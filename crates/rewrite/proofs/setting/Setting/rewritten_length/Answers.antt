@@ -38,7 +38,7 @@ place_length-requires-clause-few c =
     let ends : c.follow.new.sums ≡ end_sums w x.scopes = c.in_ok-follow.ensures.around counting.around x.scopes counting.ends (c.scopes.ensures ∙ next.3) counting.linked.0 in
     let same : 64 * length (x ∷ left) ≡ 64 * length left + 64 = omega arith in
     let below : AreBelow (64 * length left) c.follow.new.sums =
-        c.in_ok-follow.ensures.below (64 * length left) (omega (arith, counting.few)) (subst (λ n. AreBelow n c.loop-scratch.sums) same counting.below) in
+    c.in_ok-follow.ensures.below (64 * length left) (omega (arith, counting.few)) (subst (λ n. AreBelow n c.loop-scratch.sums) same counting.below) in
     omega (arith, below_first (64 * length left) c.follow.new.sums (omega (arith, counting.few)) below)
 
 pub loop-scratch-preserved : goal.loop-scratch-preserved
@@ -52,6 +52,6 @@ loop-scratch-preserved c =
     let ends : c.follow.new.sums ≡ end_sums w x.scopes = c.in_ok-follow.ensures.around counting.around x.scopes counting.ends (c.scopes.ensures ∙ next.3) counting.linked.0 in
     let same : 64 * length (x ∷ left) ≡ 64 * length left + 64 = omega arith in
     let below : AreBelow (64 * length left) c.follow.new.sums =
-        c.in_ok-follow.ensures.below (64 * length left) (omega (arith, counting.few)) (subst (λ n. AreBelow n c.loop-scratch.sums) same counting.below) in
+    c.in_ok-follow.ensures.below (64 * length left) (omega (arith, counting.few)) (subst (λ n. AreBelow n c.loop-scratch.sums) same counting.below) in
     let at : IsAt w x y c.scopes-in-Some.result.now c.follow.new.sums = record { place = next.2; inside = record { blocks = c.scopes-in-Some.ensures ∙ next.3; ends = ends } } in
     counting_next w c.loop-scratch.total c.loop-scratch.sums x left counting c.follow.new.sums c.in_ok-total-2.field-0 ends below (c.in_ok-total-2.ensures.length x at) (c.in_ok-total-2.ensures.bound x at)

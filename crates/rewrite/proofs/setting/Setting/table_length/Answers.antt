@@ -1,8 +1,7 @@
-use Rattle.std.proofs.Common.{◌≡◌, ◌∙◌, ◌++◌, List, [], ◌∷◌, refl, ap, sym, arith, pos, length, length-append}
+use Rattle.std.proofs.Common.{◌≡◌, ◌∙◌, ◌++◌, List, [], ap, arith}
 use Rattle.module_ast.specs.declared.code.Instr.{Instr}
-use Rattle.module_ast.specs.Tree.{Plain, done, return_, br_if}
+use Rattle.module_ast.specs.Tree.{Plain}
 use Rattle.i64_split.specs.Pushing.{instrs}
-use Rattle.rewrite.proofs.Emitting.{few_of}
 use Rattle.hook_select.specs.declared.GroupName.TheVariants as groups
 use Rattle.hook_mono.specs.declared.HookKey.TheVariants as keys
 use Rattle.rewrite.specs.Templates.{tell_before}

@@ -1,12 +1,10 @@
-use Rattle.std.proofs.Common.{◌≡◌, ◌∙◌, ◌++◌, List, [], ◌∷◌, refl, ap, sym, arith, pos, length, length-append}
+use Rattle.std.proofs.Common.{◌≡◌, ◌∙◌, ◌++◌, List, [], refl, ap, sym, arith, length-append}
 use Rattle.leb_binary.specs.Shortest.{unsigned_bytes}
 use Rattle.module_ast.specs.declared.code.Instr.{Instr}
-use Rattle.module_ast.specs.Tree.{Plain, done, return_, br_if}
+use Rattle.module_ast.specs.Tree.{Plain, done}
 use Rattle.i64_split.specs.Pushing.{instrs}
 use Rattle.rewrite.proofs.Emitting.{few_of}
 use Rattle.std.proofs.Common.{true, false, subst}
-use Rattle.hook_select.specs.declared.GroupName.TheVariants as groups
-use Rattle.hook_select.specs.Groups.{has}
 use Rattle.rewrite.specs.Emitted.{target_word}
 use Rattle.rewrite.specs.Sizing.{br_if_told, AreBytes}
 use Rattle.rewrite.proofs.Blocks.{target_is}
