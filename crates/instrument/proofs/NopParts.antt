@@ -18,7 +18,8 @@ use Rattle.rewrite.specs.Temporaries.{greatest}
 use Rattle.rewrite.specs.Rewrite.{rewritten_body}
 use Rattle.rewrite.specs.Nops.{IsFirst, nop_keys, nop_setting, nops_rewritten}
 use Rattle.rewrite.proofs.Lengths.{unsigned_five, sized_length, section_length, rewritten_length}
-use Rattle.instrument.specs.Nops.{nops, nop_module, no_groups, nop_group, IsNopChoice, narrow_file}
+use Rattle.instrument.specs.Nops.{nops, nop_module, no_groups, nop_group, IsNopChoice}
+use Rattle.instrument.specs.Made.{narrow_file}
 use Rattle.instrument.specs.Output.{output, output_with}
 use Rattle.instrument.specs.Parts.{nops_output, nop_types, nop_imports}
 use Rattle.instrument.proofs.NopOutput.{nop_site, temps_hooked, temps_none, needed_hooked, needed_none, output_empty, output_none}

@@ -6,7 +6,8 @@ use Rattle.module_ast.specs.declared.module.Body.{Body}
 use Rattle.module_ast.specs.declared.module.Module.{Module}
 use Rattle.module_ast.specs.Grammar.{header}
 use Rattle.module_ast.specs.Canonical.{body_bytes, code_bytes, element_bytes, export_bytes, func_type_bytes, global_bytes, group_bytes, import_bytes, items_bytes, limits_bytes, module_bytes, segment_bytes, sized_bytes, start_bytes, table_bytes, vec_bytes, vec_section}
-use Rattle.instrument.specs.Nops.{AreShort, narrow_file}
+use Rattle.instrument.specs.Nops.{AreShort}
+use Rattle.instrument.specs.Made.{narrow_file}
 
 -- the code of a body is shorter than the body in its section
 body_longer : (b : Body) → length (code_bytes b.code) ≤ length (sized_bytes (body_bytes b))

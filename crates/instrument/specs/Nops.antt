@@ -10,6 +10,7 @@ use Rattle.hook_select.specs.declared.GroupName.TheVariants.{Nop}
 pub use Rattle.rewrite.specs.Nops.{nops}
 use Rattle.hook_select.specs.declared.Hooks.{Hooks}
 use Rattle.hook_select.specs.Groups.{hooks_of, is_among}
+use Rattle.instrument.specs.Made.{narrow_file}
 
 -- one function without parameters and results, exported under a name, whose body is so many nops
 abbrev pub nop_module : (name : Text) → (count : ℕ) → Module
@@ -37,10 +38,6 @@ nop_group = hooks_of (is_among (Nop ∷ []))
 
 abbrev pub IsNopChoice : Hooks → Type 0
 IsNopChoice hooks = (hooks ≡ no_groups) ⊎ (hooks ≡ nop_group)
-
--- the greatest file that gets hooks, in bytes
-abbrev pub narrow_file : ℕ
-narrow_file = 16777216
 
 -- a module of nops whose file is short enough
 pub record IsNopModule (name : Text) (count : ℕ) : Type 0 where

@@ -10,7 +10,8 @@ ghost use Rattle.module_ast.specs.Limits.{narrow, IsWhole};
 ghost use Rattle.module_ast.specs.declared.module.Module.{Module};
 ghost use Rattle.module_ast.specs.Canonical.{code_bytes, module_bytes};
 ghost use Rattle.module_ast.specs.declared.module.ExportKind.TheVariants.{Func};
-ghost use Rattle.instrument.specs.Nops.{nops, nop_module, AreShort, HasFunctionsAlone, IsNopChoice, IsNopModule, IsNops, IsNoNops, narrow_file};
+ghost use Rattle.instrument.specs.Nops.{nops, nop_module, AreShort, HasFunctionsAlone, IsNopChoice, IsNopModule, IsNops, IsNoNops};
+ghost use Rattle.instrument.specs.Made.{narrow_file};
 ghost use Rattle.instrument.specs.Output.{output_bytes};
 ghost use Rattle.instrument.specs.Accepted.{IsInstrumented};
 

@@ -7,7 +7,7 @@ ghost use Rattle.hook_mono.specs.declared.HookKey.TheVariants.{Plain};
 ghost use Rattle.hook_mono.specs.Needed.{Site};
 ghost use Rattle.hook_mono.specs.Words.{hook_type};
 ghost use Rattle.rewrite.specs.Nops.{IsFirst, nop_keys, nops_rewritten};
-ghost use Rattle.instrument.specs.Nops.{narrow_file};
+ghost use Rattle.instrument.specs.Made.{narrow_file};
 ghost use Rattle.instrument.specs.Parts.{nop_types, nop_imports, nops_output};
 
 use module_ast::module::{Body, Export, ExportKind, FuncType, Import, Item, Module};

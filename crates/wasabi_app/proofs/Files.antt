@@ -10,7 +10,7 @@ use Rattle.module_ast.proofs.LeastModules.{module_least}
 use Rattle.code_decode.proofs.Modules.{trees_one, faults_have_no_tree}
 use Rattle.module_ast.specs.declared.module.Limits.{Limits}
 use Rattle.module_ast.specs.Validity.{IsValid, IsFirstBroken, IsFirstInvalid, Rule}
-use Rattle.instrument.specs.Nops.{narrow_file}
+use Rattle.instrument.specs.Made.{narrow_file}
 use Rattle.wasabi_app.specs.Files.{IsFit, IsNoModule, IsUnfit, IsInvalid}
 
 -- bytes with a fault are no module

@@ -5,7 +5,7 @@ use Rattle.module_ast.specs.declared.module.Module.{Module}
 use Rattle.module_ast.specs.declared.module.Limits.{Limits}
 use Rattle.module_ast.specs.Validity.{IsValid}
 use Rattle.module_ast.specs.Limits.{narrow, wide}
-use Rattle.instrument.specs.Nops.{narrow_file}
+use Rattle.instrument.specs.Made.{narrow_file}
 use Rattle.wasabi_app.specs.Words.{Line, IsLine, IsCheck, to_check, to_instrument}
 use Rattle.wasabi_app.specs.Texts.{wrote_text, no_memory_text, unwritten_text, ok_text, counts_of}
 use Rattle.wasabi_app.specs.Printing.{ShelfState}

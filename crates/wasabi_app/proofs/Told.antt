@@ -6,7 +6,7 @@ use Rattle.module_ast.specs.declared.module.Module.{Module}
 use Rattle.module_ast.specs.Decoding.{Gram}
 use Rattle.module_ast.specs.Validity.{IsValid}
 use Rattle.module_ast.specs.Limits.{narrow, wide}
-use Rattle.instrument.specs.Nops.{narrow_file}
+use Rattle.instrument.specs.Made.{narrow_file}
 use Rattle.instrument.proofs.NopValid.{dressed_valid}
 use Rattle.wasabi_app.specs.Words.{Line, IsLine, IsCheck, IsRefused, Task, to_check, to_instrument, AsksFor}
 use Rattle.wasabi_app.specs.Files.{IsValidFile, IsNoModule, IsUnfit, IsInvalid, wide_file}

@@ -5,7 +5,7 @@ use Rattle.outside_io.specs.Outside.{Contents, Rose, WhereKnown, Unchanged, Wrot
 use Rattle.module_ast.specs.declared.module.Limits.{Limits}
 use Rattle.module_ast.specs.declared.module.Module.{Module}
 use Rattle.module_ast.specs.Limits.{narrow, wide}
-use Rattle.instrument.specs.Nops.{narrow_file}
+use Rattle.instrument.specs.Made.{narrow_file}
 use Rattle.instrument.specs.Accepted.{IsInstrumented}
 use Rattle.wasabi_app.specs.declared.lines.Refusal.{Refusal}
 use Rattle.wasabi_app.specs.Words.{Line, IsLine, IsCheck, IsRefused}

@@ -5,7 +5,7 @@ use Rattle.module_ast.specs.declared.module.Limits.{Limits}
 use Rattle.module_ast.specs.declared.module.Module.{Module}
 use Rattle.module_ast.specs.Limits.{narrow, wide}
 use Rattle.module_ast.specs.Validity.{IsValid}
-use Rattle.instrument.specs.Nops.{narrow_file}
+use Rattle.instrument.specs.Made.{narrow_file}
 use Rattle.wasabi_app.specs.Words.{Task, to_check, to_instrument, AsksFor}
 use Rattle.wasabi_app.specs.Files.{IsFit, IsValidFile, wide_file}
 

@@ -14,6 +14,7 @@ mod code;
 mod code_length;
 mod numbers;
 mod opcodes;
+mod outline;
 mod sections;
 mod tables;
 #[cfg(test)]
@@ -25,6 +26,7 @@ mod whole;
 use crate::bodies::bodies_length;
 pub use crate::code_length::plain_length;
 pub use crate::numbers::unsigned_length;
+pub use crate::outline::{Outline, code_section_length, put_code_head, put_entry};
 use crate::whole::{module_length, spell_module};
 use module_ast::module::Module;
 use std::alloc::{AllocError, Global};

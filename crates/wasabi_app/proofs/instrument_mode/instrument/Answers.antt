@@ -2,7 +2,7 @@
 use Rattle.std.proofs.Common.{◌≤◌, length, sym, subst, rules}
 use Rattle.std.proofs.lemmas.Result.{err_from_is_err_and}
 use Rattle.module_ast.specs.Canonical.{module_bytes}
-use Rattle.instrument.specs.Nops.{narrow_file}
+use Rattle.instrument.specs.Made.{narrow_file}
 use Rattle.wasabi_app.specs.Reading.{line_of}
 use Rattle.wasabi_app.specs.Ends.{unloaded}
 use Rattle.wasabi_app.proofs.Contents.{wrote_after, part_after}

@@ -1,0 +1,97 @@
+// The module with hooks.
+
+ghost use Rattle.std.specs.Prelude.{◌≡◌, ◌<◌, ◌≤◌, ◌↔◌, ℕ, List, length, IfOk, IsErrOf, IsTrue, OnOk};
+ghost use Rattle.module_ast.specs.Canonical.{module_bytes};
+ghost use Rattle.module_ast.specs.Decoding.{Gram};
+ghost use Rattle.module_ast.specs.Limits.{narrow};
+ghost use Rattle.module_ast.specs.Profile.{IsWithin};
+ghost use Rattle.hook_mono.specs.Needed.{needed_keys};
+ghost use Rattle.wasm_sem.specs.Link.{IsFree};
+ghost use Rattle.instrument.specs.Output.{output_bytes};
+ghost use Rattle.instrument.specs.Made.{narrow_file, longest_output};
+ghost use Rattle.instrument.specs.Accepted.{IsInstrumented};
+ghost use Rattle.instrument.specs.declared.instrument.InstrumentFault.TheVariants.{HookModuleTaken, TooLarge, NoMemory};
+
+use hook_select::Hooks;
+use rewrite::Rewriter;
+use std::alloc::{AllocError, Global};
+use std::thread::Threads;
+use wasm_valid::ValidModule;
+
+/// A module with hooks: its canonical bytes, and how many hooks it imports.
+#[derive(Debug, Drop)]
+pub struct Made {
+    pub bytes: Vec<u8>,
+    pub hooks: u32,
+}
+
+/// Why a module gets no hooks.
+#[derive(Clone, Copy, Debug, PartialEq, Eq)]
+pub enum InstrumentFault {
+    /// An import names the module that hooks are imported from.
+    HookModuleTaken,
+    /// The module with hooks has this many bytes, and more than were allowed.
+    TooLarge { length: u64 },
+    /// The allocator gave no memory.
+    NoMemory,
+}
+
+impl From<AllocError> for InstrumentFault {
+    ghost from_gives = { λ _ e. e ≡ NoMemory };
+
+    fn from(_e: AllocError) -> InstrumentFault {
+        InstrumentFault::NoMemory
+    }
+}
+
+/// The module with the hooks of the selected groups, each of its bodies by the rewriter. For every file of the module, its
+/// bytes are a valid module that under every script does what the original does, and whose hook calls read as the original's
+/// events of these groups.
+///
+/// `HookModuleTaken` comes where an import of any kind names the hooks' module, else `TooLarge` where there are more than
+/// `max` bytes, before any body is rewritten, and `NoMemory` where memory ends on the way. The bytes do not depend on the
+/// number of jobs. Each rewritten body is spelled and dropped before the next one is made.
+pub fn instrument<R: Threads + Sync, W: Rewriter>(
+    _rt: &R,
+    _alloc: Global,
+    m: &ValidModule,
+    hooks: Hooks,
+    _jobs: u32,
+    max: u64,
+    _rewriter: &W,
+) -> Result<Made, InstrumentFault>
+    requires limits { IsWithin narrow m.now }
+    requires short { length (module_bytes m.now) ≤ narrow_file }
+    requires some { 1 ≤ _jobs }
+    requires few { _jobs ≤ 64 }
+    requires most { max ≤ longest_output }
+    ensures output { IfOk result (λ made. made.bytes.items ≡ output_bytes m.now hooks) }
+    ensures hooks { IfOk result (λ made. made.hooks ≡ length (needed_keys m.now hooks)) }
+    ensures fits { IfOk result (λ made. length made.bytes.items ≤ max) }
+    ensures instrumented { IfOk result (λ made. (file : List ℕ) → Gram file m.now → length file ≤ narrow_file → IsInstrumented file hooks made.bytes.items) }
+    ensures free { OnOk result (IsFree m.now) }
+    ensures taken { IsErrOf result HookModuleTaken → ¬ IsFree m.now }
+    ensures large { (n : ℕ) → IsErrOf result (TooLarge n) → IsFree m.now × (n ≡ length (output_bytes m.now hooks)) × (max < n) }
+    ensures memory { IsErrOf result NoMemory → IsFree m.now }
+{
+    // STAND-IN: to be built.
+    if is_taken(m) {
+        return Err(InstrumentFault::HookModuleTaken);
+    }
+    Err(InstrumentFault::NoMemory)
+}
+
+// Whether an import names the module that hooks are imported from.
+fn is_taken(m: &ValidModule) -> bool
+    ensures { IsTrue result ↔ ¬ IsFree m.now }
+{
+    for import in m.module().imports.as_slice() {
+        if import.module.as_str() == HOOK_MODULE {
+            return true;
+        }
+    }
+    false
+}
+
+// The module that hooks are imported from.
+const HOOK_MODULE: &str = "__wasabi_hooks";

@@ -1,0 +1,120 @@
+// Modules whose parts are lent, and whose bodies come one at a time.
+
+ghost use Rattle.std.specs.Prelude.{◌≡◌, ◌++◌, ◌+◌, ◌<◌, ◌^◌, OnOk, length};
+ghost use Rattle.module_ast.specs.Canonical.{body_bytes};
+ghost use Rattle.wasm_encode.specs.Outline.{front_bytes, back_bytes, entry_bytes, code_head};
+
+use crate::numbers::{put_size, unsigned_length};
+use crate::vectors::{Encode, put_section, section_length};
+use module_ast::module::{
+    Body, Element, Export, FuncType, GlobalDef, Import, Range, Segment,
+};
+use std::alloc::{AllocError, Global};
+use std::marker::Model;
+
+/// All of a module but its bodies, lent from where it stands: so that a module that differs from another in few parts is
+/// spelled without a copy of the others. Of types and of imports there are two runs, one behind the other. Contracts see
+/// a module without bodies and custom sections.
+#[derive(Drop)]
+pub struct Outline<'m> {
+    pub types: &'m [FuncType],
+    pub more_types: &'m [FuncType],
+    pub imports: &'m [Import],
+    pub more_imports: &'m [Import],
+    pub funcs: &'m [u32],
+    pub tables: &'m [Range],
+    pub memories: &'m [Range],
+    pub globals: &'m [GlobalDef],
+    pub exports: &'m [Export],
+    pub start: Option<u32>,
+    pub elements: &'m [Element],
+    pub segments: &'m [Segment],
+}
+
+impl<'m> Model for Outline<'m> {
+    ghost use Rattle.std.specs.Prelude.{◌++◌, []};
+    ghost use Rattle.module_ast.specs.declared.module.Module.{Module as shown};
+    ghost use Rattle.module_ast.specs.contracts.module.Module as of_module;
+    ghost use Rattle.std.specs.Coded.{codes};
+
+    ghost Value = { shown };
+
+    ghost coded = { Prim.hlevel (codes, of_module.the_row.coded) };
+
+    ghost view = { λ a.
+        record {
+          types = a.types.now ++ a.more_types.now;
+          imports = a.imports.now ++ a.more_imports.now;
+          funcs = a.funcs.now;
+          tables = a.tables.now;
+          memories = a.memories.now;
+          globals = a.globals.now;
+          exports = a.exports.now;
+          start = a.start;
+          elements = a.elements.now;
+          bodies = [];
+          segments = a.segments.now;
+          customs = [];
+        } };
+}
+
+impl Outline<'_> {
+    /// Adds the header and the sections before that of code (5.5.16).
+    pub fn put_front(&self, _alloc: Global, _out: &mut Vec<u8>) -> Result<(), AllocError>
+        ensures { OnOk result (_out.new.items ≡ _out.old.items ++ front_bytes self.now) }
+    {
+        Err(AllocError)
+    }
+
+    /// How many bytes stand behind the section of code.
+    pub fn back_length(&self) -> u64
+        requires { length (back_bytes self.now) < 2 ^ 63 }
+        ensures { result ≡ length (back_bytes self.now) }
+    {
+        section_length(11, self.segments)
+    }
+
+    /// Adds what stands behind the section of code.
+    pub fn put_back(&self, out: &mut Vec<u8>) -> Result<(), AllocError>
+        requires { length (back_bytes self.now) < 2 ^ 63 }
+        ensures { OnOk result (out.new.items ≡ out.old.items ++ back_bytes self.now) }
+    {
+        put_section(out, 11, self.segments)
+    }
+}
+
+/// How many bytes the section of code has, with its id and size, where it has so many entries of so many bytes together
+/// (5.5.13): none where there are no entries.
+pub fn code_section_length(count: u64, size: u64) -> u64
+    requires { size < 2 ^ 62 }
+    ensures { result ≡ length (code_head count size) + size }
+{
+    if count == 0 {
+        return size;
+    }
+    let content = unsigned_length(count) + size;
+    1 + unsigned_length(content) + content
+}
+
+/// Adds what stands in the section of code before its entries, of which there are so many of so many bytes together, and
+/// nothing where there are none (5.5.13).
+pub fn put_code_head(out: &mut Vec<u8>, count: u64, size: u64) -> Result<(), AllocError>
+    requires { size < 2 ^ 62 }
+    ensures { OnOk result (out.new.items ≡ out.old.items ++ code_head count size) }
+{
+    if count == 0 {
+        return Ok(());
+    }
+    out.push(10)?;
+    put_size(out, unsigned_length(count) + size)?;
+    put_size(out, count)
+}
+
+/// Adds a body of so many bytes with its size before it (5.5.13).
+pub fn put_entry(out: &mut Vec<u8>, body: &Body, size: u64) -> Result<(), AllocError>
+    requires { size ≡ length (body_bytes body.now) }
+    ensures { OnOk result (out.new.items ≡ out.old.items ++ entry_bytes body.now) }
+{
+    put_size(out, size)?;
+    body.put(out)
+}
