@@ -1,15 +1,16 @@
 // Whole modules (5.5.16).
 
-ghost use Rattle.std.specs.Prelude.{◌≡◌, ◌<◌, ◌^◌, IfOk, All, length};
+ghost use Rattle.std.specs.Prelude.{◌≡◌, ◌<◌, ◌^◌, [], IfOk, All, length};
 ghost use Rattle.module_ast.specs.declared.module.Body.{Body};
 ghost use Rattle.module_ast.specs.Fits.{FitsCode, Fits};
 ghost use Rattle.module_ast.specs.Profile.{locals_of};
 ghost use Rattle.module_ast.specs.Canonical.{body_bytes, sized_bytes, vec_bytes, module_bytes};
 
 use crate::bodies::{code_section_length, put_code_section};
-use crate::sections::{put_start, start_length};
-use crate::tables::{put_table_section, table_section_length};
-use crate::vectors::{put_section, section_length};
+use crate::outline::Outline;
+use crate::sections::start_length;
+use crate::tables::table_section_length;
+use crate::vectors::section_length;
 use module_ast::module::Module;
 use std::alloc::{AllocError, Global};
 
@@ -36,6 +37,26 @@ pub fn module_length(m: &Module, bodies: u64) -> u64
         + section_length(11, m.segments.as_slice())
 }
 
+// All of the module but its bodies and custom sections.
+fn outline_of(m: &Module) -> Outline<'_>
+    ensures { result ≡ record m.now { bodies = []; customs = [] } }
+{
+    Outline {
+        types: m.types.as_slice(),
+        more_types: &[],
+        imports: m.imports.as_slice(),
+        more_imports: &[],
+        funcs: m.funcs.as_slice(),
+        tables: m.tables.as_slice(),
+        memories: m.memories.as_slice(),
+        globals: m.globals.as_slice(),
+        exports: m.exports.as_slice(),
+        start: m.start,
+        elements: m.elements.as_slice(),
+        segments: m.segments.as_slice(),
+    }
+}
+
 /// The canonical bytes of the module, with room for `capacity` bytes from the start. Its bodies have so many with their
 /// number in front.
 pub fn spell_module(
@@ -49,17 +70,9 @@ pub fn spell_module(
     ensures { IfOk result (λ bytes. bytes.items ≡ module_bytes m.now) }
 {
     let mut out = Vec::with_capacity(alloc, capacity as usize)?;
-    out.extend_from_slice(&[0x00, 0x61, 0x73, 0x6D, 0x01, 0x00, 0x00, 0x00])?;
-    put_section(&mut out, 1, m.types.as_slice())?;
-    put_section(&mut out, 2, m.imports.as_slice())?;
-    put_section(&mut out, 3, m.funcs.as_slice())?;
-    put_table_section(&mut out, m.tables.as_slice())?;
-    put_section(&mut out, 5, m.memories.as_slice())?;
-    put_section(&mut out, 6, m.globals.as_slice())?;
-    put_section(&mut out, 7, m.exports.as_slice())?;
-    put_start(&mut out, m.start)?;
-    put_section(&mut out, 9, m.elements.as_slice())?;
+    let outline = outline_of(m);
+    outline.put_front(alloc, &mut out)?;
     put_code_section(alloc, &mut out, m.bodies.as_slice(), bodies)?;
-    put_section(&mut out, 11, m.segments.as_slice())?;
+    outline.put_back(&mut out)?;
     Ok(out)
 }
