@@ -1,3 +1,4 @@
+pub mod Outlines
 pub mod Rooms
 pub mod Short
 mod Fitting

@@ -40,6 +40,6 @@ pub section_written : {A : Type 0} (id : ℕ) (f : A → List ℕ) (xs ys : List
 section_written id f xs ys old mid new c0 c1 c2 some at_count at_first at_second at_id at_content =
     let count = unsigned_bytes (length xs + length ys) in
     let content : c2 ≡ runs_content f xs ys =
-        at_second ∙ ap (λ c. c ++ items_bytes f ys) (at_first ∙ ap (λ c. c ++ items_bytes f xs) at_count) ∙ append_assoc count (items_bytes f xs) (items_bytes f ys) in
+    at_second ∙ ap (λ c. c ++ items_bytes f ys) (at_first ∙ ap (λ c. c ++ items_bytes f xs) at_count) ∙ append_assoc count (items_bytes f xs) (items_bytes f ys) in
     at_content ∙ ap (λ c. mid ++ sized_bytes c) content ∙ ap (λ m. m ++ sized_bytes (runs_content f xs ys)) at_id
     ∙ append_assoc old (id ∷ []) (sized_bytes (runs_content f xs ys)) ∙ ap (λ s. old ++ s) (sym (section_of_runs id f xs ys some))

@@ -9,9 +9,7 @@ use crate::numbers::{put_size, unsigned_length};
 use crate::sections::put_start;
 use crate::tables::put_table_section;
 use crate::vectors::{Encode, put_run, put_runs, put_section, section_length};
-use module_ast::module::{
-    Body, Element, Export, FuncType, GlobalDef, Import, Range, Segment,
-};
+use module_ast::module::{Body, Element, Export, FuncType, GlobalDef, Import, Range, Segment};
 use std::alloc::{AllocError, Global};
 use std::marker::Model;
 
@@ -127,7 +125,7 @@ impl Outline<'_> {
 /// How many bytes the section of code has, with its id and size, where it has so many entries of so many bytes together
 /// (5.5.13): none where there are no entries.
 pub fn code_section_length(count: u64, size: u64) -> u64
-    requires { size < 2 ^ 62 }
+    requires { size < 2 ^ 63 }
     ensures { result ≡ length (code_head count size) + size }
 {
     if count == 0 {
@@ -140,7 +138,7 @@ pub fn code_section_length(count: u64, size: u64) -> u64
 /// Adds what stands in the section of code before its entries, of which there are so many of so many bytes together, and
 /// nothing where there are none (5.5.13).
 pub fn put_code_head(out: &mut Vec<u8>, count: u64, size: u64) -> Result<(), AllocError>
-    requires { size < 2 ^ 62 }
+    requires { size < 2 ^ 63 }
     ensures { OnOk result (out.new.items ≡ out.old.items ++ code_head count size) }
 {
     if count == 0 {

@@ -4,9 +4,10 @@ ghost use Rattle.std.specs.Prelude.{◌≡◌, ◌<◌, ◌^◌, [], IfOk, All, 
 ghost use Rattle.module_ast.specs.declared.module.Body.{Body};
 ghost use Rattle.module_ast.specs.Fits.{FitsCode, Fits};
 ghost use Rattle.module_ast.specs.Profile.{locals_of};
-ghost use Rattle.module_ast.specs.Canonical.{body_bytes, sized_bytes, vec_bytes, module_bytes};
+ghost use Rattle.module_ast.specs.Canonical.{module_bytes};
+ghost use Rattle.wasm_encode.specs.Outline.{entries_bytes};
 
-use crate::bodies::{code_section_length, put_code_section};
+use crate::bodies::{bodies_section_length, put_bodies_section};
 use crate::outline::Outline;
 use crate::sections::start_length;
 use crate::tables::table_section_length;
@@ -14,9 +15,9 @@ use crate::vectors::section_length;
 use module_ast::module::Module;
 use std::alloc::{AllocError, Global};
 
-/// How many canonical bytes the module has, whose bodies have this many with their number in front.
+/// How many canonical bytes the module has, whose bodies have this many with their sizes.
 pub fn module_length(m: &Module, bodies: u64) -> u64
-    requires bodies { bodies ≡ length (vec_bytes (λ b. sized_bytes (body_bytes b)) m.now.bodies) }
+    requires bodies { bodies ≡ length (entries_bytes m.now.bodies) }
     requires code { All (λ (b : Body). FitsCode b.code) m.now.bodies }
     requires locals { All (λ (b : Body). locals_of b.groups < 2 ^ 32) m.now.bodies }
     requires counts { length m.now.funcs ≡ length m.now.bodies }
@@ -33,7 +34,7 @@ pub fn module_length(m: &Module, bodies: u64) -> u64
         + section_length(7, m.exports.as_slice())
         + start_length(m.start)
         + section_length(9, m.elements.as_slice())
-        + code_section_length(m.bodies.as_slice(), bodies)
+        + bodies_section_length(m.bodies.as_slice(), bodies)
         + section_length(11, m.segments.as_slice())
 }
 
@@ -58,21 +59,21 @@ fn outline_of(m: &Module) -> Outline<'_>
 }
 
 /// The canonical bytes of the module, with room for `capacity` bytes from the start. Its bodies have so many with their
-/// number in front.
+/// sizes.
 pub fn spell_module(
     alloc: Global,
     m: &Module,
     capacity: u64,
     bodies: u64,
 ) -> Result<Vec<u8>, AllocError>
-    requires bodies { bodies ≡ length (vec_bytes (λ b. sized_bytes (body_bytes b)) m.now.bodies) }
+    requires bodies { bodies ≡ length (entries_bytes m.now.bodies) }
     requires room { length (module_bytes m.now) < 2 ^ 63 }
     ensures { IfOk result (λ bytes. bytes.items ≡ module_bytes m.now) }
 {
     let mut out = Vec::with_capacity(alloc, capacity as usize)?;
     let outline = outline_of(m);
     outline.put_front(alloc, &mut out)?;
-    put_code_section(alloc, &mut out, m.bodies.as_slice(), bodies)?;
+    put_bodies_section(alloc, &mut out, m.bodies.as_slice(), bodies)?;
     outline.put_back(&mut out)?;
     Ok(out)
 }
