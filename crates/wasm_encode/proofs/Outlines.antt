@@ -1,9 +1,9 @@
 -- The bytes of a module in three parts.
-use Rattle.std.proofs.Common.{◌≡◌, ℕ, suc, ◌+◌, ◌≤◌, List, [], ◌∷◌, ◌++◌, length, refl, ap, sym, ◌∙◌, arith, append_assoc, append-nil, length-append}
+use Rattle.std.proofs.Common.{◌≡◌, ◌+◌, ◌≤◌, List, [], ◌∷◌, ◌++◌, length, refl, ap, sym, ◌∙◌, arith, append_assoc, length-append}
 use Rattle.leb_binary.specs.Shortest.{unsigned_bytes}
 use Rattle.module_ast.specs.declared.module.Body.{Body}
 use Rattle.module_ast.specs.declared.module.Module.{Module}
-use Rattle.module_ast.specs.Canonical.{sized_bytes, vec_bytes, vec_section, body_bytes, module_bytes}
+use Rattle.module_ast.specs.Canonical.{vec_section, module_bytes}
 use Rattle.wasm_encode.specs.Outline.{front_bytes, back_bytes, entry_bytes, entries_bytes, code_head}
 
 -- the section of code: what stands before its entries, and these

@@ -1,5 +1,5 @@
 -- The bytes of all bodies are among those of the module.
-use Rattle.std.proofs.Common.{ℕ, ◌≡◌, ◌+◌, ◌++◌, ◌<◌, ◌^◌, length, ap, ◌∙◌, arith, length-append}
+use Rattle.std.proofs.Common.{◌++◌, ◌<◌, ◌^◌, length, ap, arith, length-append}
 use Rattle.module_ast.specs.declared.module.Module.{Module}
 use Rattle.module_ast.specs.Canonical.{module_bytes}
 use Rattle.wasm_encode.specs.Outline.{front_bytes, back_bytes, entries_bytes, code_head}
