@@ -75,7 +75,7 @@ refused_behind program mode subject rest options are none (to_check s) (o, a) = 
 refused_behind program mode subject rest options are none (to_instrument line) a =
     let e = a.asks.order in
     let same : a.asks.rest ≡ rest = cc in
-    let one : options ≡ a.options = one_options rest no_options _ _ are (subst (λ x. AreOptions x no_options _) same a.asks.given) in
+    let one : options ≡ a.options = one_options rest no_options options a.options are (subst (λ x. AreOptions x no_options a.options) same a.asks.given) in
     let missing : options.target ≡ None = none.no_line (cc) in
     let there = a.target in
     cc
@@ -101,6 +101,15 @@ command_behind (Some (Instrument line)) program mode subject rest options v are 
   bound = is.4;
 }
 
+-- lines with the same parts
+abbrev line_with : (subject target : List ℕ) → Hooks → (bound : ℕ) → Line
+line_with subject target hooks bound = record { subject = subject; target = target; hooks = hooks; bound = bound }
+
+same_line : (a b : Line) → a.subject ≡ b.subject → a.target ≡ b.target → a.hooks ≡ b.hooks → a.bound ≡ b.bound → a ≡ b
+same_line a b e f g h =
+    ap (λ s. line_with s a.target a.hooks a.bound) e ∙ ap (λ t. line_with b.subject t a.hooks a.bound) f
+    ∙ ap (λ x. line_with b.subject b.target x a.bound) g ∙ ap (line_with b.subject b.target b.hooks) h
+
 -- words are one line
 pub one_line : (words : List (List ℕ)) (a b : Line) → IsLine words a → IsLine words b → a ≡ b
 one_line words a b p q =
@@ -108,12 +117,12 @@ one_line words a b p q =
     let f = q.asks.order in
     let rest : p.asks.rest ≡ q.asks.rest = cc in
     let subject : a.subject ≡ b.subject = cc in
-    let one : p.options ≡ q.options = one_options q.asks.rest no_options _ _ (subst (λ x. AreOptions x no_options _) rest p.asks.given) q.asks.given in
+    let one : p.options ≡ q.options = one_options q.asks.rest no_options p.options q.options (subst (λ x. AreOptions x no_options p.options) rest p.asks.given) q.asks.given in
     let g : Some a.target ≡ Some b.target = sym p.target ∙ ap (λ (o : Options). o.target) one ∙ q.target in
     let target : a.target ≡ b.target = cc in
     let hooks : a.hooks ≡ b.hooks = p.hooks ∙ ap (λ (o : Options). unwrap_or o.hooks all_hooks) one ∙ sym q.hooks in
     let bound : a.bound ≡ b.bound = p.bound ∙ ap (λ (o : Options). unwrap_or o.bound longest_output) one ∙ sym q.bound in
-    cc
+    same_line a b subject target hooks bound
 
 -- a bound that is given is no more than the most that is written
 abbrev HasBound : Options → Type 0
