@@ -15,6 +15,10 @@ returns-in_err-valid-clause-ended g c = λ words k.
     let p = err_from_is_err_and c.from_residual.result c.from_residual.ensures.1 in
     rw (p.1, p.2) (unloaded _ _ _ (line_reads k) (rw c.narrow.ensures at c.in_err-valid.ensures.refused) c.in_err-valid.ensures.kept)
 
+pub make-requires-clause-limits : goal.make-requires-clause-limits
+make-requires-clause-limits g c =
+    subst (IsWithin narrow) (sym c.in_ok-valid.valid) (rw c.narrow.ensures at c.in_ok-valid.ensures.ok).fit.within
+
 pub make-requires-clause-short : goal.make-requires-clause-short
 make-requires-clause-short g c =
     let is = rw c.narrow.ensures at c.in_ok-valid.ensures.ok in
