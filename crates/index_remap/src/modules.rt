@@ -35,7 +35,9 @@ impl Remap {
         Ok(Export { name, kind, index })
     }
 
-    fn map_exports(&self, alloc: Global, exports: &[Export]) -> Result<Seq<Export>, AllocError>
+    /// Copies of these exports, in which those of functions name functions of the output. An `Err` comes where there is no
+    /// memory. (Standard, 2.5.10)
+    pub fn map_exports(&self, alloc: Global, exports: &[Export]) -> Result<Seq<Export>, AllocError>
         requires { All (λ (e : Export). MapsReference self.now e.kind e.index) exports.now }
         ensures { IfOk result (λ copies. copies ≡ map (map_export self.now) exports.now) }
     {
@@ -46,7 +48,8 @@ impl Remap {
         Ok(Seq::from_vec(copies))
     }
 
-    fn map_start(&self, start: Option<u32>) -> Option<u32>
+    /// The start function in the output, if there is one. (Standard, 2.5.9)
+    pub fn map_start(&self, start: Option<u32>) -> Option<u32>
         requires { ForSome start (MapsIndex self.now) }
         ensures { result ≡ option_map (map_index self.now) start }
     {
@@ -80,7 +83,9 @@ impl Remap {
         })
     }
 
-    fn map_elements(&self, alloc: Global, elements: &[Element]) -> Result<Seq<Element>, AllocError>
+    /// Copies of these element segments, which list functions of the output. An `Err` comes where there is no memory.
+    /// (Standard, 2.5.7)
+    pub fn map_elements(&self, alloc: Global, elements: &[Element]) -> Result<Seq<Element>, AllocError>
         requires { All (λ (e : Element). All (MapsIndex self.now) e.funcs) elements.now }
         ensures { IfOk result (λ copies. copies ≡ map (map_element self.now) elements.now) }
     {
