@@ -14,12 +14,12 @@ returns-in_err-valid-clause-ended g c = λ words k.
     rw (p.1, p.2) (unloaded _ _ _ (line_reads k) (rw c.narrow.ensures at c.in_err-valid.ensures.refused) c.in_err-valid.ensures.kept)
 
 pub make-requires-clause-limits : goal.make-requires-clause-limits
-make-requires-clause-limits g c = (rw c.narrow.ensures at c.in_ok-valid.ensures.ok).fit.within
+make-requires-clause-limits g c = λ _ _. (rw c.narrow.ensures at c.in_ok-valid.ensures.ok).fit.within
 
 pub make-requires-clause-short : goal.make-requires-clause-short
 make-requires-clause-short g c =
     let is = rw c.narrow.ensures at c.in_ok-valid.ensures.ok in
-    canonical_short is.bytes c.in_ok-valid.valid is.read.short is.fit.spelled
+    λ _ _. canonical_short is.bytes c.in_ok-valid.valid is.read.short is.fit.spelled
 
 pub returns-in_err-output-clause-ended : goal.returns-in_err-output-clause-ended
 returns-in_err-output-clause-ended g c = λ words k.
