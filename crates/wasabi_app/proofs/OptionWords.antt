@@ -1,5 +1,5 @@
 -- What options say, and when words are a command.
-use Rattle.std.proofs.Common.{◌≡◌, ℕ, ◌≤◌, ◌-◌, List, [], ◌∷◌, refl, length, take, drop, ap, get_or, codes, sym, ◌∙◌, subst, arith, String, string_bytes, Option, Some, None, MatchOption, unwrap_or}
+use Rattle.std.proofs.Common.{◌≡◌, ℕ, ◌≤◌, ◌-◌, List, [], ◌∷◌, length, take, drop, ap, get_or, codes, sym, ◌∙◌, subst, arith, String, string_bytes, Option, Some, None, MatchOption, unwrap_or}
 use Rattle.std.proofs.lemmas.List.{take_rest}
 use Rattle.std.specs.declared.alloc.Global.{Global}
 use Rattle.hook_select.specs.declared.Hooks.{Hooks}

@@ -7,8 +7,6 @@ use Rattle.module_ast.specs.Decoding.{Gram}
 use Rattle.module_ast.specs.Limits.{narrow, wide}
 use Rattle.instrument.specs.Made.{narrow_file}
 use Rattle.wasm_sem.specs.Link.{IsFree}
-use Rattle.instrument.specs.Accepted.{IsAccepted}
-use Rattle.instrument.specs.Output.{output_bytes}
 use Rattle.wasabi_app.specs.Words.{Line, IsLine, IsCheck, IsRefused, Task, to_check, to_instrument, AsksFor}
 use Rattle.wasabi_app.specs.Files.{IsValidFile, IsNoModule, IsUnfit, IsInvalid, wide_file}
 use Rattle.wasabi_app.specs.Reads.{Want, valid_module, Read, module_read, reads_of, OfModule, IsGood, IsReached, Reads, IsLoaded}
