@@ -1,9 +1,9 @@
 // Modules with hooks.
 #![tactic(auto)]
 
-mod instrument;
 pub mod laws;
+mod made;
 pub mod nops;
 mod output;
 
-pub use crate::instrument::{InstrumentFault, Made, instrument};
+pub use crate::made::{InstrumentFault, Made, instrument};

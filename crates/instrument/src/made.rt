@@ -10,7 +10,7 @@ ghost use Rattle.wasm_sem.specs.Link.{IsFree};
 ghost use Rattle.instrument.specs.Output.{output_bytes};
 ghost use Rattle.instrument.specs.Made.{narrow_file, longest_output};
 ghost use Rattle.instrument.specs.Accepted.{IsInstrumented};
-ghost use Rattle.instrument.specs.declared.instrument.InstrumentFault.TheVariants.{HookModuleTaken, TooLarge, NoMemory};
+ghost use Rattle.instrument.specs.declared.made.InstrumentFault.TheVariants.{HookModuleTaken, TooLarge, NoMemory};
 
 use hook_select::Hooks;
 use rewrite::Rewriter;
