@@ -1,3 +1,5 @@
+pub mod Outlines
 pub mod Rooms
 pub mod Short
 mod Fitting
+mod Runs

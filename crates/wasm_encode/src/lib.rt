@@ -23,7 +23,7 @@ mod types;
 mod vectors;
 mod whole;
 
-use crate::bodies::bodies_length;
+use crate::bodies::entries_length;
 pub use crate::code_length::plain_length;
 pub use crate::numbers::unsigned_length;
 pub use crate::outline::{Outline, code_section_length, put_code_head, put_entry};
@@ -65,7 +65,7 @@ pub fn encode(alloc: Global, m: &Module, max: u64) -> Result<Vec<u8>, EncodeFaul
     ensures large { (n : ℕ) → IsErrOf result (TooLarge n) → (n ≡ length (module_bytes m.now)) × (max < n) }
     ensures memory { IsErrOf result NoMemory → length (module_bytes m.now) ≤ max }
 {
-    let bodies = bodies_length(m.bodies.as_slice());
+    let bodies = entries_length(m.bodies.as_slice());
     let length = module_length(m, bodies);
     if length > max {
         return Err(EncodeFault::TooLarge { length });

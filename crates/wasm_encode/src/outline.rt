@@ -1,14 +1,15 @@
 // Modules whose parts are lent, and whose bodies come one at a time.
 
 ghost use Rattle.std.specs.Prelude.{◌≡◌, ◌++◌, ◌+◌, ◌<◌, ◌^◌, OnOk, length};
-ghost use Rattle.module_ast.specs.Canonical.{body_bytes};
+ghost use Rattle.leb_binary.specs.Shortest.{unsigned_bytes};
+ghost use Rattle.module_ast.specs.Canonical.{body_bytes, vec_section, func_type_bytes, import_bytes, table_bytes, limits_bytes, global_bytes, export_bytes, start_bytes, element_bytes};
 ghost use Rattle.wasm_encode.specs.Outline.{front_bytes, back_bytes, entry_bytes, code_head};
 
 use crate::numbers::{put_size, unsigned_length};
-use crate::vectors::{Encode, put_section, section_length};
-use module_ast::module::{
-    Body, Element, Export, FuncType, GlobalDef, Import, Range, Segment,
-};
+use crate::sections::put_start;
+use crate::tables::put_table_section;
+use crate::vectors::{Encode, put_run, put_runs, put_section, section_length};
+use module_ast::module::{Body, Element, Export, FuncType, GlobalDef, Import, Range, Segment};
 use std::alloc::{AllocError, Global};
 use std::marker::Model;
 
@@ -59,11 +60,49 @@ impl<'m> Model for Outline<'m> {
 }
 
 impl Outline<'_> {
-    /// Adds the header and the sections before that of code (5.5.16).
-    pub fn put_front(&self, _alloc: Global, _out: &mut Vec<u8>) -> Result<(), AllocError>
-        ensures { OnOk result (_out.new.items ≡ _out.old.items ++ front_bytes self.now) }
+    // Adds what says which functions there are.
+    fn put_functions(&self, alloc: Global, out: &mut Vec<u8>) -> Result<(), AllocError>
+        requires types { length self.now.types < 2 ^ 64 }
+        requires imports { length self.now.imports < 2 ^ 64 }
+        ensures { OnOk result (out.new.items ≡ out.old.items ++ (vec_section 1 func_type_bytes self.now.types ++ vec_section 2 import_bytes self.now.imports ++ vec_section 3 unsigned_bytes self.now.funcs)) }
     {
-        Err(AllocError)
+        put_runs(alloc, out, 1, self.types, self.more_types)?;
+        put_runs(alloc, out, 2, self.imports, self.more_imports)?;
+        put_run(alloc, out, 3, self.funcs)?;
+        Ok(())
+    }
+
+    // Adds what says which tables, memories and globals there are.
+    fn put_stores(&self, alloc: Global, out: &mut Vec<u8>) -> Result<(), AllocError>
+        ensures { OnOk result (out.new.items ≡ out.old.items ++ (vec_section 4 table_bytes self.now.tables ++ vec_section 5 limits_bytes self.now.memories ++ vec_section 6 global_bytes self.now.globals)) }
+    {
+        put_table_section(alloc, out, self.tables)?;
+        put_run(alloc, out, 5, self.memories)?;
+        put_run(alloc, out, 6, self.globals)?;
+        Ok(())
+    }
+
+    // Adds what says how functions are reached from outside and through tables.
+    fn put_uses(&self, alloc: Global, out: &mut Vec<u8>) -> Result<(), AllocError>
+        ensures { OnOk result (out.new.items ≡ out.old.items ++ (vec_section 7 export_bytes self.now.exports ++ start_bytes self.now.start ++ vec_section 9 element_bytes self.now.elements)) }
+    {
+        put_run(alloc, out, 7, self.exports)?;
+        put_start(out, self.start)?;
+        put_run(alloc, out, 9, self.elements)?;
+        Ok(())
+    }
+
+    /// Adds the header and the sections before that of code (5.5.16). Each section is written apart first.
+    pub fn put_front(&self, alloc: Global, out: &mut Vec<u8>) -> Result<(), AllocError>
+        requires types { length self.now.types < 2 ^ 64 }
+        requires imports { length self.now.imports < 2 ^ 64 }
+        ensures { OnOk result (out.new.items ≡ out.old.items ++ front_bytes self.now) }
+    {
+        out.extend_from_slice(&[0x00, 0x61, 0x73, 0x6D, 0x01, 0x00, 0x00, 0x00])?;
+        self.put_functions(alloc, out)?;
+        self.put_stores(alloc, out)?;
+        self.put_uses(alloc, out)?;
+        Ok(())
     }
 
     /// How many bytes stand behind the section of code.
@@ -86,7 +125,7 @@ impl Outline<'_> {
 /// How many bytes the section of code has, with its id and size, where it has so many entries of so many bytes together
 /// (5.5.13): none where there are no entries.
 pub fn code_section_length(count: u64, size: u64) -> u64
-    requires { size < 2 ^ 62 }
+    requires { size < 2 ^ 63 }
     ensures { result ≡ length (code_head count size) + size }
 {
     if count == 0 {
@@ -99,7 +138,7 @@ pub fn code_section_length(count: u64, size: u64) -> u64
 /// Adds what stands in the section of code before its entries, of which there are so many of so many bytes together, and
 /// nothing where there are none (5.5.13).
 pub fn put_code_head(out: &mut Vec<u8>, count: u64, size: u64) -> Result<(), AllocError>
-    requires { size < 2 ^ 62 }
+    requires { size < 2 ^ 63 }
     ensures { OnOk result (out.new.items ≡ out.old.items ++ code_head count size) }
 {
     if count == 0 {

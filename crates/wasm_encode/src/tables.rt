@@ -4,10 +4,10 @@ ghost use Rattle.std.specs.Prelude.{◌≡◌, ◌++◌, ◌<◌, ◌^◌, OnOk,
 ghost use Rattle.module_ast.specs.Fits.{FitsRange};
 ghost use Rattle.module_ast.specs.Canonical.{table_bytes, vec_bytes, vec_section};
 
-use crate::numbers::{put_size, unsigned_length};
+use crate::numbers::{put_size, put_sized, unsigned_length};
 use crate::types::{put_table, table_length};
 use module_ast::module::Range;
-use std::alloc::AllocError;
+use std::alloc::{AllocError, Global};
 
 // How many bytes the tables have, with their number in front.
 fn tables_length(tables: &[Range]) -> u64
@@ -36,18 +36,21 @@ pub fn table_section_length(tables: &[Range]) -> u64
 }
 
 /// Adds the section, and nothing where there is no table.
-pub fn put_table_section(out: &mut Vec<u8>, tables: &[Range]) -> Result<(), AllocError>
-    requires { length (vec_section 4 table_bytes tables.now) < 2 ^ 63 }
+pub fn put_table_section(
+    alloc: Global,
+    out: &mut Vec<u8>,
+    tables: &[Range],
+) -> Result<(), AllocError>
     ensures { OnOk result (out.new.items ≡ out.old.items ++ vec_section 4 table_bytes tables.now) }
 {
     if tables.is_empty() {
         return Ok(());
     }
-    out.push(4)?;
-    put_size(out, tables_length(tables))?;
-    put_size(out, tables.len() as u64)?;
+    let mut content = Vec::new(alloc);
+    put_size(&mut content, tables.len() as u64)?;
     for table in tables {
-        put_table(out, table)?;
+        put_table(&mut content, table)?;
     }
-    Ok(())
+    out.push(4)?;
+    put_sized(out, &content)
 }

@@ -1,13 +1,13 @@
 // Vectors (5.1.3) and sections (5.5.2) of entries of any kind.
 
-ghost use Rattle.std.specs.Prelude.{◌≡◌, ◌++◌, ◌<◌, ◌^◌, ℕ, List, OnOk, All, length};
+ghost use Rattle.std.specs.Prelude.{◌≡◌, ◌+◌, ◌++◌, ◌<◌, ◌^◌, ℕ, List, OnOk, All, length};
 ghost use Rattle.leb_binary.specs.Shortest.{unsigned_bytes};
 ghost use Rattle.module_ast.specs.Fits.{FitsIndex};
-ghost use Rattle.module_ast.specs.Canonical.{vec_bytes, vec_section};
+ghost use Rattle.module_ast.specs.Canonical.{items_bytes, vec_bytes, vec_section};
 
-use crate::numbers::{index_length, put_size, unsigned_length};
+use crate::numbers::{index_length, put_size, put_sized, unsigned_length};
 use leb_binary::put_u32;
-use std::alloc::AllocError;
+use std::alloc::{AllocError, Global};
 
 /// What has one canonical spelling. Its length is known before anything is written.
 pub trait Encode {
@@ -54,15 +54,22 @@ pub fn vec_length<T: Encode>(entries: &[T]) -> u64
     total
 }
 
+// Adds each of the entries.
+fn put_items<T: Encode>(out: &mut Vec<u8>, entries: &[T]) -> Result<(), AllocError>
+    ensures { OnOk result (out.new.items ≡ out.old.items ++ items_bytes T.bytes entries.now) }
+{
+    for entry in entries {
+        entry.put(out)?;
+    }
+    Ok(())
+}
+
 /// Adds the number of the entries, and each of them.
 pub fn put_vec<T: Encode>(out: &mut Vec<u8>, entries: &[T]) -> Result<(), AllocError>
     ensures { OnOk result (out.new.items ≡ out.old.items ++ vec_bytes T.bytes entries.now) }
 {
     put_size(out, entries.len() as u64)?;
-    for entry in entries {
-        entry.put(out)?;
-    }
-    Ok(())
+    put_items(out, entries)
 }
 
 /// How many bytes a section of these entries has, with its id and size.
@@ -89,4 +96,42 @@ pub fn put_section<T: Encode>(out: &mut Vec<u8>, id: u8, entries: &[T]) -> Resul
     out.push(id)?;
     put_size(out, vec_length(entries))?;
     put_vec(out, entries)
+}
+
+/// Adds a section of the entries of two runs, one behind the other, and nothing where there are none. They are written
+/// apart first, so that no length is counted before.
+#[tactic(auto, using(crate::proofs::Runs::no_section, crate::proofs::Runs::section_of_runs))]
+pub fn put_runs<T: Encode>(
+    alloc: Global,
+    out: &mut Vec<u8>,
+    id: u8,
+    first: &[T],
+    second: &[T],
+) -> Result<(), AllocError>
+    requires { length first.now + length second.now < 2 ^ 64 }
+    ensures { OnOk result (out.new.items ≡ out.old.items ++ vec_section id T.bytes (first.now ++ second.now)) }
+{
+    let count = first.len() as u64 + second.len() as u64;
+    if count == 0 {
+        return Ok(());
+    }
+    let mut content = Vec::new(alloc);
+    put_size(&mut content, count)?;
+    put_items(&mut content, first)?;
+    put_items(&mut content, second)?;
+    out.push(id)?;
+    put_sized(out, &content)?;
+    Ok(())
+}
+
+/// Adds a section of these entries as `put_runs` does.
+pub fn put_run<T: Encode>(
+    alloc: Global,
+    out: &mut Vec<u8>,
+    id: u8,
+    entries: &[T],
+) -> Result<(), AllocError>
+    ensures { OnOk result (out.new.items ≡ out.old.items ++ vec_section id T.bytes entries.now) }
+{
+    put_runs(alloc, out, id, entries, &[])
 }

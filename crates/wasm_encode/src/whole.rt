@@ -1,21 +1,23 @@
 // Whole modules (5.5.16).
 
-ghost use Rattle.std.specs.Prelude.{◌≡◌, ◌<◌, ◌^◌, IfOk, All, length};
+ghost use Rattle.std.specs.Prelude.{◌≡◌, ◌<◌, ◌^◌, [], IfOk, All, length};
 ghost use Rattle.module_ast.specs.declared.module.Body.{Body};
 ghost use Rattle.module_ast.specs.Fits.{FitsCode, Fits};
 ghost use Rattle.module_ast.specs.Profile.{locals_of};
-ghost use Rattle.module_ast.specs.Canonical.{body_bytes, sized_bytes, vec_bytes, module_bytes};
+ghost use Rattle.module_ast.specs.Canonical.{module_bytes};
+ghost use Rattle.wasm_encode.specs.Outline.{entries_bytes};
 
-use crate::bodies::{code_section_length, put_code_section};
-use crate::sections::{put_start, start_length};
-use crate::tables::{put_table_section, table_section_length};
-use crate::vectors::{put_section, section_length};
+use crate::bodies::{bodies_section_length, put_bodies_section};
+use crate::outline::Outline;
+use crate::sections::start_length;
+use crate::tables::table_section_length;
+use crate::vectors::section_length;
 use module_ast::module::Module;
 use std::alloc::{AllocError, Global};
 
-/// How many canonical bytes the module has, whose bodies have this many with their number in front.
+/// How many canonical bytes the module has, whose bodies have this many with their sizes.
 pub fn module_length(m: &Module, bodies: u64) -> u64
-    requires bodies { bodies ≡ length (vec_bytes (λ b. sized_bytes (body_bytes b)) m.now.bodies) }
+    requires bodies { bodies ≡ length (entries_bytes m.now.bodies) }
     requires code { All (λ (b : Body). FitsCode b.code) m.now.bodies }
     requires locals { All (λ (b : Body). locals_of b.groups < 2 ^ 32) m.now.bodies }
     requires counts { length m.now.funcs ≡ length m.now.bodies }
@@ -32,34 +34,46 @@ pub fn module_length(m: &Module, bodies: u64) -> u64
         + section_length(7, m.exports.as_slice())
         + start_length(m.start)
         + section_length(9, m.elements.as_slice())
-        + code_section_length(m.bodies.as_slice(), bodies)
+        + bodies_section_length(m.bodies.as_slice(), bodies)
         + section_length(11, m.segments.as_slice())
 }
 
+// All of the module but its bodies and custom sections.
+fn outline_of(m: &Module) -> Outline<'_>
+    ensures { result ≡ record m.now { bodies = []; customs = [] } }
+{
+    Outline {
+        types: m.types.as_slice(),
+        more_types: &[],
+        imports: m.imports.as_slice(),
+        more_imports: &[],
+        funcs: m.funcs.as_slice(),
+        tables: m.tables.as_slice(),
+        memories: m.memories.as_slice(),
+        globals: m.globals.as_slice(),
+        exports: m.exports.as_slice(),
+        start: m.start,
+        elements: m.elements.as_slice(),
+        segments: m.segments.as_slice(),
+    }
+}
+
 /// The canonical bytes of the module, with room for `capacity` bytes from the start. Its bodies have so many with their
-/// number in front.
+/// sizes.
 pub fn spell_module(
     alloc: Global,
     m: &Module,
     capacity: u64,
     bodies: u64,
 ) -> Result<Vec<u8>, AllocError>
-    requires bodies { bodies ≡ length (vec_bytes (λ b. sized_bytes (body_bytes b)) m.now.bodies) }
+    requires bodies { bodies ≡ length (entries_bytes m.now.bodies) }
     requires room { length (module_bytes m.now) < 2 ^ 63 }
     ensures { IfOk result (λ bytes. bytes.items ≡ module_bytes m.now) }
 {
     let mut out = Vec::with_capacity(alloc, capacity as usize)?;
-    out.extend_from_slice(&[0x00, 0x61, 0x73, 0x6D, 0x01, 0x00, 0x00, 0x00])?;
-    put_section(&mut out, 1, m.types.as_slice())?;
-    put_section(&mut out, 2, m.imports.as_slice())?;
-    put_section(&mut out, 3, m.funcs.as_slice())?;
-    put_table_section(&mut out, m.tables.as_slice())?;
-    put_section(&mut out, 5, m.memories.as_slice())?;
-    put_section(&mut out, 6, m.globals.as_slice())?;
-    put_section(&mut out, 7, m.exports.as_slice())?;
-    put_start(&mut out, m.start)?;
-    put_section(&mut out, 9, m.elements.as_slice())?;
-    put_code_section(alloc, &mut out, m.bodies.as_slice(), bodies)?;
-    put_section(&mut out, 11, m.segments.as_slice())?;
+    let outline = outline_of(m);
+    outline.put_front(alloc, &mut out)?;
+    put_bodies_section(alloc, &mut out, m.bodies.as_slice(), bodies)?;
+    outline.put_back(&mut out)?;
     Ok(out)
 }

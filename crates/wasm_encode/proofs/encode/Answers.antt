@@ -6,8 +6,8 @@ use Rattle.module_ast.proofs.WrittenModules.{module_spelled}
 use Rattle.wasm_encode.proofs.Rooms.{bodies_room}
 use Rattle.wasm_encode.proofs.encode.Goals as goal
 
-pub bodies_length-bodies-requires : goal.bodies_length-bodies-requires
-bodies_length-bodies-requires c = rw c.as_slice.ensures (bodies_room c.args.m.now c.requires.room)
+pub entries_length-bodies-requires : goal.entries_length-bodies-requires
+entries_length-bodies-requires c = rw c.as_slice.ensures (bodies_room c.args.m.now c.requires.room)
 
 pub returns-clause-grammar : goal.returns-clause-grammar
 returns-clause-grammar c =

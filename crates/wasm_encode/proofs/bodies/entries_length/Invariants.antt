@@ -1,13 +1,13 @@
 use Rattle.std.proofs.Common.{◌≡◌, ◌+◌, length, drop, All}
 use Rattle.module_ast.specs.declared.module.Body.{Body}
 use Rattle.module_ast.specs.Fits.{FitsCode}
-use Rattle.module_ast.specs.Canonical.{items_bytes, sized_bytes, body_bytes}
-use Rattle.wasm_encode.proofs.bodies.bodies_length.Given as goal
+use Rattle.wasm_encode.specs.Outline.{entries_bytes}
+use Rattle.wasm_encode.proofs.bodies.entries_length.Given as goal
 
 abbrev pub invariant-loop-body : goal.invariant-loop-body
 invariant-loop-body l = record {
   whole :
-      l.total + length (items_bytes (λ b. sized_bytes (body_bytes b)) (drop l.body-index l.bodies))
-      ≡ l.initial.total + length (items_bytes (λ b. sized_bytes (body_bytes b)) l.bodies);
+      l.total + length (entries_bytes (drop l.body-index l.bodies))
+      ≡ l.initial.total + length (entries_bytes l.bodies);
   fit : All (λ (b : Body). FitsCode b.code) (drop l.body-index l.bodies) → All (λ (b : Body). FitsCode b.code) l.bodies;
 }
