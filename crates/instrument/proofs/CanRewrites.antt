@@ -21,6 +21,7 @@ use Rattle.module_ast.proofs.Each.{all_at}
 use Rattle.module_ast.proofs.Indexed.{each_in}
 use Rattle.module_ast.proofs.Sizes.{within_all}
 use Rattle.hook_select.specs.declared.Hooks.{Hooks}
+use Rattle.hook_mono.specs.declared.HookKey.{HookKey}
 use Rattle.hook_mono.specs.Needed.{Site, import_count, site_of, sites, needed_keys}
 use Rattle.index_remap.specs.declared.Remap.{Remap}
 use Rattle.index_remap.specs.Remap.{MapsIndex, MapsPlain, Maps, MapsReference, MapsModule}
@@ -69,9 +70,9 @@ module _ (m : Module) (hooks : Hooks) (limits : IsWithin narrow m) where
   pub hooks_few : length (needed_keys m hooks) + import_count m < 2 ^ 32
   hooks_few = omega (arith, funcs_few, length-append (imported_funcs m.imports) m.funcs)
 
-module _ (m : Module) (hooks : Hooks) (valid : IsValid m) (limits : IsWithin narrow m) where
-  -- ---- functions that are named outside bodies
+-- ---- functions that are named outside bodies
 
+module _ (m : Module) (hooks : Hooks) (valid : IsValid m) (limits : IsWithin narrow m) where
   maps_index : (f : ℕ) → f < length (funcs_of m) → MapsIndex (hook_remap m (needed_keys m hooks)) f
   maps_index f h = λ k. omega (arith, funcs_few m hooks limits)
 
@@ -96,29 +97,33 @@ module _ (m : Module) (hooks : Hooks) (valid : IsValid m) (limits : IsWithin nar
             m.elements (valid.rules element_funcs);
       }
 
-  -- ---- bodies
+-- ---- bodies
 
+-- with any hooks, where they and the module's functions are few
+module _ (m : Module) (hooks : Hooks) (valid : IsValid m) (limits : IsWithin narrow m) (keys : List HookKey) (few : length keys + length (funcs_of m) < 2 ^ 32) where
   -- a defined function
   site_numbers : (defined func ty : ℕ) (b : Body) → slice_get m.funcs defined ≡ Some ty → slice_get m.bodies defined ≡ Some b
-      → HasNumbers (setting_of hooks (needed_keys m hooks) (import_count m) (site_of m func ty b))
+      → HasNumbers (setting_of hooks keys (import_count m) (site_of m func ty b))
   site_numbers defined func ty b typed there =
-      let keys = needed_keys m hooks in
       let (t, is) = get_within m.types ty (all_at (λ (ty : ℕ). ty < length m.types) m.funcs defined ty (recursion_from_All (λ (ty : ℕ). ty < length m.types) m.funcs (valid.rules function_types)) typed) in
       let own = func_type_or (slice_get m.types ty) in
-      let few = types_few m hooks valid limits in
-      let params = each_in HasFew (named_types m) own (named m ty) few in
+      let short = types_few m hooks valid limits in
+      let params = each_in HasFew (named_types m) own (named m ty) short in
       let locals = all_at (λ (b : Body). locals_of b.groups ≤ 50000) m.bodies defined b (within_all (λ (b : Body). locals_of b.groups) 50000 m.bodies (limits Locals)) there in
       record {
-        hooks = omega (arith, hooks_few m hooks limits);
+        hooks = omega (arith, few, length-append (imported_funcs m.imports) m.funcs);
         calls =
-            code_maps (hook_remap m keys) (body_context m t b) (omega (arith, funcs_few m hooks limits)) (t.results ∷ []) b.code [] (push t.results [])
+            code_maps (hook_remap m keys) (body_context m t b) (omega (arith, few)) (t.results ∷ []) b.code [] (push t.results [])
             (valid.bodies defined ty t b typed is there);
-        locals = omega (arith, params.0, locals, pool_few m few hooks func ty b, declared_count b.groups, length-append own.params (declared_locals b.groups));
+        locals = omega (arith, params.0, locals, pool_few m short hooks func ty b, declared_count b.groups, length-append own.params (declared_locals b.groups));
       }
 
   -- what the rewriting of a body asks
-  pub can_rewrite : (defined : ℕ) → CanRewrite m defined hooks (needed_keys m hooks) (import_count m)
-  can_rewrite defined s at =
+  pub can_rewrite_with : (defined : ℕ) → CanRewrite m defined hooks keys (import_count m)
+  can_rewrite_with defined s at =
       let r = site_is m defined s at in
-      subst (λ (s : Site). HasNumbers (setting_of hooks (needed_keys m hooks) (import_count m) s)) (sym r.is)
-      (site_numbers defined r.func r.ty r.body r.type_is r.body_is)
+      subst (λ (s : Site). HasNumbers (setting_of hooks keys (import_count m) s)) (sym r.is) (site_numbers defined r.func r.ty r.body r.type_is r.body_is)
+
+-- with all hooks that the module needs
+pub can_rewrite : (m : Module) (hooks : Hooks) → IsValid m → IsWithin narrow m → (defined : ℕ) → CanRewrite m defined hooks (needed_keys m hooks) (import_count m)
+can_rewrite m hooks valid limits = can_rewrite_with m hooks valid limits (needed_keys m hooks) (omega (arith, funcs_few m hooks limits))
