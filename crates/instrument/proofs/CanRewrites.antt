@@ -1,5 +1,5 @@
 -- Valid modules within the narrow limits have what the rewriting of bodies and the remapping ask.
-use Rattle.std.proofs.Common.{◌≡◌, ℕ, ◌+◌, ◌^◌, ◌<◌, ◌≤◌, List, [], ◌∷◌, ◌++◌, length, Option, Some, All, IfSome, sym, subst, arith, slice_get, length-append}
+use Rattle.std.proofs.Common.{◌≡◌, ℕ, ◌+◌, ◌^◌, ◌<◌, ◌≤◌, List, [], ◌∷◌, ◌++◌, length, Option, Some, None, All, IfSome, sym, ap, ◌∙◌, subst, arith, slice_get, length-append, option_map}
 use Rattle.std.proofs.lemmas.List.Elements.{All-weaker, recursion_from_All}
 use Rattle.std.proofs.lemmas.Option.{slice_get_within}
 use Rattle.wasm_num.specs.declared.ValType.{ValType}
@@ -8,8 +8,10 @@ use Rattle.module_ast.specs.declared.module.ExportKind.TheVariants.{Func, Table,
 use Rattle.module_ast.specs.declared.module.Export.{Export}
 use Rattle.module_ast.specs.declared.module.Element.{Element}
 use Rattle.module_ast.specs.declared.module.Body.{Body}
+use Rattle.module_ast.specs.declared.module.Import.{Import}
 use Rattle.module_ast.specs.declared.module.Module.{Module}
 use Rattle.module_ast.specs.declared.module.Which.TheVariants.{Functions, Types, Locals}
+use Rattle.module_ast.specs.Canonical.{body_bytes}
 use Rattle.module_ast.specs.Limits.{narrow}
 use Rattle.module_ast.specs.Marks.{func_type_or}
 use Rattle.module_ast.specs.Profile.{locals_of, IsWithin}
@@ -25,9 +27,10 @@ use Rattle.hook_mono.specs.declared.HookKey.{HookKey}
 use Rattle.hook_mono.specs.Needed.{Site, import_count, site_of, sites, needed_keys}
 use Rattle.index_remap.specs.declared.Remap.{Remap}
 use Rattle.index_remap.specs.Remap.{MapsIndex, MapsPlain, Maps, MapsReference, MapsModule}
+use Rattle.wasm_sem.proofs.Straight.{none_some, some_is}
 use Rattle.wasm_sem.proofs.Variables.{get_within}
 use Rattle.rewrite.specs.Conditions.{HasNumbers, CanRewrite}
-use Rattle.rewrite.specs.Rewrite.{setting_of}
+use Rattle.rewrite.specs.Rewrite.{setting_of, rewritten_body, size_of}
 use Rattle.rewrite.proofs.TypedPlains.{labelled}
 use Rattle.instrument.specs.Output.{hook_remap}
 use Rattle.instrument.proofs.OutputBodies.{site_is}
@@ -127,3 +130,17 @@ module _ (m : Module) (hooks : Hooks) (valid : IsValid m) (limits : IsWithin nar
 -- with all hooks that the module needs
 pub can_rewrite : (m : Module) (hooks : Hooks) → IsValid m → IsWithin narrow m → (defined : ℕ) → CanRewrite m defined hooks (needed_keys m hooks) (import_count m)
 can_rewrite m hooks valid limits = can_rewrite_with m hooks valid limits (needed_keys m hooks) (omega (arith, funcs_few m hooks limits))
+
+-- of a module that imports nothing
+pub can_rewrite_alone : (m : Module) (hooks : Hooks) (keys : List HookKey) (defined : ℕ) → IsValid m → IsWithin narrow m → m.imports ≡ [] → length keys ≤ 1000 → CanRewrite m defined hooks keys 0
+can_rewrite_alone m hooks keys defined valid limits none few =
+    let count : import_count m ≡ 0 = ap (λ (is : List Import). length (imported_funcs is)) none in
+    subst (λ n. CanRewrite m defined hooks keys n) count (can_rewrite_with m hooks valid limits keys (omega (arith, few, (limits Functions).0)) defined)
+
+-- ---- sizes
+
+-- the size that was counted is that of the body that was made
+pub size_is : (o : Option Site) (hooks : Hooks) (keys : List HookKey) (imports : ℕ) (made : Body) (n : ℕ) → option_map (λ s. rewritten_body (setting_of hooks keys imports s)) o ≡ Some made
+    → option_map (λ s. size_of (setting_of hooks keys imports s)) o ≡ Some n → n ≡ length (body_bytes made)
+size_is None hooks keys imports made n e f = absurd (none_some e)
+size_is (Some s) hooks keys imports made n e f = sym (some_is f) ∙ ap (λ b. length (body_bytes b)) (some_is e)
