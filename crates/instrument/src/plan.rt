@@ -1,6 +1,6 @@
 // What a module with hooks is made from.
 
-ghost use Rattle.std.specs.Prelude.{◌≡◌, ◌+◌, ◌^◌, ◌<◌, ◌≤◌, length, slice_get, IfOk, OnOk, Some};
+ghost use Rattle.std.specs.Prelude.{◌≡◌, ◌+◌, ◌*◌, ◌^◌, ◌<◌, ◌≤◌, length, slice_get, IfOk, OnOk, Some};
 ghost use Rattle.module_ast.specs.Canonical.{module_bytes};
 ghost use Rattle.module_ast.specs.Limits.{narrow};
 ghost use Rattle.module_ast.specs.Profile.{IsWithin};

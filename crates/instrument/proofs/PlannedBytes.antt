@@ -1,0 +1,52 @@
+-- The bytes of a module with hooks, part by part.
+use Rattle.std.proofs.Common.{◌≡◌, ℕ, ◌+◌, ◌≤◌, List, ◌++◌, length, map, refl, sym, ap, ◌∙◌, subst, arith, length-append, append_assoc}
+use Rattle.std.proofs.lemmas.List.{length-map}
+use Rattle.module_ast.specs.declared.module.Module.{Module}
+use Rattle.module_ast.specs.Canonical.{module_bytes}
+use Rattle.wasm_encode.specs.Outline.{front_bytes, back_bytes, entries_bytes, code_head}
+use Rattle.wasm_encode.proofs.Outlines.{in_three}
+use Rattle.instrument.specs.Output.{output, output_bytes}
+use Rattle.instrument.specs.Plan.{Plan, new_bodies, new_outline, body_length}
+
+-- what stands behind the code is no more than its module
+pub back_within : (m : Module) → length (back_bytes m) ≤ length (module_bytes m)
+back_within m =
+    let head = code_head (length m.bodies) (length (entries_bytes m.bodies)) in
+    let code = head ++ entries_bytes m.bodies in
+    omega (arith, ap length (in_three m), length-append (front_bytes m ++ code) (back_bytes m))
+
+module _ (p : Plan) (o : Module) (each : List ℕ) (together : ℕ) (is : o ≡ new_outline p) (sizes : each ≡ map body_length (new_bodies p)) (sum : together ≡ length (entries_bytes (new_bodies p))) where
+  -- the parts, one after another
+  head_is : code_head (length each) together ≡ code_head (length (new_bodies p)) (length (entries_bytes (new_bodies p)))
+  head_is = ap (λ n. code_head n together) (ap length sizes ∙ length-map (new_bodies p) body_length) ∙ ap (code_head (length (new_bodies p))) sum
+
+  -- they are the bytes
+  pub planned_bytes : ((front_bytes o ++ code_head (length each) together) ++ entries_bytes (new_bodies p)) ++ back_bytes o ≡ output_bytes p.module p.hooks
+  planned_bytes =
+      let new = output p.module p.hooks in
+      let entries = entries_bytes (new_bodies p) in
+      let head = code_head (length (new_bodies p)) (length entries) in
+      ap (λ (q : Module). ((front_bytes q ++ code_head (length each) together) ++ entries) ++ back_bytes q) is
+      ∙ ap (λ h. ((front_bytes new ++ h) ++ entries) ++ back_bytes new) head_is
+      ∙ ap (λ l. l ++ back_bytes new) (append_assoc (front_bytes new) head entries)
+      ∙ sym (in_three new)
+
+  -- and so many
+  pub planned_length : length (front_bytes o) + (length (code_head (length each) together) + together + length (back_bytes o)) ≡ length (output_bytes p.module p.hooks)
+  planned_length =
+      let head = code_head (length each) together in
+      let entries = entries_bytes (new_bodies p) in
+      omega (
+        arith,
+        ap length planned_bytes,
+        length-append ((front_bytes o ++ head) ++ entries) (back_bytes o),
+        length-append (front_bytes o ++ head) entries,
+        length-append (front_bytes o) head,
+        sum,
+      )
+
+  -- what stands behind the code is as it was
+  pub planned_back : length (back_bytes o) ≤ length (module_bytes p.module)
+  planned_back =
+      let same : back_bytes o ≡ back_bytes p.module = ap back_bytes is in
+      omega (arith, ap length same, back_within p.module)
