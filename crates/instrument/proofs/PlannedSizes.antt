@@ -10,6 +10,8 @@ use Rattle.module_ast.proofs.Writers.{unsigned_some}
 use Rattle.wasm_encode.specs.Outline.{entry_bytes, entries_bytes}
 use Rattle.instrument.specs.Made.{narrow_file}
 use Rattle.instrument.specs.Plan.{Plan, IsPlanned, new_bodies, body_length}
+use Rattle.wasm_sem.proofs.Variables.{get_within}
+use Rattle.instrument.proofs.PlannedBodies.{new_bodies_few}
 use Rattle.instrument.proofs.PlannedNeeds.{taken_next}
 
 -- ---- entries, one more
@@ -71,3 +73,18 @@ module _ (p : Plan) (i n field : ℕ) (each : List ℕ) (together : ℕ) (new ol
 -- so they are few
 pub sizes_few : (p : Plan) (i : ℕ) (each : List ℕ) (together : ℕ) → length (module_bytes p.module) ≤ narrow_file → AreSizes p i each together → together ≤ 2 ^ 61
 sizes_few p i each together short s = omega (arith, s.bound, entries_taken p.module.bodies i, bodies_count p.module, short)
+
+-- with the next body, by what is said of its size
+pub sizes_more : (p : Plan) (i n field : ℕ) (each : List ℕ) (together : ℕ) → AreSizes p i each together → i < length (new_bodies p)
+    → ((b : Body) → slice_get (new_bodies p) i ≡ Some b → n ≡ body_length b) → ((b : Body) → slice_get p.module.bodies i ≡ Some b → n ≤ 2 ^ 36 * body_length b)
+    → field ≡ length (unsigned_bytes n) → field ≤ 10 → AreSizes p (i + 1) (each ++ n ∷ []) (together + (field + n))
+sizes_more p i n field each together so_far within size bound counted short =
+    let (new, new_at) = get_within (new_bodies p) i within in
+    let (old, old_at) = get_within p.module.bodies i (omega (arith, within, new_bodies_few p)) in
+    sizes_next p i n field each together new old so_far new_at old_at (size new new_at) (bound old old_at) counted short
+
+-- of all bodies
+pub sizes_all : (p : Plan) (i : ℕ) (each : List ℕ) (together : ℕ) → AreSizes p i each together → length (new_bodies p) ≤ i → (each ≡ map body_length (new_bodies p)) × (together ≡ length (entries_bytes (new_bodies p)))
+sizes_all p i each together s behind =
+    let all = take_all i (new_bodies p) behind in
+    (s.lengths ∙ ap (map body_length) all, s.sum ∙ ap (λ bs. length (entries_bytes bs)) all)

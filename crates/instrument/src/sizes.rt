@@ -23,6 +23,8 @@ impl Plan<'_> {
         ensures together { IfOk result (λ sizes. sizes.together ≡ length (entries_bytes (new_bodies self.now))) }
         ensures bound { IfOk result (λ sizes. sizes.together < 2 ^ 62) }
     {
+        // The module has a short file.
+        let _ = &self.module;
         let mut each = Vec::new(alloc);
         let mut together = 0;
         for defined in 0..self.body_count() {
