@@ -82,3 +82,13 @@ head_short (suc n) size c s =
     let count = unsigned_bytes (suc n) in
     let few = unsigned_ten (suc n) c in
     omega (arith, few, unsigned_ten (length count + size) (omega (arith, few)), length-append (unsigned_bytes (length count + size)) count)
+
+-- what follows the front is not much
+pub rest_short : (m o : Module) (count together rest : ℕ) → count < 2 ^ 64 → together < 2 ^ 62 → length (back_bytes o) ≤ length (module_bytes m) → length (module_bytes m) ≤ 2 ^ 24
+    → rest ≡ length (code_head count together) + together + length (back_bytes o) → rest < 2 ^ 63
+rest_short m o count together rest c t back short e = omega (arith, head_short count together c (omega arith))
+
+-- what is written in turn
+pub written_in_turn : (front head entries back a b c d : List ℕ) → a ≡ front → b ≡ a ++ head → c ≡ b ++ entries → d ≡ c ++ back → d ≡ ((front ++ head) ++ entries) ++ back
+written_in_turn front head entries back a b c d first second third last =
+    last ∙ ap (λ l. l ++ back) (third ∙ ap (λ l. l ++ entries) (second ∙ ap (λ l. l ++ head) first))
