@@ -24,6 +24,11 @@ pub entries_next : (bs : List Body) (i : ℕ) (b : Body) → slice_get bs i ≡ 
 entries_next bs i b e =
     ap entries_bytes (taken_next bs i b e) ∙ entries_joined (take i bs) (b ∷ []) ∙ ap (λ l. entries_bytes (take i bs) ++ l) (append-nil (entry_bytes b))
 
+-- written behind those before it
+pub entry_put : (bs : List Body) (i : ℕ) (b : Body) (start before out : List ℕ) → slice_get bs i ≡ Some b → before ≡ start ++ entries_bytes (take i bs) → out ≡ before ++ entry_bytes b → out ≡ start ++ entries_bytes (take (i + 1) bs)
+entry_put bs i b start before out e so_far put =
+    put ∙ ap (λ l. l ++ entry_bytes b) so_far ∙ append_assoc start (entries_bytes (take i bs)) (entry_bytes b) ∙ ap (λ l. start ++ l) (sym (entries_next bs i b e))
+
 pub lengths_next : (bs : List Body) (i : ℕ) (b : Body) (n : ℕ) → slice_get bs i ≡ Some b → n ≡ body_length b → map body_length (take (i + 1) bs) ≡ map body_length (take i bs) ++ n ∷ []
 lengths_next bs i b n e same =
     ap (map body_length) (taken_next bs i b e) ∙ map_push body_length (take i bs) b ∙ ap (λ k. map body_length (take i bs) ++ k ∷ []) (sym same)
