@@ -45,11 +45,7 @@ impl<'m> Model for Plan<'m> {
 
 impl<'m> Plan<'m> {
     /// Of this module with the hooks of these groups. It goes over all bodies. An `Err` comes where there is no memory.
-    pub(crate) fn new(
-        alloc: Global,
-        m: &'m ValidModule,
-        hooks: Hooks,
-    ) -> Result<Plan<'m>, NoMemory>
+    pub(crate) fn new(alloc: Global, m: &'m ValidModule, hooks: Hooks) -> Result<Plan<'m>, NoMemory>
         requires limits { IsWithin narrow m.now }
         requires short { length (module_bytes m.now) ≤ narrow_file }
         ensures { IfOk result (λ plan. plan ≡ record { «module» = m.now; hooks = hooks }) }
