@@ -85,7 +85,11 @@ impl Remap {
 
     /// Copies of these element segments, which list functions of the output. An `Err` comes where there is no memory.
     /// (Standard, 2.5.7)
-    pub fn map_elements(&self, alloc: Global, elements: &[Element]) -> Result<Seq<Element>, AllocError>
+    pub fn map_elements(
+        &self,
+        alloc: Global,
+        elements: &[Element],
+    ) -> Result<Seq<Element>, AllocError>
         requires { All (λ (e : Element). All (MapsIndex self.now) e.funcs) elements.now }
         ensures { IfOk result (λ copies. copies ≡ map (map_element self.now) elements.now) }
     {

@@ -2,7 +2,7 @@ pub mod Output
 pub mod Shell
 pub mod Same
 pub mod Made
-pub mod Nops
-pub mod Parts
 pub mod Accepted
 pub mod Laws
+pub mod Plan
+pub mod Parts

@@ -1,9 +1,13 @@
 // Modules with hooks.
 #![tactic(auto)]
 
+mod free;
+mod hook_types;
 pub mod laws;
 mod made;
-pub mod nops;
-mod output;
+mod parts;
+mod plan;
+mod sizes;
+mod written;
 
 pub use crate::made::{InstrumentFault, Made, instrument};

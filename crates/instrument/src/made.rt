@@ -1,6 +1,6 @@
 // The module with hooks.
 
-ghost use Rattle.std.specs.Prelude.{◌≡◌, ◌<◌, ◌≤◌, ◌↔◌, ℕ, List, length, IfOk, IsErrOf, IsTrue, OnOk};
+ghost use Rattle.std.specs.Prelude.{◌≡◌, ◌<◌, ◌≤◌, ℕ, List, length, IfOk, IsErrOf, OnOk};
 ghost use Rattle.module_ast.specs.Canonical.{module_bytes};
 ghost use Rattle.module_ast.specs.Decoding.{Gram};
 ghost use Rattle.module_ast.specs.Limits.{narrow};
@@ -12,10 +12,13 @@ ghost use Rattle.instrument.specs.Made.{narrow_file, longest_output};
 ghost use Rattle.instrument.specs.Accepted.{IsInstrumented};
 ghost use Rattle.instrument.specs.declared.made.InstrumentFault.TheVariants.{HookModuleTaken, TooLarge, NoMemory};
 
+use crate::free::is_free;
+use crate::plan::Plan;
 use hook_select::Hooks;
 use rewrite::Rewriter;
 use std::alloc::{AllocError, Global};
 use std::thread::Threads;
+use wasm_encode::EncodeFault;
 use wasm_valid::ValidModule;
 
 /// A module with hooks: its canonical bytes, and how many hooks it imports.
@@ -53,12 +56,12 @@ impl From<AllocError> for InstrumentFault {
 /// number of jobs. Each rewritten body is spelled and dropped before the next one is made.
 pub fn instrument<R: Threads + Sync, W: Rewriter>(
     _rt: &R,
-    _alloc: Global,
+    alloc: Global,
     m: &ValidModule,
     hooks: Hooks,
     _jobs: u32,
     max: u64,
-    _rewriter: &W,
+    rewriter: &W,
 ) -> Result<Made, InstrumentFault>
     requires limits { IsWithin narrow m.now }
     requires short { length (module_bytes m.now) ≤ narrow_file }
@@ -74,24 +77,16 @@ pub fn instrument<R: Threads + Sync, W: Rewriter>(
     ensures large { (n : ℕ) → IsErrOf result (TooLarge n) → IsFree m.now × (n ≡ length (output_bytes m.now hooks)) × (max < n) }
     ensures memory { IsErrOf result NoMemory → IsFree m.now }
 {
-    // STAND-IN: to be built.
-    if is_taken(m) {
+    if !is_free(m.module()) {
         return Err(InstrumentFault::HookModuleTaken);
     }
-    Err(InstrumentFault::NoMemory)
-}
-
-// Whether an import names the module that hooks are imported from.
-fn is_taken(m: &ValidModule) -> bool
-    ensures { IsTrue result ↔ ¬ IsFree m.now }
-{
-    for import in m.module().imports.as_slice() {
-        if import.module.as_str() == HOOK_MODULE {
-            return true;
-        }
+    let plan = Plan::new(alloc, m, hooks)?;
+    match plan.write(alloc, rewriter, max) {
+        Ok(bytes) => Ok(Made {
+            bytes,
+            hooks: plan.hook_count(),
+        }),
+        Err(EncodeFault::TooLarge { length }) => Err(InstrumentFault::TooLarge { length }),
+        Err(EncodeFault::NoMemory) => Err(InstrumentFault::NoMemory),
     }
-    false
 }
-
-// The module that hooks are imported from.
-const HOOK_MODULE: &str = "__wasabi_hooks";

@@ -2,7 +2,9 @@
 use Rattle.std.proofs.Common.{◌≡◌, ℕ, ◌+◌, ◌*◌, ◌<◌, ◌≤◌, ◌^◌, List, [], ◌∷◌, ◌++◌, length, refl, length-append, arith}
 use Rattle.std.specs.Prelude.{flat_map}
 use Rattle.std.specs.List.{AllByRecursion}
-use Rattle.module_ast.specs.Canonical.{expr_bytes, vec_bytes, group_bytes}
+use Rattle.module_ast.specs.Canonical.{items_bytes, code_bytes, expr_bytes, vec_bytes, group_bytes, body_bytes}
+use Rattle.module_ast.proofs.Sizes.{code_counts}
+use Rattle.module_ast.proofs.Writers.{counted_some}
 use Rattle.module_ast.specs.Lists.{first_or}
 use Rattle.module_ast.specs.Positions.{Scope, Place, places}
 use Rattle.branch_resolve.specs.declared.Block.{Block}
@@ -33,11 +35,15 @@ pub record IsCounting (w : Setting) (total : ℕ) (sums : List ℕ) (left : List
   pub below : AreBelow (64 * length left) sums
   pub few : 64 * length left ≤ ends_most
   pub bounded : total + place_most * length left + opcodes_most left < 2 ^ 64
+  pub grown : total + place_most * length left + opcodes_most left ≤ (place_most + 40) * length (body_bytes w.site.body)
 
 -- at the entry
-pub counting_first : (w : Setting) (n : ℕ) → IsCountable w → n ≡ length (vec_bytes group_bytes (w.site.body.groups ++ pool_groups w.pool)) → n ≤ 268435500 → IsCounting w n [] (places w.site.body.code)
+pub counting_first : (w : Setting) (n : ℕ) → IsCountable w → n ≡ length (vec_bytes group_bytes (w.site.body.groups ++ pool_groups w.pool)) → n ≤ length (body_bytes w.site.body) + 32 → IsCounting w n [] (places w.site.body.code)
 counting_first w n can groups bound =
     let code = w.site.body.code in
+    let parts = length-append (vec_bytes group_bytes w.site.body.groups) (expr_bytes code) in
+    let count = counted_some (length w.site.body.groups) (items_bytes group_bytes w.site.body.groups) in
+    let last = length-append (code_bytes code) (0x0B ∷ []) in
     record {
       around = [];
       ends = refl;
@@ -47,7 +53,8 @@ counting_first w n can groups bound =
       whole = omega (arith, groups, size_by_places w);
       below = tt;
       few = omega (arith, body_count code, can.few);
-      bounded = omega (arith, bound, body_count code, body_most code, can.few, can.bytes, length-append (vec_bytes group_bytes w.site.body.groups) (expr_bytes code));
+      bounded = omega (arith, bound, body_count code, body_most code, can.few, can.bytes, parts);
+      grown = omega (arith, bound, body_count code, body_most code, code_counts code, parts, count, last);
     }
 
 module _ (w : Setting) (total : ℕ) (sums : List ℕ) (x : Place) (left : List Place) (counting : IsCounting w total sums (x ∷ left)) where
@@ -76,8 +83,12 @@ module _ (w : Setting) (total : ℕ) (sums : List ℕ) (x : Place) (left : List 
     below = below;
     few = omega (arith, counting.few);
     bounded = omega (arith, counting.bounded, bound);
+    grown = omega (arith, counting.grown, bound);
   }
 
 -- at the end
 pub counting_last : (w : Setting) (total : ℕ) (sums : List ℕ) → IsCounting w total sums [] → total ≡ size_of w
 counting_last w total sums counting = omega (arith, counting.whole)
+
+pub grown_last : (w : Setting) (total : ℕ) (sums : List ℕ) → IsCounting w total sums [] → total ≤ 2 ^ 36 * length (body_bytes w.site.body)
+grown_last w total sums counting = omega (arith, counting.grown)

@@ -24,7 +24,7 @@ ghost use Rattle.rewrite.specs.Temporaries.{plain_temps, wanted_temps, open_temp
 ghost use Rattle.rewrite.specs.Templates.{template, tell_begin, tell_before, tell_results};
 ghost use Rattle.rewrite.specs.Room.{instr_temps};
 ghost use Rattle.rewrite.specs.Emitted.{block_end_code, target_word, HasRoom};
-ghost use Rattle.hook_mono.specs.Needed.{sites};
+ghost use Rattle.hook_mono.specs.Needed.{Site, sites};
 ghost use Rattle.rewrite.specs.Conditions.{CanRewrite};
 ghost use Rattle.rewrite.specs.Rewrite.{entry_code, br_if_before, size_of, setting_of};
 ghost use Rattle.rewrite.specs.Sizes.{plains_length, end_sums, before_opening, live_length, dead_length, place_length, opcode_most, FitsPlace, IsNear, IsNarrow};
@@ -555,7 +555,7 @@ impl<'m> Setting<'m> {
     fn locals_length(&self, alloc: Global) -> Result<u64, AllocError>
         requires { length (body_bytes self.now.site.body) ≤ 268435456 }
         ensures length { IfOk result (λ n. n ≡ length (vec_bytes group_bytes (self.now.site.body.groups ++ pool_groups self.now.pool))) }
-        ensures bound { IfOk result (λ n. n ≤ 268435500) }
+        ensures bound { IfOk result (λ n. n ≤ length (body_bytes self.now.site.body) + 32) }
     {
         let own = self.site.body().groups.as_slice();
         let mut added = Vec::new(alloc);
@@ -568,7 +568,8 @@ impl<'m> Setting<'m> {
     /// branches leave. An `Err` comes where there is no memory.
     pub fn rewritten_length(&self, alloc: Global) -> Result<u64, AllocError>
         requires { IsCountable self.now }
-        ensures { IfOk result (λ n. n ≡ size_of self.now) }
+        ensures length { IfOk result (λ n. n ≡ size_of self.now) }
+        ensures bound { IfOk result (λ n. n ≤ 2 ^ 36 * length (body_bytes self.now.site.body)) }
     {
         let mut total = self.locals_length(alloc)?;
         let mut walk = Walk::new(alloc, &self.site.body().code)?;
@@ -583,8 +584,8 @@ impl<'m> Setting<'m> {
 }
 
 /// How many bytes the body that `rewrite_body` makes has, under the same conditions: those that stand behind its size in
-/// the code section. It takes time in proportion to the body as it is, however many ends its branches pass. An `Err` comes
-/// where there is no memory. (Standard, 5.5.13)
+/// the code section, and at most 2^36 for each of the original's. It takes time in proportion to the body as it is,
+/// however many ends its branches pass. An `Err` comes where there is no memory. (Standard, 5.5.13)
 pub fn size_of(
     alloc: Global,
     body: TypedBody<'_>,
@@ -594,7 +595,8 @@ pub fn size_of(
 ) -> Result<u64, NoMemory>
     requires added { remap.added ≡ length table.now }
     requires numbers { CanRewrite body.module body.defined hooks table.now remap.imports }
-    ensures { IfOk result (λ n. option_map (λ s. size_of (setting_of hooks table.now remap.imports s)) (slice_get (sites body.entry.module) body.entry.defined) ≡ Some n) }
+    ensures length { IfOk result (λ n. option_map (λ s. size_of (setting_of hooks table.now remap.imports s)) (slice_get (sites body.entry.module) body.entry.defined) ≡ Some n) }
+    ensures bound { IfOk result (λ n. (s : Site) → slice_get (sites body.entry.module) body.entry.defined ≡ Some s → n ≤ 2 ^ 36 * length (body_bytes s.body)) }
 {
     // Its module is whole, so that it came from a file.
     let _ = body.marks();

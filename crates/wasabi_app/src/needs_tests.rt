@@ -13,7 +13,7 @@ use wasm_decode::decode;
 use wasm_valid::validate;
 
 // i32.const 3, local.set 0, loop, local.get 0, i32.const 1, i32.sub, local.tee 0, br_if 0, end, end
-const LOOP: [u8; 49] = [
+pub(crate) const LOOP: [u8; 49] = [
     0x00, 0x61, 0x73, 0x6D, 0x01, 0x00, 0x00, 0x00, // header
     0x01, 0x04, 0x01, 0x60, 0x00, 0x00, // types
     0x03, 0x02, 0x01, 0x00, // functions
@@ -23,7 +23,7 @@ const LOOP: [u8; 49] = [
 ];
 
 // block, block, block, local.get 0, br_table 0 1 2, end, end, end, end
-const TABLE: [u8; 48] = [
+pub(crate) const TABLE: [u8; 48] = [
     0x00, 0x61, 0x73, 0x6D, 0x01, 0x00, 0x00, 0x00, // header
     0x01, 0x05, 0x01, 0x60, 0x01, 0x7F, 0x00, // types
     0x03, 0x02, 0x01, 0x00, // functions

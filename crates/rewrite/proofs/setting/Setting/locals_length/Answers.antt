@@ -34,7 +34,6 @@ returns-clause-bound c =
       ap length second,
       pool_few c.self.inside.pool,
       ap (λ (gs : List Group). length (items_bytes group_bytes gs)) first,
-      c.requires,
       length-append (vec_bytes group_bytes body.groups) (expr_bytes body.code),
       length-append (unsigned_bytes (length body.groups)) (items_bytes group_bytes body.groups),
     )

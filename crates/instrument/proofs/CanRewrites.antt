@@ -1,0 +1,146 @@
+-- Valid modules within the narrow limits have what the rewriting of bodies and the remapping ask.
+use Rattle.std.proofs.Common.{◌≡◌, ℕ, ◌+◌, ◌^◌, ◌<◌, ◌≤◌, List, [], ◌∷◌, ◌++◌, length, Option, Some, None, All, IfSome, sym, ap, ◌∙◌, subst, arith, slice_get, length-append, option_map}
+use Rattle.std.proofs.lemmas.List.Elements.{All-weaker, recursion_from_All}
+use Rattle.std.proofs.lemmas.Option.{slice_get_within}
+use Rattle.wasm_num.specs.declared.ValType.{ValType}
+use Rattle.module_ast.specs.declared.module.ExportKind.{ExportKind}
+use Rattle.module_ast.specs.declared.module.ExportKind.TheVariants.{Func, Table, Memory, Global}
+use Rattle.module_ast.specs.declared.module.Export.{Export}
+use Rattle.module_ast.specs.declared.module.Element.{Element}
+use Rattle.module_ast.specs.declared.module.Body.{Body}
+use Rattle.module_ast.specs.declared.module.Import.{Import}
+use Rattle.module_ast.specs.declared.module.Module.{Module}
+use Rattle.module_ast.specs.declared.module.Which.TheVariants.{Functions, Types, Locals}
+use Rattle.module_ast.specs.Canonical.{body_bytes}
+use Rattle.module_ast.specs.Limits.{narrow}
+use Rattle.module_ast.specs.Marks.{func_type_or}
+use Rattle.module_ast.specs.Profile.{locals_of, IsWithin}
+use Rattle.module_ast.specs.Spaces.{imported_funcs, funcs_of}
+use Rattle.module_ast.specs.Tree.{Tree, done, plain, block, loop, if_then, if_else, Plain, call}
+use Rattle.module_ast.specs.Typing.{Context, block_results, push, TypesPlain, TypesCode}
+use Rattle.module_ast.specs.Validity.{function_types, export_indices, start_index, element_funcs, declared_locals, count_of, body_context, IsValid}
+use Rattle.module_ast.proofs.Each.{all_at}
+use Rattle.module_ast.proofs.Indexed.{each_in}
+use Rattle.module_ast.proofs.Sizes.{within_all}
+use Rattle.hook_select.specs.declared.Hooks.{Hooks}
+use Rattle.hook_mono.specs.declared.HookKey.{HookKey}
+use Rattle.hook_mono.specs.Needed.{Site, import_count, site_of, sites, needed_keys}
+use Rattle.index_remap.specs.declared.Remap.{Remap}
+use Rattle.index_remap.specs.Remap.{MapsIndex, MapsPlain, Maps, MapsReference, MapsModule}
+use Rattle.wasm_sem.proofs.Straight.{none_some, some_is}
+use Rattle.wasm_sem.proofs.Variables.{get_within}
+use Rattle.rewrite.specs.Conditions.{HasNumbers, CanRewrite}
+use Rattle.rewrite.specs.Rewrite.{setting_of, rewritten_body, size_of}
+use Rattle.rewrite.proofs.TypedPlains.{labelled}
+use Rattle.instrument.specs.Output.{hook_remap}
+use Rattle.instrument.proofs.OutputBodies.{site_is}
+use Rattle.instrument.proofs.OutputNeeds.{named_types, named, needed_count}
+use Rattle.instrument.proofs.OutputSpelled.{declared_count}
+use Rattle.instrument.proofs.OutputWithin.{HasFew, types_few, pool_few}
+
+-- ---- calls
+
+-- typed code calls functions that are there
+module _ (r : Remap) (c : Context) (few : length c.funcs + r.added ≤ 2 ^ 32) where
+  plain_maps : (labels : List (List ValType)) (i : Plain) (a b : List ValType) → TypesPlain (labelled c labels) i a b → MapsPlain r i
+  plain_maps labels (call f) a b h = let within = slice_get_within c.funcs f h.0 h.2 in λ k. omega arith
+  plain_maps labels i a b h = tt
+
+  code_maps : (labels : List (List ValType)) (k : Tree) (a b : List ValType) → TypesCode (labelled c labels) k a b → Maps r k
+  code_maps labels done a b h = tt
+  code_maps labels (plain i k) a b (m, t, h) = (plain_maps labels i a m t, code_maps labels k m b h)
+  code_maps labels (block ty body k) a b (h, t) =
+      (code_maps (block_results ty ∷ labels) body [] (push (block_results ty) []) h, code_maps labels k (push (block_results ty) a) b t)
+  code_maps labels (loop ty body k) a b (h, t) = (code_maps ([] ∷ labels) body [] (push (block_results ty) []) h, code_maps labels k (push (block_results ty) a) b t)
+  code_maps labels (if_then ty body k) a b (e, below, f, h, t) = (code_maps ([] ∷ labels) body [] [] h, code_maps labels k below b t)
+  code_maps labels (if_else ty body other k) a b (below, f, h, o, t) = (
+    code_maps (block_results ty ∷ labels) body [] (push (block_results ty) []) h,
+    code_maps (block_results ty ∷ labels) other [] (push (block_results ty) []) o,
+    code_maps labels k (push (block_results ty) below) b t,
+  )
+
+-- ---- how many hooks there are
+
+module _ (m : Module) (hooks : Hooks) (limits : IsWithin narrow m) where
+  pub keys_few : length (needed_keys m hooks) ≤ 400134
+  keys_few = omega (arith, needed_count m hooks, (limits Types).0)
+
+  -- with all functions of the module
+  pub funcs_few : length (needed_keys m hooks) + length (funcs_of m) ≤ 500134
+  funcs_few = omega (arith, keys_few, (limits Functions).0)
+
+  -- with those that it imports
+  pub hooks_few : length (needed_keys m hooks) + import_count m < 2 ^ 32
+  hooks_few = omega (arith, funcs_few, length-append (imported_funcs m.imports) m.funcs)
+
+-- ---- functions that are named outside bodies
+
+module _ (m : Module) (hooks : Hooks) (valid : IsValid m) (limits : IsWithin narrow m) where
+  maps_index : (f : ℕ) → f < length (funcs_of m) → MapsIndex (hook_remap m (needed_keys m hooks)) f
+  maps_index f h = λ k. omega (arith, funcs_few m hooks limits)
+
+  maps_reference : (kind : ExportKind) (i : ℕ) → i < count_of m kind → MapsReference (hook_remap m (needed_keys m hooks)) kind i
+  maps_reference Func i h = maps_index i h
+  maps_reference Table i h = tt
+  maps_reference Memory i h = tt
+  maps_reference Global i h = tt
+
+  -- what the remapping of a module asks
+  pub maps_module : MapsModule (hook_remap m (needed_keys m hooks)) m
+  maps_module =
+      let r = hook_remap m (needed_keys m hooks) in
+      let within = λ (f : ℕ). f < length (funcs_of m) in
+      record {
+        exports =
+            All-weaker (λ (e : Export). e.index < count_of m e.kind) (λ (e : Export). MapsReference r e.kind e.index) (λ e l. maps_reference e.kind e.index l)
+            m.exports (valid.rules export_indices);
+        start = λ f e. maps_index f (subst (λ (o : Option ℕ). IfSome o within) e (valid.rules start_index));
+        elements =
+            All-weaker (λ (e : Element). All within e.funcs) (λ (e : Element). All (MapsIndex r) e.funcs) (λ e l. All-weaker within (MapsIndex r) maps_index e.funcs l)
+            m.elements (valid.rules element_funcs);
+      }
+
+-- ---- bodies
+
+-- with any hooks, where they and the module's functions are few
+module _ (m : Module) (hooks : Hooks) (valid : IsValid m) (limits : IsWithin narrow m) (keys : List HookKey) (few : length keys + length (funcs_of m) < 2 ^ 32) where
+  -- a defined function
+  site_numbers : (defined func ty : ℕ) (b : Body) → slice_get m.funcs defined ≡ Some ty → slice_get m.bodies defined ≡ Some b
+      → HasNumbers (setting_of hooks keys (import_count m) (site_of m func ty b))
+  site_numbers defined func ty b typed there =
+      let (t, is) = get_within m.types ty (all_at (λ (ty : ℕ). ty < length m.types) m.funcs defined ty (recursion_from_All (λ (ty : ℕ). ty < length m.types) m.funcs (valid.rules function_types)) typed) in
+      let own = func_type_or (slice_get m.types ty) in
+      let short = types_few m hooks valid limits in
+      let params = each_in HasFew (named_types m) own (named m ty) short in
+      let locals = all_at (λ (b : Body). locals_of b.groups ≤ 50000) m.bodies defined b (within_all (λ (b : Body). locals_of b.groups) 50000 m.bodies (limits Locals)) there in
+      record {
+        hooks = omega (arith, few, length-append (imported_funcs m.imports) m.funcs);
+        calls =
+            code_maps (hook_remap m keys) (body_context m t b) (omega (arith, few)) (t.results ∷ []) b.code [] (push t.results [])
+            (valid.bodies defined ty t b typed is there);
+        locals = omega (arith, params.0, locals, pool_few m short hooks func ty b, declared_count b.groups, length-append own.params (declared_locals b.groups));
+      }
+
+  -- what the rewriting of a body asks
+  pub can_rewrite_with : (defined : ℕ) → CanRewrite m defined hooks keys (import_count m)
+  can_rewrite_with defined s at =
+      let r = site_is m defined s at in
+      subst (λ (s : Site). HasNumbers (setting_of hooks keys (import_count m) s)) (sym r.is) (site_numbers defined r.func r.ty r.body r.type_is r.body_is)
+
+-- with all hooks that the module needs
+pub can_rewrite : (m : Module) (hooks : Hooks) → IsValid m → IsWithin narrow m → (defined : ℕ) → CanRewrite m defined hooks (needed_keys m hooks) (import_count m)
+can_rewrite m hooks valid limits = can_rewrite_with m hooks valid limits (needed_keys m hooks) (omega (arith, funcs_few m hooks limits))
+
+-- of a module that imports nothing
+pub can_rewrite_alone : (m : Module) (hooks : Hooks) (keys : List HookKey) (defined : ℕ) → IsValid m → IsWithin narrow m → m.imports ≡ [] → length keys ≤ 1000 → CanRewrite m defined hooks keys 0
+can_rewrite_alone m hooks keys defined valid limits none few =
+    let count : import_count m ≡ 0 = ap (λ (is : List Import). length (imported_funcs is)) none in
+    subst (λ n. CanRewrite m defined hooks keys n) count (can_rewrite_with m hooks valid limits keys (omega (arith, few, (limits Functions).0)) defined)
+
+-- ---- sizes
+
+-- the size that was counted is that of the body that was made
+pub size_is : (o : Option Site) (hooks : Hooks) (keys : List HookKey) (imports : ℕ) (made : Body) (n : ℕ) → option_map (λ s. rewritten_body (setting_of hooks keys imports s)) o ≡ Some made
+    → option_map (λ s. size_of (setting_of hooks keys imports s)) o ≡ Some n → n ≡ length (body_bytes made)
+size_is None hooks keys imports made n e f = absurd (none_some e)
+size_is (Some s) hooks keys imports made n e f = sym (some_is f) ∙ ap (λ b. length (body_bytes b)) (some_is e)

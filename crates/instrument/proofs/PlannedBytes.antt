@@ -1,0 +1,94 @@
+-- The bytes of a module with hooks, part by part.
+use Rattle.std.proofs.Common.{◌≡◌, ℕ, zero, suc, ◌+◌, ◌^◌, ◌<◌, ◌≤◌, List, ◌++◌, length, map, refl, sym, ap, ◌∙◌, subst, arith, length-append, append_assoc}
+use Rattle.std.proofs.lemmas.List.{length-map}
+use Rattle.leb_binary.specs.Shortest.{unsigned_bytes}
+use Rattle.module_ast.specs.declared.module.Module.{Module}
+use Rattle.module_ast.specs.Canonical.{module_bytes}
+use Rattle.module_ast.specs.declared.module.Which.TheVariants.{Types}
+use Rattle.code_valid.proofs.Few.{entries_few}
+use Rattle.hook_mono.specs.declared.HookKey.{HookKey}
+use Rattle.index_remap.specs.declared.Remap.{Remap}
+use Rattle.wasm_encode.specs.Outline.{front_bytes, back_bytes, entries_bytes, code_head}
+use Rattle.wasm_encode.proofs.Outlines.{in_three}
+use Rattle.wasm_encode.proofs.Short.{unsigned_ten}
+use Rattle.instrument.specs.Output.{hook_types, hook_import, hook_imports, output, output_bytes}
+use Rattle.instrument.specs.Plan.{Plan, plan_keys, IsPlanned, new_bodies, new_outline, body_length}
+use Rattle.instrument.proofs.CanRewrites.{keys_few}
+use Rattle.instrument.proofs.OutputWithin.{output_is_within}
+
+-- what stands behind the code is no more than its module
+pub back_within : (m : Module) → length (back_bytes m) ≤ length (module_bytes m)
+back_within m =
+    let head = code_head (length m.bodies) (length (entries_bytes m.bodies)) in
+    let code = head ++ entries_bytes m.bodies in
+    omega (arith, ap length (in_three m), length-append (front_bytes m ++ code) (back_bytes m))
+
+module _ (p : Plan) (o : Module) (each : List ℕ) (together : ℕ) (is : o ≡ new_outline p) (sizes : each ≡ map body_length (new_bodies p)) (sum : together ≡ length (entries_bytes (new_bodies p))) where
+  -- the parts, one after another
+  head_is : code_head (length each) together ≡ code_head (length (new_bodies p)) (length (entries_bytes (new_bodies p)))
+  head_is = ap (λ n. code_head n together) (ap length sizes ∙ length-map (new_bodies p) body_length) ∙ ap (code_head (length (new_bodies p))) sum
+
+  -- they are the bytes
+  pub planned_bytes : ((front_bytes o ++ code_head (length each) together) ++ entries_bytes (new_bodies p)) ++ back_bytes o ≡ output_bytes p.module p.hooks
+  planned_bytes =
+      let new = output p.module p.hooks in
+      let entries = entries_bytes (new_bodies p) in
+      let head = code_head (length (new_bodies p)) (length entries) in
+      ap (λ (q : Module). ((front_bytes q ++ code_head (length each) together) ++ entries) ++ back_bytes q) is
+      ∙ ap (λ h. ((front_bytes new ++ h) ++ entries) ++ back_bytes new) head_is
+      ∙ ap (λ l. l ++ back_bytes new) (append_assoc (front_bytes new) head entries)
+      ∙ sym (in_three new)
+
+  -- and so many
+  pub planned_length : length (front_bytes o) + (length (code_head (length each) together) + together + length (back_bytes o)) ≡ length (output_bytes p.module p.hooks)
+  planned_length =
+      let head = code_head (length each) together in
+      let entries = entries_bytes (new_bodies p) in
+      omega (
+        arith,
+        ap length planned_bytes,
+        length-append ((front_bytes o ++ head) ++ entries) (back_bytes o),
+        length-append (front_bytes o ++ head) entries,
+        length-append (front_bytes o) head,
+        sum,
+      )
+
+  -- what stands behind the code is as it was
+  pub planned_back : length (back_bytes o) ≤ length (module_bytes p.module)
+  planned_back =
+      let same : back_bytes o ≡ back_bytes p.module = ap back_bytes is in
+      omega (arith, ap length same, back_within p.module)
+
+-- its types and imports are few
+module _ (p : Plan) (keys : List HookKey) (remap : Remap) (planned : IsPlanned p keys remap) where
+  pub planned_types : length (new_outline p).types ≤ 600000
+  planned_types = (output_is_within p.module p.hooks planned.valid planned.limits Types).0
+
+  pub planned_imports : length (new_outline p).imports ≤ 2 ^ 25
+  planned_imports =
+      omega (
+        arith,
+        length-append p.module.imports (hook_imports p.module (plan_keys p)),
+        length-map (plan_keys p) (hook_import p.module (hook_types (plan_keys p))),
+        keys_few p.module p.hooks planned.limits,
+        entries_few p.module,
+        planned.short,
+      )
+
+-- what stands before the entries is short
+pub head_short : (count size : ℕ) → count < 2 ^ 64 → size < 2 ^ 63 → length (code_head count size) ≤ 21
+head_short zero size c s = omega arith
+head_short (suc n) size c s =
+    let count = unsigned_bytes (suc n) in
+    let few = unsigned_ten (suc n) c in
+    omega (arith, few, unsigned_ten (length count + size) (omega (arith, few)), length-append (unsigned_bytes (length count + size)) count)
+
+-- what follows the front is not much
+pub rest_short : (m o : Module) (count together rest : ℕ) → count < 2 ^ 64 → together < 2 ^ 62 → length (back_bytes o) ≤ length (module_bytes m) → length (module_bytes m) ≤ 2 ^ 24
+    → rest ≡ length (code_head count together) + together + length (back_bytes o) → rest < 2 ^ 63
+rest_short m o count together rest c t back short e = omega (arith, head_short count together c (omega arith))
+
+-- what is written in turn
+pub written_in_turn : (front head entries back a b c d : List ℕ) → a ≡ front → b ≡ a ++ head → c ≡ b ++ entries → d ≡ c ++ back → d ≡ ((front ++ head) ++ entries) ++ back
+written_in_turn front head entries back a b c d first second third last =
+    last ∙ ap (λ l. l ++ back) (third ∙ ap (λ l. l ++ entries) (second ∙ ap (λ l. l ++ head) first))

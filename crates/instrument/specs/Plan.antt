@@ -1,0 +1,46 @@
+-- What a module with hooks is made from.
+use Rattle.std.specs.Prelude.{◌≡◌, ℕ, ◌≤◌, List, [], map, length}
+use Rattle.module_ast.specs.declared.module.Body.{Body}
+use Rattle.module_ast.specs.declared.module.Module.{Module}
+use Rattle.module_ast.specs.Canonical.{body_bytes, module_bytes}
+use Rattle.module_ast.specs.Limits.{narrow}
+use Rattle.module_ast.specs.Profile.{IsWithin}
+use Rattle.module_ast.specs.Validity.{IsValid}
+use Rattle.hook_select.specs.declared.Hooks.{Hooks}
+use Rattle.hook_mono.specs.declared.HookKey.{HookKey}
+use Rattle.hook_mono.specs.Needed.{needed_keys}
+use Rattle.index_remap.specs.declared.Remap.{Remap}
+use Rattle.instrument.specs.Made.{narrow_file}
+use Rattle.instrument.specs.Output.{hook_remap, output}
+
+-- a module that gets hooks, and the groups that are told
+pub record Plan : Type 0 where
+  pub «module» : Module
+  pub hooks : Hooks
+
+-- the hooks that it needs
+abbrev pub plan_keys : Plan → List HookKey
+plan_keys p = needed_keys p.module p.hooks
+
+-- where its functions stand with them
+abbrev pub plan_remap : Plan → Remap
+plan_remap p = hook_remap p.module (plan_keys p)
+
+-- a valid module within the narrow limits, with these hooks
+pub record IsPlanned (p : Plan) (keys : List HookKey) (remap : Remap) : Type 0 where
+  pub keys_are : keys ≡ plan_keys p
+  pub remap_is : remap ≡ plan_remap p
+  pub valid : IsValid p.module
+  pub limits : IsWithin narrow p.module
+  pub short : length (module_bytes p.module) ≤ narrow_file
+
+-- the module with hooks: its bodies, and all but these
+abbrev pub new_bodies : Plan → List Body
+new_bodies p = (output p.module p.hooks).bodies
+
+abbrev pub new_outline : Plan → Module
+new_outline p = record (output p.module p.hooks) { bodies = [] }
+
+-- how many bytes a body has, without its size before it
+abbrev pub body_length : Body → ℕ
+body_length b = length (body_bytes b)

@@ -1,0 +1,19 @@
+// Which modules may get hooks.
+
+ghost use Rattle.std.specs.Prelude.{◌↔◌, IsTrue};
+ghost use Rattle.wasm_sem.specs.Link.{IsFree};
+
+use module_ast::module::Module;
+
+/// The module that hooks are imported from.
+pub(crate) const HOOK_MODULE: &str = "__wasabi_hooks";
+
+/// Whether no import, of any kind, names the module that hooks are imported from.
+pub(crate) fn is_free(m: &Module) -> bool
+    ensures { IsTrue result ↔ IsFree m.now }
+{
+    m.imports
+        .as_slice()
+        .iter()
+        .all(|import| import.module.as_str() != HOOK_MODULE)
+}

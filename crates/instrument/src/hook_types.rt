@@ -1,0 +1,62 @@
+// The types of hooks.
+
+ghost use Rattle.std.specs.Prelude.{◌≡◌, IfOk};
+ghost use Rattle.instrument.specs.Output.{hook_types, find_type};
+
+use hook_mono::{HookKey, type_of};
+use indexmap::IndexSet;
+use module_ast::module::FuncType;
+use std::alloc::Global;
+use std::marker::Model;
+use wasm_num::NoMemory;
+
+/// The types of hooks, each once, in the order of first need, which contracts see as their list. The number of parameters
+/// tells them apart, by which a type is found in time that does not grow with their number.
+#[derive(Drop)]
+pub(crate) struct HookTypes {
+    types: Vec<FuncType>,
+    lengths: IndexSet<usize>,
+}
+
+impl Model for HookTypes {
+    ghost use Rattle.std.specs.Prelude.{◌≡◌, List, length, map};
+    ghost use Rattle.module_ast.specs.declared.module.FuncType.{FuncType as shown};
+
+    ghost Value = { List shown };
+
+    ghost view = { λ a. a.types.items };
+
+    ghost invariant = { λ a. a.lengths.keys ≡ map (λ (t : shown). length t.params) a.types.items };
+}
+
+impl HookTypes {
+    /// The types of the hooks of these keys. An `Err` comes where there is no memory.
+    pub(crate) fn of(alloc: Global, keys: &[HookKey]) -> Result<HookTypes, NoMemory>
+        ensures { IfOk result (λ types. types ≡ hook_types keys.now) }
+    {
+        let mut types = Vec::new(alloc);
+        let mut lengths = IndexSet::new(alloc);
+        for key in keys {
+            let ty = type_of(alloc, key)?;
+            let (_, is_new) = lengths.insert_full(ty.params.as_slice().len())?;
+            if is_new {
+                types.push(ty)?;
+            }
+        }
+        Ok(HookTypes { types, lengths })
+    }
+
+    /// Where a hook's type stands among them.
+    pub(crate) fn find(&self, ty: &FuncType) -> Option<usize>
+        ensures { result ≡ find_type self.now ty.now }
+    {
+        self.lengths.get_index_of(&ty.params.as_slice().len())
+    }
+
+    /// The types, in order.
+    pub(crate) fn as_slice(&self) -> &[FuncType]
+        ensures { result.now ≡ self.now }
+    {
+        &self.types
+    }
+}
