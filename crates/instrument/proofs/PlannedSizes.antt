@@ -88,8 +88,6 @@ sizes_more p i n field each together so_far within size bound counted short =
     let (old, old_at) = get_within p.module.bodies i (omega (arith, within, new_bodies_few p)) in
     sizes_next p i n field each together new old so_far new_at old_at (size new new_at) (bound old old_at) counted short
 
--- of all bodies
-pub sizes_all : (p : Plan) (i : ℕ) (each : List ℕ) (together : ℕ) → AreSizes p i each together → length (new_bodies p) ≤ i → (each ≡ map body_length (new_bodies p)) × (together ≡ length (entries_bytes (new_bodies p)))
-sizes_all p i each together s behind =
-    let all = take_all i (new_bodies p) behind in
-    (s.lengths ∙ ap (map body_length) all, s.sum ∙ ap (λ bs. length (entries_bytes bs)) all)
+-- which are few too
+pub more_few : (p : Plan) (i n field : ℕ) (each : List ℕ) (together : ℕ) → length (module_bytes p.module) ≤ narrow_file → AreSizes p (i + 1) (each ++ n ∷ []) (together + (field + n)) → together + (field + n) < 2 ^ 64
+more_few p i n field each together short s = omega (arith, sizes_few p (i + 1) (each ++ n ∷ []) (together + (field + n)) short s)
