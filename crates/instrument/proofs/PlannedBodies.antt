@@ -1,5 +1,5 @@
 -- What is made of one body of a module that gets hooks.
-use Rattle.std.proofs.Common.{◌≡◌, ℕ, ◌+◌, ◌*◌, ◌^◌, ◌<◌, ◌≤◌, zero, suc, List, [], ◌∷◌, length, map, Some, None, Option, option_map, slice_get, refl, sym, ap, ◌∙◌, subst, arith}
+use Rattle.std.proofs.Common.{◌≡◌, ℕ, ◌+◌, ◌*◌, ◌^◌, ◌<◌, ◌≤◌, List, [], ◌∷◌, length, Some, None, Option, option_map, slice_get, sym, ap, ◌∙◌, subst, arith}
 use Rattle.std.proofs.lemmas.List.{length-map}
 use Rattle.std.proofs.lemmas.Option.{slice_get-map}
 use Rattle.module_ast.specs.declared.module.Body.{Body}
@@ -8,7 +8,7 @@ use Rattle.module_ast.specs.Canonical.{body_bytes}
 use Rattle.code_valid.specs.Bodies.{BodyTyping}
 use Rattle.hook_select.specs.declared.Hooks.{Hooks}
 use Rattle.hook_mono.specs.declared.HookKey.{HookKey}
-use Rattle.hook_mono.specs.Needed.{Site, import_count, site_of, sites_from, sites}
+use Rattle.hook_mono.specs.Needed.{Site, import_count, sites_from, sites}
 use Rattle.index_remap.specs.declared.Remap.{Remap}
 use Rattle.wasm_sem.proofs.Variables.{get_within}
 use Rattle.rewrite.specs.Conditions.{CanRewrite}

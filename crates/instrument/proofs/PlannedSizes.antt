@@ -1,15 +1,14 @@
 -- The sizes of the bodies of a module with hooks, one after another.
-use Rattle.std.proofs.Common.{◌≡◌, ℕ, suc, ◌+◌, ◌*◌, ◌^◌, ◌<◌, ◌≤◌, List, [], ◌∷◌, ◌++◌, length, map, take, drop, Some, slice_get, refl, sym, ap, ◌∙◌, subst, arith, length-append, append-nil, append_assoc}
-use Rattle.std.proofs.lemmas.List.{take_all, take-append-drop, map_push}
+use Rattle.std.proofs.Common.{◌≡◌, ℕ, ◌+◌, ◌*◌, ◌^◌, ◌<◌, ◌≤◌, List, [], ◌∷◌, ◌++◌, length, map, take, drop, Some, slice_get, refl, sym, ap, ◌∙◌, arith, length-append, append-nil, append_assoc}
+use Rattle.std.proofs.lemmas.List.{take-append-drop, map_push}
 use Rattle.leb_binary.specs.Shortest.{unsigned_bytes}
 use Rattle.module_ast.specs.declared.module.Body.{Body}
-use Rattle.module_ast.specs.declared.module.Module.{Module}
 use Rattle.module_ast.specs.Canonical.{body_bytes, module_bytes}
 use Rattle.module_ast.proofs.Sizes.{bodies_count}
 use Rattle.module_ast.proofs.Writers.{unsigned_some}
 use Rattle.wasm_encode.specs.Outline.{entry_bytes, entries_bytes}
 use Rattle.instrument.specs.Made.{narrow_file}
-use Rattle.instrument.specs.Plan.{Plan, IsPlanned, new_bodies, body_length}
+use Rattle.instrument.specs.Plan.{Plan, new_bodies, body_length}
 use Rattle.wasm_sem.proofs.Variables.{get_within}
 use Rattle.instrument.proofs.PlannedBodies.{new_bodies_few}
 use Rattle.instrument.proofs.PlannedNeeds.{taken_next}

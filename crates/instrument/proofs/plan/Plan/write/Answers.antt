@@ -1,10 +1,9 @@
-use Rattle.std.proofs.Common.{◌≡◌, ℕ, ◌+◌, ◌<◌, ◌≤◌, List, [], ◌++◌, length, ap, sym, ◌∙◌, subst, arith}
-use Rattle.module_ast.specs.declared.module.Module.{Module}
+use Rattle.std.proofs.Common.{◌≡◌, ℕ, ◌+◌, ◌<◌, ◌≤◌, List, ◌++◌, length, ap, sym, ◌∙◌, subst, arith}
 use Rattle.module_ast.specs.Canonical.{module_bytes}
-use Rattle.wasm_encode.specs.Outline.{front_bytes, back_bytes, entries_bytes, code_head}
+use Rattle.wasm_encode.specs.Outline.{front_bytes}
 use Rattle.instrument.specs.Made.{narrow_file}
 use Rattle.instrument.specs.Output.{output_bytes}
-use Rattle.instrument.specs.Plan.{Plan, new_bodies, new_outline}
+use Rattle.instrument.specs.Plan.{Plan, new_outline}
 use Rattle.instrument.proofs.PlannedBytes.{planned_total, planned_output, planned_back, rest_short}
 use Rattle.instrument.proofs.plan.Plan.write.Goals as goal
 
