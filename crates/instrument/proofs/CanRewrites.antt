@@ -1,5 +1,5 @@
 -- Valid modules within the narrow limits have what the rewriting of bodies and the remapping ask.
-use Rattle.std.proofs.Common.{◌≡◌, ℕ, ◌+◌, ◌^◌, ◌<◌, ◌≤◌, List, [], ◌∷◌, ◌++◌, length, Option, Some, None, All, IfSome, sym, ap, ◌∙◌, subst, arith, slice_get, length-append, option_map}
+use Rattle.std.proofs.Common.{◌≡◌, ℕ, ◌+◌, ◌^◌, ◌<◌, ◌≤◌, List, [], ◌∷◌, length, Option, Some, None, All, IfSome, sym, ap, ◌∙◌, subst, arith, slice_get, length-append, option_map}
 use Rattle.std.proofs.lemmas.List.Elements.{All-weaker, recursion_from_All}
 use Rattle.std.proofs.lemmas.Option.{slice_get_within}
 use Rattle.wasm_num.specs.declared.ValType.{ValType}
@@ -24,7 +24,7 @@ use Rattle.module_ast.proofs.Indexed.{each_in}
 use Rattle.module_ast.proofs.Sizes.{within_all}
 use Rattle.hook_select.specs.declared.Hooks.{Hooks}
 use Rattle.hook_mono.specs.declared.HookKey.{HookKey}
-use Rattle.hook_mono.specs.Needed.{Site, import_count, site_of, sites, needed_keys}
+use Rattle.hook_mono.specs.Needed.{Site, import_count, site_of, needed_keys}
 use Rattle.index_remap.specs.declared.Remap.{Remap}
 use Rattle.index_remap.specs.Remap.{MapsIndex, MapsPlain, Maps, MapsReference, MapsModule}
 use Rattle.wasm_sem.proofs.Straight.{none_some, some_is}

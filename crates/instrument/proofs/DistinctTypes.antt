@@ -1,5 +1,5 @@
 -- Types of hooks, found by their number of parameters.
-use Rattle.std.proofs.Common.{◌≡◌, ℕ, ◌+◌, ◌<◌, List, [], ◌∷◌, ◌++◌, length, map, take, get_or, fold, Some, None, Bool, true, false, cond, not, ◌==◌, ◌||◌, nat_lt, if◌then◌else◌, position, is_some, refl, sym, ap, ap₂, ◌∙◌, true≢false, arith}
+use Rattle.std.proofs.Common.{◌≡◌, ℕ, ◌+◌, ◌<◌, List, [], ◌∷◌, ◌++◌, length, map, take, get_or, Some, None, Bool, true, false, cond, not, ◌==◌, ◌||◌, nat_lt, if◌then◌else◌, position, is_some, refl, sym, ap, ap₂, ◌∙◌, arith}
 use Rattle.std.specs.List.{list_any, position_or_len}
 use Rattle.std.proofs.lemmas.Bool.Decides.{nat_tests}
 use Rattle.std.proofs.lemmas.List.{length-map, map_more, map_push}

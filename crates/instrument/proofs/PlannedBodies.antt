@@ -1,5 +1,5 @@
 -- What is made of one body of a module that gets hooks.
-use Rattle.std.proofs.Common.{◌≡◌, ℕ, ◌+◌, ◌*◌, ◌^◌, ◌<◌, ◌≤◌, zero, suc, List, [], ◌∷◌, length, map, Some, None, Option, option_map, slice_get, refl, sym, ap, ◌∙◌, subst, arith}
+use Rattle.std.proofs.Common.{◌≡◌, ℕ, ◌+◌, ◌*◌, ◌^◌, ◌<◌, ◌≤◌, List, [], ◌∷◌, length, Some, None, Option, option_map, slice_get, sym, ap, ◌∙◌, subst, arith}
 use Rattle.std.proofs.lemmas.List.{length-map}
 use Rattle.std.proofs.lemmas.Option.{slice_get-map}
 use Rattle.module_ast.specs.declared.module.Body.{Body}
@@ -8,7 +8,7 @@ use Rattle.module_ast.specs.Canonical.{body_bytes}
 use Rattle.code_valid.specs.Bodies.{BodyTyping}
 use Rattle.hook_select.specs.declared.Hooks.{Hooks}
 use Rattle.hook_mono.specs.declared.HookKey.{HookKey}
-use Rattle.hook_mono.specs.Needed.{Site, import_count, site_of, sites_from, sites}
+use Rattle.hook_mono.specs.Needed.{Site, import_count, sites_from, sites}
 use Rattle.index_remap.specs.declared.Remap.{Remap}
 use Rattle.wasm_sem.proofs.Variables.{get_within}
 use Rattle.rewrite.specs.Conditions.{CanRewrite}
@@ -34,40 +34,44 @@ new_bodies_count p e = length-map (sites p.module) (output_body p.module p.hooks
 
 -- ---- one body
 
--- a body of the module, which is to be rewritten with the hooks of these groups
-pub record IsBodyOf (p : Plan) (b : BodyTyping) (defined : ℕ) (hooks : Hooks) : Type 0 where
-  pub module_is : b.module ≡ p.module
-  pub place_is : b.defined ≡ defined
-  pub hooks_are : hooks ≡ p.hooks
+-- The body is that of a defined function of a plan p, which its struct holds as q.
+module _ (p q : Plan) (b : BodyTyping) (defined : ℕ) (keys : List HookKey) (remap : Remap) (view : q ≡ p) (module_is : b.module ≡ q.module) (place_is : b.defined ≡ defined) (held : IsPlanned q keys remap) where
+  planned : IsPlanned p keys remap
+  planned = subst (λ (p : Plan). IsPlanned p keys remap) view held
 
-module _ (p : Plan) (b : BodyTyping) (defined : ℕ) (hooks : Hooks) (keys : List HookKey) (remap : Remap) (is : IsBodyOf p b defined hooks) (planned : IsPlanned p keys remap) where
+  same_module : b.module ≡ p.module
+  same_module = module_is ∙ ap (λ (p : Plan). p.module) view
+
+  same_hooks : q.hooks ≡ p.hooks
+  same_hooks = ap (λ (p : Plan). p.hooks) view
+
   -- what the rewriting asks
-  pub planned_numbers : CanRewrite b.module b.defined hooks keys remap.imports
+  pub planned_numbers : CanRewrite b.module b.defined q.hooks keys remap.imports
   planned_numbers =
       let base : CanRewrite p.module defined p.hooks (plan_keys p) (plan_remap p).imports = can_rewrite p.module p.hooks planned.valid planned.limits defined in
       let with_remap : CanRewrite p.module defined p.hooks (plan_keys p) remap.imports = subst (λ (r : Remap). CanRewrite p.module defined p.hooks (plan_keys p) r.imports) (sym planned.remap_is) base in
       let with_keys : CanRewrite p.module defined p.hooks keys remap.imports = subst (λ (ks : List HookKey). CanRewrite p.module defined p.hooks ks remap.imports) (sym planned.keys_are) with_remap in
-      let with_hooks : CanRewrite p.module defined hooks keys remap.imports = subst (λ (h : Hooks). CanRewrite p.module defined h keys remap.imports) (sym is.hooks_are) with_keys in
-      let with_place : CanRewrite p.module b.defined hooks keys remap.imports = subst (λ n. CanRewrite p.module n hooks keys remap.imports) (sym is.place_is) with_hooks in
-      subst (λ (m : Module). CanRewrite m b.defined hooks keys remap.imports) (sym is.module_is) with_place
+      let with_hooks : CanRewrite p.module defined q.hooks keys remap.imports = subst (λ (h : Hooks). CanRewrite p.module defined h keys remap.imports) (sym same_hooks) with_keys in
+      let with_place : CanRewrite p.module b.defined q.hooks keys remap.imports = subst (λ n. CanRewrite p.module n q.hooks keys remap.imports) (sym place_is) with_hooks in
+      subst (λ (m : Module). CanRewrite m b.defined q.hooks keys remap.imports) (sym same_module) with_place
 
   -- what is said of the body is said of it in the plan
-  along : {X : Type 0} (F : Module → ℕ → Hooks → List HookKey → Remap → X) → F p.module defined p.hooks (plan_keys p) (plan_remap p) ≡ F b.module b.defined hooks keys remap
+  along : {X : Type 0} (F : Module → ℕ → Hooks → List HookKey → Remap → X) → F p.module defined p.hooks (plan_keys p) (plan_remap p) ≡ F b.module b.defined q.hooks keys remap
   along F =
       ap (F p.module defined p.hooks (plan_keys p)) (sym planned.remap_is)
       ∙ ap (λ ks. F p.module defined p.hooks ks remap) (sym planned.keys_are)
-      ∙ ap (λ h. F p.module defined h keys remap) (sym is.hooks_are)
-      ∙ ap (λ n. F p.module n hooks keys remap) (sym is.place_is)
-      ∙ ap (λ m. F m b.defined hooks keys remap) (sym is.module_is)
+      ∙ ap (λ h. F p.module defined h keys remap) (sym same_hooks)
+      ∙ ap (λ n. F p.module n q.hooks keys remap) (sym place_is)
+      ∙ ap (λ m. F m b.defined q.hooks keys remap) (sym same_module)
 
   -- the body that was made
-  pub planned_body : (made : Body) → option_map (λ s. rewritten_body (setting_of hooks keys remap.imports s)) (slice_get (sites b.module) b.defined) ≡ Some made → slice_get (new_bodies p) defined ≡ Some made
+  pub planned_body : (made : Body) → option_map (λ s. rewritten_body (setting_of q.hooks keys remap.imports s)) (slice_get (sites b.module) b.defined) ≡ Some made → slice_get (new_bodies p) defined ≡ Some made
   planned_body made e =
       slice_get-map (output_body p.module p.hooks (plan_keys p)) (sites p.module) defined
       ∙ along (λ m n h ks r. option_map (λ s. rewritten_body (setting_of h ks r.imports s)) (slice_get (sites m) n)) ∙ e
 
   -- its size
-  pub planned_size : (n : ℕ) → option_map (λ s. size_of (setting_of hooks keys remap.imports s)) (slice_get (sites b.module) b.defined) ≡ Some n
+  pub planned_size : (n : ℕ) → option_map (λ s. size_of (setting_of q.hooks keys remap.imports s)) (slice_get (sites b.module) b.defined) ≡ Some n
       → (new : Body) → slice_get (new_bodies p) defined ≡ Some new → n ≡ body_length new
   planned_size n e new at =
       go (slice_get (sites p.module) defined)

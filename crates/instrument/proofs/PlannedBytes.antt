@@ -1,5 +1,5 @@
 -- The bytes of a module with hooks, part by part.
-use Rattle.std.proofs.Common.{◌≡◌, ℕ, zero, suc, ◌+◌, ◌^◌, ◌<◌, ◌≤◌, List, ◌++◌, length, map, refl, sym, ap, ◌∙◌, subst, arith, length-append, append_assoc}
+use Rattle.std.proofs.Common.{◌≡◌, ℕ, zero, suc, ◌+◌, ◌^◌, ◌<◌, ◌≤◌, List, [], ◌++◌, length, map, sym, ap, ◌∙◌, arith, length-append, append_assoc}
 use Rattle.std.proofs.lemmas.List.{length-map}
 use Rattle.leb_binary.specs.Shortest.{unsigned_bytes}
 use Rattle.module_ast.specs.declared.module.Module.{Module}
@@ -53,6 +53,18 @@ module _ (p : Plan) (o : Module) (each : List ℕ) (together : ℕ) (is : o ≡ 
         sum,
       )
 
+  pub planned_total : (count rest : ℕ) → count ≡ length (front_bytes o) → rest ≡ length (code_head (length each) together) + together + length (back_bytes o) → count + rest ≡ length (output_bytes p.module p.hooks)
+  planned_total count rest c r =
+      ap (λ n. n + rest) c ∙ ap (λ n. length (front_bytes o) + n) r ∙ planned_length
+
+  -- what is written in turn
+  pub planned_output : (count : ℕ) (start front room head entries out : List ℕ) → start ≡ [] → front ≡ start ++ front_bytes o → room ≡ front → count ≡ length each → head ≡ room ++ code_head count together
+      → entries ≡ head ++ entries_bytes (new_bodies p) → out ≡ entries ++ back_bytes o → out ≡ output_bytes p.module p.hooks
+  planned_output count start front room head entries out nothing first same counted second third last =
+      let begun : room ≡ front_bytes o = same ∙ first ∙ ap (λ l. l ++ front_bytes o) nothing in
+      let headed : head ≡ front_bytes o ++ code_head (length each) together = second ∙ ap (λ n. room ++ code_head n together) counted ∙ ap (λ l. l ++ code_head (length each) together) begun in
+      last ∙ ap (λ l. l ++ back_bytes o) (third ∙ ap (λ l. l ++ entries_bytes (new_bodies p)) headed) ∙ planned_bytes
+
   -- what stands behind the code is as it was
   pub planned_back : length (back_bytes o) ≤ length (module_bytes p.module)
   planned_back =
@@ -87,8 +99,3 @@ head_short (suc n) size c s =
 pub rest_short : (m o : Module) (count together rest : ℕ) → count < 2 ^ 64 → together < 2 ^ 62 → length (back_bytes o) ≤ length (module_bytes m) → length (module_bytes m) ≤ 2 ^ 24
     → rest ≡ length (code_head count together) + together + length (back_bytes o) → rest < 2 ^ 63
 rest_short m o count together rest c t back short e = omega (arith, head_short count together c (omega arith))
-
--- what is written in turn
-pub written_in_turn : (front head entries back a b c d : List ℕ) → a ≡ front → b ≡ a ++ head → c ≡ b ++ entries → d ≡ c ++ back → d ≡ ((front ++ head) ++ entries) ++ back
-written_in_turn front head entries back a b c d first second third last =
-    last ∙ ap (λ l. l ++ back) (third ∙ ap (λ l. l ++ entries) (second ∙ ap (λ l. l ++ head) first))

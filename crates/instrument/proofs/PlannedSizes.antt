@@ -1,15 +1,14 @@
 -- The sizes of the bodies of a module with hooks, one after another.
-use Rattle.std.proofs.Common.{◌≡◌, ℕ, suc, ◌+◌, ◌*◌, ◌^◌, ◌<◌, ◌≤◌, List, [], ◌∷◌, ◌++◌, length, map, take, drop, Some, slice_get, refl, sym, ap, ◌∙◌, subst, arith, length-append, append-nil, append_assoc}
-use Rattle.std.proofs.lemmas.List.{take_all, take-append-drop, map_push}
+use Rattle.std.proofs.Common.{◌≡◌, ℕ, ◌+◌, ◌*◌, ◌^◌, ◌<◌, ◌≤◌, List, [], ◌∷◌, ◌++◌, length, map, take, drop, Some, slice_get, refl, sym, ap, ◌∙◌, arith, length-append, append-nil, append_assoc}
+use Rattle.std.proofs.lemmas.List.{take-append-drop, map_push}
 use Rattle.leb_binary.specs.Shortest.{unsigned_bytes}
 use Rattle.module_ast.specs.declared.module.Body.{Body}
-use Rattle.module_ast.specs.declared.module.Module.{Module}
 use Rattle.module_ast.specs.Canonical.{body_bytes, module_bytes}
 use Rattle.module_ast.proofs.Sizes.{bodies_count}
 use Rattle.module_ast.proofs.Writers.{unsigned_some}
 use Rattle.wasm_encode.specs.Outline.{entry_bytes, entries_bytes}
 use Rattle.instrument.specs.Made.{narrow_file}
-use Rattle.instrument.specs.Plan.{Plan, IsPlanned, new_bodies, body_length}
+use Rattle.instrument.specs.Plan.{Plan, new_bodies, body_length}
 use Rattle.wasm_sem.proofs.Variables.{get_within}
 use Rattle.instrument.proofs.PlannedBodies.{new_bodies_few}
 use Rattle.instrument.proofs.PlannedNeeds.{taken_next}
@@ -88,8 +87,6 @@ sizes_more p i n field each together so_far within size bound counted short =
     let (old, old_at) = get_within p.module.bodies i (omega (arith, within, new_bodies_few p)) in
     sizes_next p i n field each together new old so_far new_at old_at (size new new_at) (bound old old_at) counted short
 
--- of all bodies
-pub sizes_all : (p : Plan) (i : ℕ) (each : List ℕ) (together : ℕ) → AreSizes p i each together → length (new_bodies p) ≤ i → (each ≡ map body_length (new_bodies p)) × (together ≡ length (entries_bytes (new_bodies p)))
-sizes_all p i each together s behind =
-    let all = take_all i (new_bodies p) behind in
-    (s.lengths ∙ ap (map body_length) all, s.sum ∙ ap (λ bs. length (entries_bytes bs)) all)
+-- which are few too
+pub more_few : (p : Plan) (i n field : ℕ) (each : List ℕ) (together : ℕ) → length (module_bytes p.module) ≤ narrow_file → AreSizes p (i + 1) (each ++ n ∷ []) (together + (field + n)) → together + (field + n) < 2 ^ 64
+more_few p i n field each together short s = omega (arith, sizes_few p (i + 1) (each ++ n ∷ []) (together + (field + n)) short s)

@@ -1,5 +1,4 @@
-use Rattle.std.proofs.Common.{◌≡◌, ◌≤◌, List, length, ap, sym, ◌∙◌, subst, arith}
-use Rattle.module_ast.specs.declared.module.Module.{Module}
+use Rattle.std.proofs.Common.{◌≡◌, ◌≤◌, length, ap, sym, ◌∙◌, subst, arith}
 use Rattle.wasm_sem.specs.Link.{IsFree}
 use Rattle.instrument.specs.Made.{longest_output}
 use Rattle.instrument.specs.Output.{output_bytes}

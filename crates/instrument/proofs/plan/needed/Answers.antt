@@ -1,7 +1,7 @@
 use Rattle.std.proofs.Common.{◌≡◌, length, ap, ◌∙◌, arith}
 use Rattle.module_ast.specs.declared.module.Module.{Module}
 use Rattle.code_valid.proofs.Few.{entries_fit}
-use Rattle.instrument.proofs.PlannedNeeds.{needed_before, adds_needs, all_needed}
+use Rattle.instrument.proofs.PlannedNeeds.{adds_needs, all_needed}
 use Rattle.instrument.proofs.plan.needed.Goals as goal
 
 pub overflow_cast-defined-end : goal.overflow_cast-defined-end

@@ -1,4 +1,4 @@
-use Rattle.std.proofs.Common.{◌≡◌, List, ◌==◌, position, length, ap, ◌∙◌}
+use Rattle.std.proofs.Common.{List, ◌==◌, position, length, ap, ◌∙◌}
 use Rattle.wasm_num.specs.declared.ValType.{ValType}
 use Rattle.module_ast.specs.declared.module.FuncType.{FuncType}
 use Rattle.instrument.specs.Output.{find_type}

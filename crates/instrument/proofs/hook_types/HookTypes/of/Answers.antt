@@ -1,6 +1,5 @@
-use Rattle.std.proofs.Common.{◌≡◌, List, ◌==◌, ◌∷◌, [], ◌++◌, ℕ, Bool, not, true, false, if◌then◌else◌, length, map, take, ap, sym, ◌∙◌, subst, true≢false}
+use Rattle.std.proofs.Common.{◌≡◌, List, ◌==◌, ◌∷◌, [], ◌++◌, ℕ, not, if◌then◌else◌, length, map, take, ap, sym, ◌∙◌, true≢false}
 use Rattle.std.specs.List.{list_any}
-use Rattle.wasm_num.specs.declared.ValType.{ValType}
 use Rattle.module_ast.specs.declared.module.FuncType.{FuncType}
 use Rattle.hook_mono.specs.Words.{hook_type}
 use Rattle.instrument.specs.Output.{with_type, distinct_types}

@@ -1,11 +1,10 @@
-use Rattle.std.proofs.Common.{◌≡◌, ℕ, ◌+◌, ◌<◌, ◌≤◌, List, [], ◌++◌, length, ap, sym, ◌∙◌, subst, arith}
-use Rattle.module_ast.specs.declared.module.Module.{Module}
+use Rattle.std.proofs.Common.{◌≡◌, ℕ, ◌+◌, ◌<◌, ◌≤◌, List, ◌++◌, length, ap, sym, ◌∙◌, subst, arith}
 use Rattle.module_ast.specs.Canonical.{module_bytes}
-use Rattle.wasm_encode.specs.Outline.{front_bytes, back_bytes, entries_bytes, code_head}
+use Rattle.wasm_encode.specs.Outline.{front_bytes}
 use Rattle.instrument.specs.Made.{narrow_file}
 use Rattle.instrument.specs.Output.{output_bytes}
-use Rattle.instrument.specs.Plan.{Plan, new_bodies, new_outline}
-use Rattle.instrument.proofs.PlannedBytes.{planned_bytes, planned_length, planned_back, rest_short, written_in_turn}
+use Rattle.instrument.specs.Plan.{Plan, new_outline}
+use Rattle.instrument.proofs.PlannedBytes.{planned_total, planned_output, planned_back, rest_short}
 use Rattle.instrument.proofs.plan.Plan.write.Goals as goal
 
 pub overflow_add-length : goal.overflow_add-length
@@ -26,10 +25,9 @@ returns-then-length-max-clause-large g c =
     let sizes = c.in_ok-sizes.sizes in
     let is : o ≡ new_outline p = c.outline-outline.ensures p (c.module.ensures.module ∙ ap (λ (p : Plan). p.module) c.self.view_is) c.in_ok-parts.ensures in
     let front : c.put_front.new.out.items ≡ front_bytes o = c.in_ok-put_front.ensures ∙ ap (λ (l : List ℕ). l ++ front_bytes o) c.new-out.ensures.items in
-    let count : c.len.result ≡ length (front_bytes o) = c.len.ensures ∙ c.put_front.new.out.ok.0 ∙ ap length front in
     let total : c.len.result + c.rest_length-rest.result ≡ length (output_bytes p.module p.hooks) =
-    ap (λ (n : ℕ). n + c.rest_length-rest.result) count ∙ ap (λ (n : ℕ). length (front_bytes o) + n) c.rest_length-rest.ensures
-    ∙ planned_length p o sizes.each.items sizes.together is c.in_ok-sizes.ensures.each c.in_ok-sizes.ensures.together in
+    planned_total p o sizes.each.items sizes.together is c.in_ok-sizes.ensures.each c.in_ok-sizes.ensures.together c.len.result c.rest_length-rest.result
+    (c.len.ensures ∙ c.put_front.new.out.ok.0 ∙ ap length front) c.rest_length-rest.ensures in
     λ n e.
     let same : c.len.result + c.rest_length-rest.result ≡ n = cc in
     (sym same ∙ total, subst (λ (n : ℕ). c.args.max < n) same c.if-length-max.true)
@@ -40,12 +38,7 @@ returns-clause-ok g c =
     let o = c.outline-outline.result in
     let sizes = c.in_ok-sizes.sizes in
     let is : o ≡ new_outline p = c.outline-outline.ensures p (c.module.ensures.module ∙ ap (λ (p : Plan). p.module) c.self.view_is) c.in_ok-parts.ensures in
-    let front : c.reserve_exact.new.self.items ≡ front_bytes o =
-    c.reserve_exact.ensures.items ∙ c.in_ok-put_front.ensures ∙ ap (λ (l : List ℕ). l ++ front_bytes o) c.new-out.ensures.items in
-    let count : c.len-2.result ≡ length sizes.each.items = c.len-2.ensures ∙ sizes.each.ok.0 in
-    let head : c.put_code_head.new.out.items ≡ c.reserve_exact.new.self.items ++ code_head (length sizes.each.items) sizes.together =
-    c.in_ok-put_code_head.ensures ∙ ap (λ (n : ℕ). c.reserve_exact.new.self.items ++ code_head n sizes.together) count in
-    written_in_turn (front_bytes o) (code_head (length sizes.each.items) sizes.together) (entries_bytes (new_bodies p)) (back_bytes o)
-    c.reserve_exact.new.self.items c.put_code_head.new.out.items c.put_entries.new.out.items c.put_back.new.out.items
-    front head c.in_ok-put_entries.ensures c.in_ok-put_back.ensures
-    ∙ planned_bytes p o sizes.each.items sizes.together is c.in_ok-sizes.ensures.each c.in_ok-sizes.ensures.together
+    planned_output p o sizes.each.items sizes.together is c.in_ok-sizes.ensures.each c.in_ok-sizes.ensures.together
+    c.len-2.result c.new-out.result.items c.put_front.new.out.items c.reserve_exact.new.self.items c.put_code_head.new.out.items c.put_entries.new.out.items c.put_back.new.out.items
+    c.new-out.ensures.items c.in_ok-put_front.ensures c.reserve_exact.ensures.items (c.len-2.ensures ∙ sizes.each.ok.0) c.in_ok-put_code_head.ensures
+    c.in_ok-put_entries.ensures c.in_ok-put_back.ensures
