@@ -1,0 +1,13 @@
+pub mod Following
+pub mod Lists
+pub mod Stacks
+pub mod Lying
+pub mod Straights
+pub mod Jumps
+pub mod Controls
+pub mod Zeros
+pub mod Standing
+pub mod Entering
+pub mod Rooms
+pub mod Moments
+pub mod Calling
