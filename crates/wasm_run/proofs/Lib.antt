@@ -11,3 +11,4 @@ pub mod Entering
 pub mod Rooms
 pub mod Moments
 pub mod Calling
+pub mod Resolving

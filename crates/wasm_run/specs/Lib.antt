@@ -8,3 +8,4 @@ pub mod Entering
 pub mod Rooms
 pub mod Running
 pub mod Calls
+pub mod Resolved

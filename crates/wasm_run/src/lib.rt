@@ -4,6 +4,7 @@
 mod advance;
 mod call;
 mod control;
+mod functions;
 mod running;
 mod stack;
 mod straight;
