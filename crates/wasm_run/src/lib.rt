@@ -5,6 +5,7 @@ mod advance;
 mod call;
 mod control;
 mod functions;
+mod host;
 mod running;
 mod stack;
 mod straight;

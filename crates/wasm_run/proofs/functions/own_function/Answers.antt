@@ -30,10 +30,10 @@ pub returns-clause-size : goal.returns-clause-size
 returns-clause-size c =
     let body_at : slice_get c.args.valid.now.bodies c.args.defined ≡ Some c.body-body.result.now = sym (ap₂ (λ (m : Module) (k : ℕ). slice_get m.bodies k) c.typed-typed.ensures.of c.typed-typed.ensures.at) ∙ c.body-body.ensures in
     let type_is = c.index-as_slice-as_slice.is ∙ ap₂ (λ (ts : List FuncType) (fs : List ℕ). slice_index_or ts (slice_index_or fs c.args.defined 0) c.index-as_slice-as_slice.result)
-        (c.as_slice.ensures ∙ ap (λ (m : Module). m.types) c.module-module.ensures.module) (c.as_slice-2.ensures ∙ ap (λ (m : Module). m.funcs) c.module-module.ensures.module) in
+    (c.as_slice.ensures ∙ ap (λ (m : Module). m.types) c.module-module.ensures.module) (c.as_slice-2.ensures ∙ ap (λ (m : Module). m.funcs) c.module-module.ensures.module) in
     let typed : IsTypedBody c.args.valid.now c.args.defined c.typed-typed.result.marks =
-        subst (λ (m : Module). IsTypedBody m c.args.defined c.typed-typed.result.marks) c.typed-typed.ensures.of
-        (subst (λ k. IsTypedBody c.typed-typed.result.module k c.typed-typed.result.marks) c.typed-typed.ensures.at c.marks.ensures.typed) in
+    subst (λ (m : Module). IsTypedBody m c.args.defined c.typed-typed.result.marks) c.typed-typed.ensures.of
+    (subst (λ k. IsTypedBody c.typed-typed.result.module k c.typed-typed.result.marks) c.typed-typed.ensures.at c.marks.ensures.typed) in
     record {
       locals_are = c.count_locals.ensures ∙ ap locals_of c.as_slice-3.ensures;
       high_is = c.in-Ok.ensures.1 ∙ ap (λ (found : Marks). found.height) c.marks.ensures.marks
@@ -45,5 +45,5 @@ pub returns-clause-stands : goal.returns-clause-stands
 returns-clause-stands c =
     let body_at : slice_get c.args.valid.now.bodies c.args.defined ≡ Some c.body-body.result.now = sym (ap₂ (λ (m : Module) (k : ℕ). slice_get m.bodies k) c.typed-typed.ensures.of c.typed-typed.ensures.at) ∙ c.body-body.ensures in
     let type_is = c.index-as_slice-as_slice.is ∙ ap₂ (λ (ts : List FuncType) (fs : List ℕ). slice_index_or ts (slice_index_or fs c.args.defined 0) c.index-as_slice-as_slice.result)
-        (c.as_slice.ensures ∙ ap (λ (m : Module). m.types) c.module-module.ensures.module) (c.as_slice-2.ensures ∙ ap (λ (m : Module). m.funcs) c.module-module.ensures.module) in
+    (c.as_slice.ensures ∙ ap (λ (m : Module). m.types) c.module-module.ensures.module) (c.as_slice-2.ensures ∙ ap (λ (m : Module). m.funcs) c.module-module.ensures.module) in
     own_stands c.args.valid.now c.args.defined c.module-module.ensures.whole c.module-module.ensures.valid.rules c.requires c.index-as_slice-as_slice.result type_is c.body-body.result.now body_at

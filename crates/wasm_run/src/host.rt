@@ -1,0 +1,44 @@
+// What a host function answers. (Standard, 4.4.7)
+
+ghost use Rattle.std.specs.Prelude.{◌≡◌, ◌+◌, ◌≤◌, length, All};
+ghost use Rattle.module_ast.specs.Typing.{push};
+ghost use Rattle.wasm_sem.specs.Link.{IsWriteInRange};
+ghost use Rattle.wasm_sem.specs.Store.{value_of, values_of, writes_done, written_memory};
+
+use crate::stack::Stack;
+use run_store::memory::Memory;
+use wasm_num::{ValType, Value};
+use wasm_sem::HostWrite;
+
+// The value that a number of the script stands for, modulo its width. (Standard, 4.2.1)
+fn value_of(ty: ValType, number: i128) -> Value
+    ensures { result ≡ value_of ty number }
+{
+    match ty {
+        ValType::I32 => Value::I32(number.rem_euclid(1 << 32).unsigned_abs() as u32),
+        ValType::I64 => Value::I64(number.rem_euclid(1 << 64).unsigned_abs() as u64),
+    }
+}
+
+/// A value for each type is put on top, for which there is room: what the numbers stand for in order, and 0 past the last.
+pub(crate) fn push_results(stack: &mut Stack, types: &[ValType], numbers: &[i128])
+    requires { length stack.old.values + length types.now ≤ stack.old.value_room }
+    ensures { stack.new ≡ record stack.old { values = push (values_of types.now numbers.now) stack.old.values } }
+{
+    for place in 0..types.len() {
+        let number = numbers.get(place).copied().unwrap_or(0);
+        stack.push(value_of(types[place], number));
+    }
+}
+
+/// The writes of an answer are done in order, but for those that end past the memory.
+pub(crate) fn write_all(memory: &mut Memory, writes: &[HostWrite])
+    requires { All IsWriteInRange writes.now }
+    ensures bytes { memory.new.bytes ≡ written_memory (writes_done memory.old.bytes writes.now) memory.old.bytes }
+    ensures max { memory.new.max ≡ memory.old.max }
+{
+    for write in writes {
+        // one that ends past the memory is left out
+        let _ = memory.write(u64::from(write.address), write.bytes.as_slice());
+    }
+}
