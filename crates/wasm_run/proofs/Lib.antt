@@ -12,3 +12,4 @@ pub mod Rooms
 pub mod Moments
 pub mod Calling
 pub mod Resolving
+pub mod Beside

@@ -9,3 +9,4 @@ pub mod Rooms
 pub mod Running
 pub mod Calls
 pub mod Resolved
+pub mod Beside
