@@ -19,7 +19,7 @@ use Rattle.wasm_run.specs.Calls.{IsNoCall, NextIsNoCall}
 same_rest : (st : Store) → HasSameRest st st
 same_rest st = record { slots = refl; hosts = refl }
 
-same_beside : (e : Env) → GoesOnBeside e e
+pub same_beside : (e : Env) → GoesOnBeside e e
 same_beside e = record { phase = refl; started = refl; answers = refl; store = same_rest e.store }
 
 -- behind a step: where a frame is left, all else goes on, and else the store is as it was but for memory and globals

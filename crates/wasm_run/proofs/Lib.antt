@@ -13,3 +13,6 @@ pub mod Moments
 pub mod Calling
 pub mod Resolving
 pub mod Beside
+pub mod Answering
+pub mod Hosts
+pub mod Answered

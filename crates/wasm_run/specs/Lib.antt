@@ -10,3 +10,4 @@ pub mod Running
 pub mod Calls
 pub mod Resolved
 pub mod Beside
+pub mod Answering

@@ -2,10 +2,13 @@
 
 ghost use Rattle.std.specs.Prelude.{◌≡◌, ℕ, ◌+◌, ◌<◌, ◌^◌};
 ghost use Rattle.module_ast.specs.Seen.{code_of};
-ghost use Rattle.wasm_run.specs.Running.{Run, configuration_of, HoldsIf, IsInside, StepsInside, CallsOwn, IsSizeOf, EntersOwn};
+ghost use Rattle.wasm_run.specs.Running.{Run, configuration_of, HoldsIf, IsInside, StepsInside, CallsOwn, IsSizeOf, EntersOwn, one_more};
+ghost use Rattle.wasm_run.specs.Answering.{CallsFunction};
+ghost use Rattle.wasm_sem.specs.Link.{hook, host};
 
 use crate::advance::{Did, advance};
 use crate::call::{Size, call_own};
+use crate::host::{answer, return_numbers};
 use crate::stack::Stack;
 use module_ast::code::Instr;
 use module_ast::module::{Body, FuncType, Module};
@@ -25,9 +28,11 @@ pub(crate) struct Running<'m> {
     stack: Stack<'m>,
     memory: Memory,
     globals: Globals,
+    hosts: u64,
 }
 
 impl<'m> Model for Running<'m> {
+    ghost use Rattle.wasm_run.specs.Beside.{HasMadeHosts};
     ghost use Rattle.wasm_run.specs.Running.{Run, IsRunning};
 
     ghost Value = { Run };
@@ -39,7 +44,7 @@ impl<'m> Model for Running<'m> {
 
     ghost view = { λ a. record { «module» = a.module.now; script = a.script.now; made = a.made } };
 
-    ghost invariant = { λ a. IsRunning a.module.now a.script.now a.made a.stack a.memory a.globals };
+    ghost invariant = { λ a. IsRunning a.module.now a.script.now a.made a.stack a.memory a.globals × HasMadeHosts a.module.now a.script.now a.made a.hosts };
 }
 
 impl<'m> Running<'m> {
@@ -77,6 +82,7 @@ impl<'m> Running<'m> {
             Did::Calls => Ok(Did::Calls),
         }
     }
+
     /// A call of a function of the module is made, with the code behind it, or traps where there are too many frames. Its
     /// frame gets all the memory that it needs now. After an `Err` all is as it was. (Standard, 4.4.7)
     pub fn enter_own(
@@ -110,5 +116,29 @@ impl<'m> Running<'m> {
                 Err(error)
             }
         }
+    }
+    /// A call of a hook, with the code behind it: it is answered with zeros and changes nothing else.
+    pub fn call_hook(&mut self, rest: &'m [Instr], ty: &FuncType)
+        requires few { self.old.made < 2 ^ 63 }
+        requires calls { (f : ℕ) × CallsFunction self.old.module (configuration_of self.old) f (code_of rest.now) (hook ty.now) }
+        ensures { self.new ≡ one_more self.old }
+    {
+        self.stack.go_on(rest);
+        return_numbers(&mut self.stack, ty, &[]);
+        self.made += 1;
+    }
+
+    /// A call of a host function, with the code behind it: the script's next answer is given, or, past the last one, zeros.
+    /// (Standard, 4.4.7)
+    pub fn call_host(&mut self, rest: &'m [Instr], ty: &FuncType)
+        requires few { self.old.made < 2 ^ 63 }
+        requires calls { (f : ℕ) × CallsFunction self.old.module (configuration_of self.old) f (code_of rest.now) (host ty.now) }
+        ensures { self.new ≡ one_more self.old }
+    {
+        self.stack.go_on(rest);
+        let given = self.script.hosts.as_slice().get(self.hosts as usize);
+        answer(&mut self.stack, &mut self.memory, ty, given);
+        self.hosts += 1;
+        self.made += 1;
     }
 }
