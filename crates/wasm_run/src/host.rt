@@ -3,14 +3,14 @@
 ghost use Rattle.std.specs.Prelude.{◌≡◌, ◌+◌, ◌≤◌, length, drop, All};
 ghost use Rattle.module_ast.specs.Typing.{push};
 ghost use Rattle.wasm_sem.specs.Link.{IsWriteInRange};
-ghost use Rattle.wasm_sem.specs.Store.{value_of, values_of, writes_done, written_memory};
+ghost use Rattle.wasm_sem.specs.Store.{value_of, values_of, answer_at, writes_done, written_memory};
 ghost use Rattle.wasm_run.specs.Answering.{returned_with, answer_given};
 
 use crate::stack::Stack;
 use module_ast::module::FuncType;
 use run_store::memory::Memory;
 use wasm_num::{ValType, Value};
-use wasm_sem::{HostAnswer, HostWrite};
+use wasm_sem::{HostAnswer, HostWrite, Script};
 
 // The value that a number of the script stands for, modulo its width. (Standard, 4.2.1)
 fn value_of(ty: ValType, number: i128) -> Value
@@ -43,6 +43,13 @@ fn write_all(memory: &mut Memory, writes: &[HostWrite])
         // one that ends past the memory is left out
         let _ = memory.write(u64::from(write.address), write.bytes.as_slice());
     }
+}
+
+/// The answer to a host call, where so many were made before, if the script has one.
+pub(crate) fn next_answer(script: &Script, hosts: u64) -> Option<&HostAnswer>
+    ensures { answer_given result ≡ answer_at script.now.hosts hosts }
+{
+    script.hosts.as_slice().get(hosts as usize)
 }
 
 /// A call is answered with these numbers: the arguments are taken, and the results put on top, for which there is room. A

@@ -8,7 +8,7 @@ ghost use Rattle.wasm_sem.specs.Link.{hook, host};
 
 use crate::advance::{Did, advance};
 use crate::call::{Size, call_own};
-use crate::host::{answer, return_numbers};
+use crate::host::{answer, next_answer, return_numbers};
 use crate::stack::Stack;
 use module_ast::code::Instr;
 use module_ast::module::{Body, FuncType, Module};
@@ -136,7 +136,7 @@ impl<'m> Running<'m> {
         ensures { self.new ≡ one_more self.old }
     {
         self.stack.go_on(rest);
-        let given = self.script.hosts.as_slice().get(self.hosts as usize);
+        let given = next_answer(self.script, self.hosts);
         answer(&mut self.stack, &mut self.memory, ty, given);
         self.hosts += 1;
         self.made += 1;
