@@ -1,29 +1,93 @@
-// Copies of names and of constant expressions.
+// Copies of the parts of a module.
 
 ghost use Rattle.std.specs.Prelude.{◌≡◌, IfOk};
 
 use crate::Remap;
 use module_ast::code::Code;
+use module_ast::module::{FuncType, GlobalDef, Import, Segment};
 use module_ast::name::Name;
+use module_ast::seq::Seq;
 use std::alloc::{AllocError, Global};
 
-// The name once more.
-#[tactic(auto, using(leb_binary::proofs::Texts::texts_alike))]
-pub(crate) fn copy_name(alloc: Global, name: &Name) -> Result<Name, AllocError>
-    ensures { IfOk result (λ copy. copy ≡ name.now) }
-{
-    let text = String::from_str(alloc, name.as_str())?;
-    Ok(Name::from_string(text))
+// A part that is copied with all that it holds.
+pub(crate) trait Part: Sized + Drop {
+    // It once more. An `Err` comes where there is no memory.
+    fn copy(&self, alloc: Global) -> Result<Self, AllocError>
+        ensures { IfOk result (λ copy. copy ≡ self.now) };
 }
 
-// The code once more: nothing is added to its calls.
-#[tactic(auto, using(crate::proofs::Nothing::map_tree_nothing, crate::proofs::Nothing::maps_nothing))]
-pub(crate) fn copy_code(alloc: Global, code: &Code) -> Result<Code, AllocError>
-    ensures { IfOk result (λ copy. copy ≡ code.now) }
+// These parts once more.
+pub(crate) fn copy_parts<T: Part>(alloc: Global, parts: &Seq<T>) -> Result<Seq<T>, AllocError>
+    ensures { IfOk result (λ copies. copies ≡ parts.now) }
 {
-    let nothing = Remap {
-        imports: 0,
-        added: 0,
-    };
-    nothing.map_code(alloc, code)
+    let items = parts.as_slice();
+    let mut copies = Vec::with_capacity(alloc, items.len())?;
+    for part in items {
+        copies.push(part.copy(alloc)?)?;
+    }
+    Ok(Seq::from_vec(copies))
+}
+
+// These values once more.
+pub(crate) fn copy_list<T: Copy>(alloc: Global, list: &Seq<T>) -> Result<Seq<T>, AllocError>
+    ensures { IfOk result (λ copy. copy ≡ list.now) }
+{
+    let items = Vec::from_slice(alloc, list.as_slice())?;
+    Ok(Seq::from_vec(items))
+}
+
+impl Part for Name {
+    #[tactic(auto, using(leb_binary::proofs::Texts::texts_alike))]
+    fn copy(&self, alloc: Global) -> Result<Name, AllocError> {
+        let text = String::from_str(alloc, self.as_str())?;
+        Ok(Name::from_string(text))
+    }
+}
+
+impl Part for Code {
+    // Nothing is added to its calls.
+    #[tactic(auto, using(crate::proofs::Nothing::map_tree_nothing, crate::proofs::Nothing::maps_nothing))]
+    fn copy(&self, alloc: Global) -> Result<Code, AllocError> {
+        let nothing = Remap {
+            imports: 0,
+            added: 0,
+        };
+        nothing.map_code(alloc, self)
+    }
+}
+
+impl Part for FuncType {
+    fn copy(&self, alloc: Global) -> Result<FuncType, AllocError> {
+        let params = copy_list(alloc, &self.params)?;
+        let results = copy_list(alloc, &self.results)?;
+        Ok(FuncType { params, results })
+    }
+}
+
+impl Part for Import {
+    fn copy(&self, alloc: Global) -> Result<Import, AllocError> {
+        let module = self.module.copy(alloc)?;
+        let name = self.name.copy(alloc)?;
+        let item = self.item;
+        Ok(Import { module, name, item })
+    }
+}
+
+impl Part for GlobalDef {
+    fn copy(&self, alloc: Global) -> Result<GlobalDef, AllocError> {
+        let init = self.init.copy(alloc)?;
+        Ok(GlobalDef { ty: self.ty, init })
+    }
+}
+
+impl Part for Segment {
+    fn copy(&self, alloc: Global) -> Result<Segment, AllocError> {
+        let offset = self.offset.copy(alloc)?;
+        let bytes = copy_list(alloc, &self.bytes)?;
+        Ok(Segment {
+            memory: self.memory,
+            offset,
+            bytes,
+        })
+    }
 }

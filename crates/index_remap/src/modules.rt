@@ -1,14 +1,14 @@
-// The parts of a module that refer to functions, remapped.
+// Modules with their references to functions remapped.
 
 ghost use Rattle.std.specs.Prelude.{◌≡◌, All, IfOk, map, option_map};
 ghost use Rattle.std.specs.Option.{ForSome};
 ghost use Rattle.module_ast.specs.declared.module.Element.{Element};
 ghost use Rattle.module_ast.specs.declared.module.Export.{Export};
-ghost use Rattle.index_remap.specs.Remap.{map_index, map_reference, map_export, map_element, MapsIndex, MapsReference};
+ghost use Rattle.index_remap.specs.Remap.{map_index, map_reference, map_export, map_element, map_module, MapsIndex, MapsReference, MapsModule};
 
 use crate::Remap;
-use crate::copies::{copy_code, copy_name};
-use module_ast::module::{Element, Export, ExportKind};
+use crate::copies::{Part, copy_list, copy_parts};
+use module_ast::module::{Element, Export, ExportKind, Module};
 use module_ast::seq::Seq;
 use std::alloc::{AllocError, Global};
 
@@ -29,7 +29,7 @@ impl Remap {
         requires { MapsReference self.now export.now.kind export.now.index }
         ensures { IfOk result (λ copy. copy ≡ map_export self.now export.now) }
     {
-        let name = copy_name(alloc, &export.name)?;
+        let name = export.name.copy(alloc)?;
         let kind = export.kind;
         let index = self.map_reference(kind, export.index);
         Ok(Export { name, kind, index })
@@ -74,7 +74,7 @@ impl Remap {
         requires { All (MapsIndex self.now) element.now.funcs }
         ensures { IfOk result (λ copy. copy ≡ map_element self.now element.now) }
     {
-        let offset = copy_code(alloc, &element.offset)?;
+        let offset = element.offset.copy(alloc)?;
         let funcs = self.map_funcs(alloc, element.funcs.as_slice())?;
         Ok(Element {
             table: element.table,
@@ -98,5 +98,27 @@ impl Remap {
             copies.push(self.map_element(alloc, element)?)?;
         }
         Ok(Seq::from_vec(copies))
+    }
+
+    /// A copy of the module without its bodies, in which exports, elements and start name the functions of the output. All
+    /// else is as it was. An `Err` comes where there is no memory.
+    pub fn map_module(&self, alloc: Global, m: &Module) -> Result<Module, AllocError>
+        requires { MapsModule self.now m.now }
+        ensures { IfOk result (λ copy. copy ≡ map_module self.now m.now) }
+    {
+        Ok(Module {
+            types: copy_parts(alloc, &m.types)?,
+            imports: copy_parts(alloc, &m.imports)?,
+            funcs: copy_list(alloc, &m.funcs)?,
+            tables: copy_list(alloc, &m.tables)?,
+            memories: copy_list(alloc, &m.memories)?,
+            globals: copy_parts(alloc, &m.globals)?,
+            exports: self.map_exports(alloc, m.exports.as_slice())?,
+            start: self.map_start(m.start),
+            elements: self.map_elements(alloc, m.elements.as_slice())?,
+            bodies: Seq::from_vec(Vec::new(alloc)),
+            segments: copy_parts(alloc, &m.segments)?,
+            customs: copy_parts(alloc, &m.customs)?,
+        })
     }
 }

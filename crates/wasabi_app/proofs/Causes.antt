@@ -9,7 +9,7 @@ use Rattle.wasabi_app.specs.Texts.{no_memory_text}
 use Rattle.wasabi_app.specs.Printing.{ShelfState, PrintState, Said, said, said_part, said_no_memory}
 use Rattle.wasabi_app.specs.Loading.{Refutes, malformed, floats, over_limit, broken_rule, invalid_body, no_memory, ReadCause, missing, too_long, unread, refuted, unloaded_no_memory}
 use Rattle.wasabi_app.specs.Ends as ends
-use Rattle.wasabi_app.specs.Ends.{Status, IsDone, IsWritten, IsWrittenPart, Cause, no_command, unloaded, of_other_form, unwritten, memory_ended, Answers, checked, instrumented, Ends, answered, refused, IsOf, IsUnread, IsOtherForm}
+use Rattle.wasabi_app.specs.Ends.{Status, IsDone, IsWritten, IsWrittenPart, Cause, no_command, unloaded, hooks_taken, too_large, unwritten, memory_ended, Answers, checked, instrumented, Ends, answered, refused, IsOf, IsUnread, IsTaken, IsTooLarge}
 use Rattle.wasabi_app.proofs.Files.{fault_no_module, broken_invalid, body_invalid}
 
 -- what each status tells
@@ -23,8 +23,8 @@ Why words old new before after status =
     cond (eqb status 6) (IsOf words old.contents (λ limits bytes. IsNoModule bytes)) (
     cond (eqb status 7) (IsOf words old.contents IsUnfit) (
     cond (eqb status 8) (IsOf words old.contents IsInvalid) (
-    cond (eqb status 15) (((text : List ℕ) × Answers words old new text) × Rose before.faults after.faults) (
-    cond (eqb status 17) (IsOtherForm words old.contents) (Unit {0}))))))))))
+    cond (eqb status 9) (IsTaken words old.contents ⊎ IsTooLarge words old.contents) (
+    cond (eqb status 15) (((text : List ℕ) × Answers words old new text) × Rose before.faults after.faults) (Unit {0}))))))))))
 
 -- a status with which something may have been written
 abbrev pub IsLate : ℕ → Type 0
@@ -77,8 +77,10 @@ cause_inverted : {words : List (List ℕ)} {old new : ShelfState} {before after 
     → Inverted words old new before after status
 cause_inverted _ _ (no_command r u) = record { known = ends.bad_words; why = r; stands = inl u; asked = λ _. inl refl }
 cause_inverted _ _ (unloaded read status text s r u) = unloaded_inverted read status text s u r
-cause_inverted _ _ (of_other_form line m l is n u) =
-    record { known = ends.other_form; why = (line, m, l, is, n); stands = inl u; asked = λ r. absurd (r (to_instrument line) l) }
+cause_inverted _ _ (hooks_taken line m l is n u) =
+    record { known = ends.no_output; why = inl (line, m, l, is, n); stands = inl u; asked = λ r. absurd (r (to_instrument line) l) }
+cause_inverted _ _ (too_large line m l is f n u) =
+    record { known = ends.no_output; why = inr (line, m, l, is, f, n); stands = inl u; asked = λ r. absurd (r (to_instrument line) l) }
 cause_inverted _ _ (unwritten line written h r p) = record {
   known = ends.write_failed;
   why = (r, (line, written, h, p));
@@ -96,7 +98,8 @@ cause_shelf : {words : List (List ℕ)} {old new : ShelfState} (status : ℕ) (t
     → Unchanged old.contents new.contents ⊎ IsWrittenPart words old.contents new.contents
 cause_shelf _ _ (no_command r u) = inl u
 cause_shelf _ _ (unloaded read status text s r u) = inl u
-cause_shelf _ _ (of_other_form line m l is n u) = inl u
+cause_shelf _ _ (hooks_taken line m l is n u) = inl u
+cause_shelf _ _ (too_large line m l is f n u) = inl u
 cause_shelf _ _ (unwritten line written h r p) = inr (line, written, h, p)
 cause_shelf _ _ (memory_ended w) = w
 
@@ -161,7 +164,7 @@ any_shelf status x = elim ((ends_inverted status x).stands) [ inl u ↦ inl u | 
 pub check_no_line : (words : List (List ℕ)) (subject : List ℕ) (line : Line) → IsCheck words subject → IsLine words line → ⊥
 check_no_line words subject line (o, c) l =
     let p = c.order in
-    let q = l.order in
+    let q = l.asks.order in
     let e : codes "check" ≡ codes "instrument" = cc in
     cc
 

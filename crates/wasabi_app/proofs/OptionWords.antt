@@ -1,11 +1,11 @@
 -- What options say, and when words are a command.
-use Rattle.std.proofs.Common.{◌≡◌, ℕ, ◌≤◌, ◌-◌, inl, inr, List, [], ◌∷◌, refl, length, take, drop, ap, get_or, codes, sym, ◌∙◌, subst, arith, String, string_bytes, Option, Some, None, MatchOption}
+use Rattle.std.proofs.Common.{◌≡◌, ℕ, ◌≤◌, ◌-◌, List, [], ◌∷◌, length, take, drop, ap, get_or, codes, sym, ◌∙◌, subst, arith, String, string_bytes, Option, Some, None, MatchOption, unwrap_or}
 use Rattle.std.proofs.lemmas.List.{take_rest}
 use Rattle.std.specs.declared.alloc.Global.{Global}
 use Rattle.hook_select.specs.declared.Hooks.{Hooks}
-use Rattle.hook_select.specs.Groups.{reads, read_list}
-use Rattle.instrument.specs.Nops.{IsNopChoice, nop_group, no_groups}
-use Rattle.wasabi_app.specs.Words.{Options, Line, IsList, Adds, AreOptions, IsLine, IsRefused, to_check, to_instrument, IsValue, no_options, texts}
+use Rattle.hook_select.specs.Groups.{reads}
+use Rattle.instrument.specs.Made.{longest_output}
+use Rattle.wasabi_app.specs.Words.{Options, Line, IsList, IsBound, Adds, out_added, hooks_added, max_output_added, AreOptions, IsLine, IsRefused, to_check, to_instrument, IsValue, no_options, all_hooks, texts}
 use Rattle.wasabi_app.specs.declared.words.Options.{Options as ReadOptions}
 use Rattle.wasabi_app.specs.declared.words.Command.{Command}
 use Rattle.wasabi_app.specs.declared.words.Command.TheVariants.{Check, Instrument}
@@ -25,18 +25,29 @@ behind_three _ a b c n ha hb hc = absurd (omega arith)
 
 -- a list is one set of groups
 one_list : (text : List ℕ) (a b : Hooks) → IsList text a → IsList text b → a ≡ b
-one_list text a b p q = let e : reads a ≡ reads b = sym p.1 ∙ q.1 in cc
+one_list text a b p q = let e : reads a ≡ reads b = sym p ∙ q in cc
+
+-- a number of bytes is one number
+one_bound : (text : List ℕ) (a b : ℕ) → IsBound text a → IsBound text b → a ≡ b
+one_bound text a b p q = p.value ∙ sym q.value
 
 -- an option says one thing
 one_added : (name value : List ℕ) (old a b : Options) → Adds name value old a → Adds name value old b → a ≡ b
-one_added name value old a b (inl p) (inl q) = p.3 ∙ sym q.3
-one_added name value old a b (inl p) (inr q) = absurd (let e : codes "--out" ≡ codes "--hooks" = sym p.0 ∙ q.0 in cc)
-one_added name value old a b (inr p) (inl q) = absurd (let e : codes "--out" ≡ codes "--hooks" = sym q.0 ∙ p.0 in cc)
-one_added name value old a b (inr p) (inr q) =
-    let e = one_list value p.2.0 q.2.0 p.2.1 q.2.1 in
-    let f = p.2.2 in
-    let g = q.2.2 in
-    cc
+one_added name value old a b (out_added n e v p) (out_added m f w q) = p ∙ sym q
+one_added name value old a b (hooks_added g n e v p) (hooks_added h m f w q) =
+    p ∙ ap (λ x. record old { hooks = Some x }) (one_list value g h v w) ∙ sym q
+one_added name value old a b (max_output_added g n e v p) (max_output_added h m f w q) =
+    p ∙ ap (λ x. record old { bound = Some x }) (one_bound value g h v w) ∙ sym q
+one_added name value old a b (out_added n e v p) (hooks_added h m f w q) = absurd (let k : codes "--out" ≡ codes "--hooks" = sym n ∙ m in cc)
+one_added name value old a b (out_added n e v p) (max_output_added h m f w q) =
+    absurd (let k : codes "--out" ≡ codes "--max-output" = sym n ∙ m in cc)
+one_added name value old a b (hooks_added g n e v p) (out_added m f w q) = absurd (let k : codes "--hooks" ≡ codes "--out" = sym n ∙ m in cc)
+one_added name value old a b (hooks_added g n e v p) (max_output_added h m f w q) =
+    absurd (let k : codes "--hooks" ≡ codes "--max-output" = sym n ∙ m in cc)
+one_added name value old a b (max_output_added g n e v p) (out_added m f w q) =
+    absurd (let k : codes "--max-output" ≡ codes "--out" = sym n ∙ m in cc)
+one_added name value old a b (max_output_added g n e v p) (hooks_added h m f w q) =
+    absurd (let k : codes "--max-output" ≡ codes "--hooks" = sym n ∙ m in cc)
 
 -- so do options
 one_options : (words : List (List ℕ)) (old a b : Options) → AreOptions words old a → AreOptions words old b → a ≡ b
@@ -62,9 +73,12 @@ refused_behind : (program mode subject : List ℕ) (rest : List (List ℕ)) (opt
     → IsRefused (program ∷ mode ∷ subject ∷ rest)
 refused_behind program mode subject rest options are none (to_check s) (o, a) = none.no_check (let e = a.order in cc)
 refused_behind program mode subject rest options are none (to_instrument line) a =
-    let e = a.order in
-    let same : a.rest ≡ rest = cc in
-    none.no_line line.target line.hooks (cc) (one_options rest no_options _ _ are (subst (λ x. AreOptions x no_options _) same a.given))
+    let e = a.asks.order in
+    let same : a.asks.rest ≡ rest = cc in
+    let one : options ≡ a.options = one_options rest no_options options a.options are (subst (λ x. AreOptions x no_options a.options) same a.asks.given) in
+    let missing : options.target ≡ None = none.no_line (cc) in
+    let there = a.target in
+    cc
 
 -- the command of words with this mode, subject and options
 pub command_behind : (result : Option Command) (program mode subject : List ℕ) (rest : List (List ℕ)) (options : Options) → IsValue subject
@@ -74,35 +88,57 @@ command_behind None program mode subject rest options v are none = refused_behin
 command_behind (Some (Check s)) program mode subject rest options v are is =
     (options, record { program = program; rest = rest; order = let e = is.0 in let f = is.1 in cc; named = subst IsValue (sym is.1) v; given = are })
 command_behind (Some (Instrument line)) program mode subject rest options v are is = record {
-  program = program;
-  rest = rest;
-  order = let e = is.0 in let f = is.1 in cc;
-  named = subst IsValue (sym is.1) v;
-  given = subst (AreOptions rest no_options) is.2 are;
+  options = options;
+  asks = record {
+    program = program;
+    rest = rest;
+    order = let e = is.0 in let f = is.1 in cc;
+    named = subst IsValue (sym is.1) v;
+    given = are;
+  };
+  target = is.2;
+  hooks = is.3;
+  bound = is.4;
 }
 
--- a list that is taken is one of two choices
-list_choice : (text : List ℕ) (hooks : Hooks) → IsList text hooks → IsNopChoice hooks
-list_choice text hooks (inl e, r) =
-    let f : reads nop_group ≡ reads hooks = subst (λ t. read_list t ≡ reads hooks) e r in
-    inr (cc)
-list_choice text hooks (inr e, r) =
-    let f : reads no_groups ≡ reads hooks = subst (λ t. read_list t ≡ reads hooks) e r in
-    inl (cc)
+-- lines with the same parts
+abbrev line_with : (subject target : List ℕ) → Hooks → (bound : ℕ) → Line
+line_with subject target hooks bound = record { subject = subject; target = target; hooks = hooks; bound = bound }
 
--- the groups of options are one of them
-abbrev HasChoice : Options → Type 0
-HasChoice o = (hooks : Hooks) → o.hooks ≡ Some hooks → IsNopChoice hooks
+same_line : (a b : Line) → a.subject ≡ b.subject → a.target ≡ b.target → a.hooks ≡ b.hooks → a.bound ≡ b.bound → a ≡ b
+same_line a b e f g h =
+    ap (λ s. line_with s a.target a.hooks a.bound) e ∙ ap (λ t. line_with b.subject t a.hooks a.bound) f
+    ∙ ap (λ x. line_with b.subject b.target x a.bound) g ∙ ap (line_with b.subject b.target b.hooks) h
 
-added_choice : (name value : List ℕ) (old new : Options) → Adds name value old new → HasChoice old → HasChoice new
-added_choice name value old new (inl a) c = λ hooks e. c hooks (let f = a.3 in cc)
-added_choice name value old new (inr a) c = λ hooks e. list_choice value hooks (subst (IsList value) (let f = a.2.2 in cc) a.2.1)
+-- words are one line
+pub one_line : (words : List (List ℕ)) (a b : Line) → IsLine words a → IsLine words b → a ≡ b
+one_line words a b p q =
+    let e = p.asks.order in
+    let f = q.asks.order in
+    let rest : p.asks.rest ≡ q.asks.rest = cc in
+    let subject : a.subject ≡ b.subject = cc in
+    let one : p.options ≡ q.options = one_options q.asks.rest no_options p.options q.options (subst (λ x. AreOptions x no_options p.options) rest p.asks.given) q.asks.given in
+    let g : Some a.target ≡ Some b.target = sym p.target ∙ ap (λ (o : Options). o.target) one ∙ q.target in
+    let target : a.target ≡ b.target = cc in
+    let hooks : a.hooks ≡ b.hooks = p.hooks ∙ ap (λ (o : Options). unwrap_or o.hooks all_hooks) one ∙ sym q.hooks in
+    let bound : a.bound ≡ b.bound = p.bound ∙ ap (λ (o : Options). unwrap_or o.bound longest_output) one ∙ sym q.bound in
+    same_line a b subject target hooks bound
 
-options_choice : (words : List (List ℕ)) (old new : Options) → AreOptions words old new → HasChoice old → HasChoice new
-options_choice [] old new e c = subst HasChoice (sym e) c
-options_choice (name ∷ []) old new e c = absurd e
-options_choice (name ∷ value ∷ rest) old new (mid, a, r) c = options_choice rest mid new r (added_choice name value old mid a c)
+-- a bound that is given is no more than the most that is written
+abbrev HasBound : Options → Type 0
+HasBound o = unwrap_or o.bound longest_output ≤ longest_output
 
--- so are those of a line
-pub line_choice : (words : List (List ℕ)) (line : Line) → IsLine words line → IsNopChoice line.hooks
-line_choice words line l = options_choice l.rest no_options _ l.given (λ hooks e. absurd (let f : None ≡ Some hooks = e in cc)) line.hooks refl
+added_bound : (name value : List ℕ) (old new : Options) → Adds name value old new → HasBound old → HasBound new
+added_bound name value old new (out_added n e v p) h = subst HasBound (sym p) h
+added_bound name value old new (hooks_added g n e v p) h = subst HasBound (sym p) h
+added_bound name value old new (max_output_added g n e v p) h = subst HasBound (sym p) v.most
+
+options_bound : (words : List (List ℕ)) (old new : Options) → AreOptions words old new → HasBound old → HasBound new
+options_bound [] old new e h = subst HasBound (sym e) h
+options_bound (name ∷ []) old new e h = absurd e
+options_bound (name ∷ value ∷ rest) old new (mid, a, r) h = options_bound rest mid new r (added_bound name value old mid a h)
+
+-- so is that of a line
+pub line_bound : (words : List (List ℕ)) (line : Line) → IsLine words line → line.bound ≤ longest_output
+line_bound words line l =
+    subst (λ n. n ≤ longest_output) (sym l.bound) (options_bound l.asks.rest no_options _ l.asks.given (omega arith))

@@ -11,9 +11,8 @@ use Rattle.wasabi_app.specs.Texts.{wrote_text, no_memory_text, unwritten_text, o
 use Rattle.wasabi_app.specs.Printing.{ShelfState}
 use Rattle.wasabi_app.specs.Files.{IsFit, wide_file}
 use Rattle.wasabi_app.specs.Reads.{module_read, IsRead, Reads, IsLoaded}
-use Rattle.wasabi_app.specs.Taken.{IsTaken}
-use Rattle.wasabi_app.specs.Making.{hook_count, IsOutputMade, OutputCause, form, unmade_no_memory}
-use Rattle.wasabi_app.specs.Ends.{HasOutput, Cause, of_other_form, unwritten, memory_ended, Answers, checked, instrumented}
+use Rattle.wasabi_app.specs.Making.{hook_count, IsOutputMade, OutputCause, taken, large, unmade_no_memory}
+use Rattle.wasabi_app.specs.Ends.{HasOutput, Cause, hooks_taken, too_large, unwritten, memory_ended, Answers, checked, instrumented}
 use Rattle.wasabi_app.proofs.Files.{one_module}
 
 -- the first read of a command
@@ -43,41 +42,42 @@ answers_checked words old new subject text m c is u e =
 
 -- a valid module that has no output
 pub refuses_unmade : (words : List (List ℕ)) (old new : ShelfState) (line : Line) (m : Module) (status : ℕ) (text : List ℕ) → IsLine words line
-    → IsLoaded old.contents line.subject narrow_file narrow m → Unchanged old.contents new.contents → OutputCause line.subject m status text
+    → IsLoaded old.contents line.subject narrow_file narrow m → Unchanged old.contents new.contents → OutputCause line m status text
     → Cause words old new status text
-refuses_unmade words old new line m _ _ l is u (form n) = of_other_form line m l is n u
+refuses_unmade words old new line m _ _ l is u (taken n) = hooks_taken line m l is n u
+refuses_unmade words old new line m _ _ l is u (large f n) = too_large line m l is f n u
 refuses_unmade words old new line m _ _ l is u unmade_no_memory =
     memory_ended (inl u)
 
 -- an output that was made
 pub has_output : (words : List (List ℕ)) (old : ShelfState) (line : Line) (m : Module) (output text : List ℕ) → IsLine words line
-    → IsLoaded old.contents line.subject narrow_file narrow m → IsOutputMade m line.hooks output text
+    → IsLoaded old.contents line.subject narrow_file narrow m → IsOutputMade m line output text
     → (has : HasOutput words old.contents line output) × (hook_count has.instrumented.original line.hooks ≡ hook_count m line.hooks)
 has_output words old line m output text l is made =
-    let i = made.instrumented is.bytes is.fit.spelled is.fit.within in
+    let i = made.made.instrumented is.bytes is.fit.spelled is.read.short in
     let same : i.original ≡ m = one_module is.bytes i.original m i.accepted.spelled is.fit.spelled in (
-      record { bytes = is.bytes; command = l; subject = is.read; instrumented = i; taken = subst IsTaken (sym same) made.taken },
+      record { bytes = is.bytes; command = l; subject = is.read; instrumented = i; within = made.made.within },
       ap (λ x. hook_count x line.hooks) same,
     )
 
 -- and that was written
 pub answers_written : (words : List (List ℕ)) (old new : ShelfState) (line : Line) (m : Module) (output text : List ℕ) → IsLine words line
-    → IsLoaded old.contents line.subject narrow_file narrow m → IsOutputMade m line.hooks output text
+    → IsLoaded old.contents line.subject narrow_file narrow m → IsOutputMade m line output text
     → Wrote line.target output old.contents new.contents → Answers words old new text
 answers_written words old new line m output text l is made w =
     let h = has_output words old line m output text l is made in
-    subst (Answers words old new) (ap (wrote_text (length output)) h.1 ∙ sym made.line) (instrumented line output h.0 w)
+    subst (Answers words old new) (ap (wrote_text (length output)) h.1 ∙ sym made.says) (instrumented line output h.0 w)
 
 -- or that could not be
 pub refuses_unwritten : (words : List (List ℕ)) (old new : ShelfState) (line : Line) (m : Module) (output text : List ℕ) → IsLine words line
-    → IsLoaded old.contents line.subject narrow_file narrow m → IsOutputMade m line.hooks output text → Rose old.writes new.writes
+    → IsLoaded old.contents line.subject narrow_file narrow m → IsOutputMade m line output text → Rose old.writes new.writes
     → WrotePart line.target output old.contents new.contents → Cause words old new 5 (unwritten_text line.target)
 refuses_unwritten words old new line m output text l is made r w =
     unwritten line output (has_output words old line m output text l is made).0 r w
 
 -- or for which there was no memory then
 pub refuses_written : (words : List (List ℕ)) (old new : ShelfState) (line : Line) (m : Module) (output text : List ℕ) → IsLine words line
-    → IsLoaded old.contents line.subject narrow_file narrow m → IsOutputMade m line.hooks output text
+    → IsLoaded old.contents line.subject narrow_file narrow m → IsOutputMade m line output text
     → WrotePart line.target output old.contents new.contents → Cause words old new 14 no_memory_text
 refuses_written words old new line m output text l is made w =
     memory_ended (inr (line, output, (has_output words old line m output text l is made).0, w))

@@ -4,18 +4,18 @@ use Rattle.outside_io.specs.Outside.{Contents, WhereKnown}
 use Rattle.module_ast.specs.declared.module.Limits.{Limits}
 use Rattle.module_ast.specs.declared.module.Module.{Module}
 use Rattle.module_ast.specs.Decoding.{Gram}
-use Rattle.module_ast.specs.Validity.{IsValid}
 use Rattle.module_ast.specs.Limits.{narrow, wide}
 use Rattle.instrument.specs.Made.{narrow_file}
-use Rattle.instrument.proofs.NopValid.{dressed_valid}
+use Rattle.wasm_sem.specs.Link.{IsFree}
 use Rattle.wasabi_app.specs.Words.{Line, IsLine, IsCheck, IsRefused, Task, to_check, to_instrument, AsksFor}
 use Rattle.wasabi_app.specs.Files.{IsValidFile, IsNoModule, IsUnfit, IsInvalid, wide_file}
-use Rattle.wasabi_app.specs.Taken.{IsTaken}
 use Rattle.wasabi_app.specs.Reads.{Want, valid_module, Read, module_read, reads_of, OfModule, IsGood, IsReached, Reads, IsLoaded}
 use Rattle.wasabi_app.specs.Printing.{ShelfState, shelf_state, PrintState}
 use Rattle.wasabi_app.specs.Ends as ends
-use Rattle.wasabi_app.specs.Ends.{Status, HasOutput, Answers, checked, instrumented, Ends, IsKept, Decides, IsAboveCap, IsFile, IsOtherForm, ChecksAll, Completes}
+use Rattle.wasabi_app.specs.Ends.{Status, HasOutput, Answers, checked, instrumented, Ends, IsKept, Decides, IsAboveCap, IsFile, IsTaken, IsTooLarge, ChecksAll, Completes}
 use Rattle.wasabi_app.proofs.Files.{one_module, unfit_not_malformed, fit_not_malformed, fit_not_unfit, valid_not_invalid}
+use Rattle.wasabi_app.specs.Making.{output_length}
+use Rattle.wasabi_app.proofs.OptionWords.{one_line}
 use Rattle.wasabi_app.proofs.Causes.{Why, ends_inverted, check_no_line}
 
 -- what bytes are for a read of a module, by the status
@@ -117,10 +117,7 @@ same_reads words (to_check a) (to_check b) (o, p) (r, q) =
 same_reads words (to_check a) (to_instrument b) p q = absurd (check_no_line words a b p q)
 same_reads words (to_instrument a) (to_check b) p q = absurd (check_no_line words b a q p)
 same_reads words (to_instrument a) (to_instrument b) p q =
-    let e = p.order in
-    let f = q.order in
-    let same : a.subject ≡ b.subject = cc in
-    ap (λ s. module_read s narrow_file narrow ∷ []) same
+    ap (λ (l : Line). module_read l.subject narrow_file narrow ∷ []) (one_line words a b p q)
 
 -- the one read of a task
 loaded_good : (held : Option Contents) (name : List ℕ) (cap : ℕ) (limits : Limits) (m : Module) → IsLoaded held name cap limits m
@@ -131,13 +128,20 @@ loaded_good held name cap limits m is = ((is.bytes, is.read, (m, is.fit, is.vali
 same_loaded : (words : List (List ℕ)) (contents : Contents) (a b : Line) (m n : Module) → IsLine words a → IsLine words b
     → IsLoaded (Some contents) a.subject narrow_file narrow m → IsLoaded (Some contents) b.subject narrow_file narrow n → m ≡ n
 same_loaded words contents a b m n p q is has =
-    let e = p.order in
-    let f = q.order in
-    let same : a.subject ≡ b.subject = cc in
+    let same = ap (λ (l : Line). l.subject) (one_line words a b p q) in
     let g : contents b.subject ≡ Some is.bytes = subst (λ s. contents s ≡ Some is.bytes) same is.read.there in
     let h = has.read.there in
     let one : is.bytes ≡ has.bytes = cc in
     one_module has.bytes m n (subst (λ x. Gram x m) one is.fit.spelled) has.fit.spelled
+
+-- a module that gets its output
+abbrev IsGiven : Line → Module → Type 0
+IsGiven line m = IsFree m × (output_length m line.hooks ≤ line.bound)
+
+same_given : (words : List (List ℕ)) (contents : Contents) (a b : Line) (m n : Module) → IsLine words a → IsLine words b
+    → IsLoaded (Some contents) a.subject narrow_file narrow m → IsLoaded (Some contents) b.subject narrow_file narrow n → IsGiven a m → IsGiven b n
+same_given words contents a b m n p q is has given =
+    subst (λ x. IsGiven x n) (one_line words a b p q) (subst (IsGiven a) (same_loaded words contents a b m n p q is has) given)
 
 -- what came of a command
 data Fate (words : List (List ℕ)) (contents : Contents) (status : ℕ) : Type 0 where
@@ -146,9 +150,9 @@ data Fate (words : List (List ℕ)) (contents : Contents) (status : ℕ) : Type 
   bad : (read : Read) → Reads words (Some contents) read → Found contents read status → status ≢ 0 → Fate words contents status
   checked_well : (subject : List ℕ) (m : Module) → IsCheck words subject → IsLoaded (Some contents) subject wide_file wide m
       → (status ≡ 15) ⊎ (status ≡ 0) → Fate words contents status
-  not_taken : (line : Line) (m : Module) → IsLine words line → IsLoaded (Some contents) line.subject narrow_file narrow m → ¬ IsTaken m
-      → status ≡ 17 → Fate words contents status
-  made : (line : Line) (m : Module) → IsLine words line → IsLoaded (Some contents) line.subject narrow_file narrow m → IsTaken m
+  unmade : (line : Line) (m : Module) → IsLine words line → IsLoaded (Some contents) line.subject narrow_file narrow m → ¬ IsGiven line m
+      → status ≡ 9 → Fate words contents status
+  made : (line : Line) (m : Module) → IsLine words line → IsLoaded (Some contents) line.subject narrow_file narrow m → IsGiven line m
       → (status ≡ 5) ⊎ ((status ≡ 15) ⊎ (status ≡ 0)) → Fate words contents status
 
 output_loaded : (words : List (List ℕ)) (held : Option Contents) (line : Line) (written : List ℕ) (h : HasOutput words held line written)
@@ -157,11 +161,16 @@ output_loaded words held line written h =
     let a = h.instrumented.accepted in
     record { bytes = h.bytes; read = h.subject; fit = record { spelled = a.spelled; within = a.limits }; valid = a.valid }
 
+output_given : (words : List (List ℕ)) (held : Option Contents) (line : Line) (written : List ℕ) (h : HasOutput words held line written)
+    → IsGiven line h.instrumented.original
+output_given words held line written h =
+    (h.instrumented.accepted.free, subst (λ bytes. length bytes ≤ line.bound) h.instrumented.output h.within)
+
 answer_fate : {words : List (List ℕ)} {new : ShelfState} (contents : Contents) (reads writes : ℕ) (text : List ℕ) (status : ℕ)
     → Answers words (shelf_state (Some contents) reads writes) new text → (status ≡ 15) ⊎ (status ≡ 0) → Fate words contents status
 answer_fate contents reads writes _ status (checked subject m c is u) e = checked_well subject m c is e
 answer_fate {words = words} contents reads writes _ status (instrumented line written h w) e =
-    made line h.instrumented.original h.command (output_loaded words (Some contents) line written h) h.taken (inr e)
+    made line h.instrumented.original h.command (output_loaded words (Some contents) line written h) (output_given words (Some contents) line written h) (inr e)
 
 -- by its status
 fate : (words : List (List ℕ)) (contents : Contents) (reads writes : ℕ) (new : ShelfState) (before after : PrintState) (status : ℕ) → Status status
@@ -172,7 +181,8 @@ fate words contents reads writes new before after _ ends.unread (read, s, inl m)
 fate words contents reads writes new before after _ ends.unread (read, s, inr (long, t)) = bad read s (over (t.0, t.1, t.3)) (λ k. omega arith)
 fate words contents reads writes new before after _ ends.read_failed w = faulty (inl refl)
 fate words contents reads writes new before after _ ends.write_failed (r, (line, written, h, p)) =
-    made line h.instrumented.original h.command (output_loaded words (Some contents) line written h) h.taken (inl refl)
+    made line h.instrumented.original h.command (output_loaded words (Some contents) line written h) (output_given words (Some contents) line written h)
+    (inl refl)
 fate words contents reads writes new before after _ ends.malformed (read, bytes, s, i, p) =
     bad read s (file bytes 6 i.there i.short (judged_by (λ limits b. IsNoModule b) 6 (λ limits b q. malformed q) read.want bytes p)) (λ k. omega arith)
 fate words contents reads writes new before after _ ends.unfit (read, bytes, s, i, p) =
@@ -181,7 +191,9 @@ fate words contents reads writes new before after _ ends.invalid (read, bytes, s
     bad read s (file bytes 8 i.there i.short (judged_by IsInvalid 8 (λ limits b q. invalid q) read.want bytes p)) (λ k. omega arith)
 fate words contents reads writes new before after _ ends.no_memory w = faulty (inr refl)
 fate words contents reads writes new before after _ ends.unprinted w = answer_fate contents reads writes w.0.0 15 w.0.1 (inl refl)
-fate words contents reads writes new before after _ ends.other_form (line, m, l, is, n) = not_taken line m l is n refl
+fate words contents reads writes new before after _ ends.no_output (inl (line, m, l, is, n)) = unmade line m l is (λ g. n g.0) refl
+fate words contents reads writes new before after _ ends.no_output (inr (line, m, l, is, f, n)) =
+    unmade line m l is (λ g. omega (arith, n, g.1)) refl
 
 ends_fate : {words : List (List ℕ)} {new : ShelfState} {before after : PrintState} (contents : Contents) (reads writes status : ℕ)
     → Ends words (shelf_state (Some contents) reads writes) new before after status → Fate words contents status
@@ -206,7 +218,7 @@ fate_read words contents read status expected (bad other t g z) s f n =
     (subst (λ reads. IsReached (Some contents) reads other) (same_reads words t.task s.task t.asked s.asked) t.reached) g z s.reached f n)
 fate_read words contents read status expected (checked_well subject m c is e) s f n =
     absurd (bad_task words contents read expected (to_check subject) s f n c (loaded_good (Some contents) subject wide_file wide m is))
-fate_read words contents read status expected (not_taken line m l is t e) s f n =
+fate_read words contents read status expected (unmade line m l is t e) s f n =
     absurd (bad_task words contents read expected (to_instrument line) s f n l (loaded_good (Some contents) line.subject narrow_file narrow m is))
 fate_read words contents read status expected (made line m l is t e) s f n =
     absurd (bad_task words contents read expected (to_instrument line) s f n l (loaded_good (Some contents) line.subject narrow_file narrow m is))
@@ -226,23 +238,28 @@ decides_file held reads writes status x P expected n f =
     decides held reads writes status x (IsFile P) expected n
     (λ contents read p. file p.0 expected p.1 p.2 (judged_by P expected f read.want p.0 p.3))
 
--- a subject of another form
-fate_other : (words : List (List ℕ)) (contents : Contents) (line : Line) (m : Module) (status : ℕ) → Fate words contents status → IsLine words line
-    → IsLoaded (Some contents) line.subject narrow_file narrow m → ¬ IsTaken m → IsKept status 17
-fate_other words contents line m status (not_asked r) l is n = absurd (r (to_instrument line) l)
-fate_other words contents line m status (faulty e) l is n = inr e
-fate_other words contents line m status (bad read s f z) l is n =
+-- a subject without an output
+fate_unmade : (words : List (List ℕ)) (contents : Contents) (line : Line) (m : Module) (status : ℕ) → Fate words contents status → IsLine words line
+    → IsLoaded (Some contents) line.subject narrow_file narrow m → ¬ IsGiven line m → IsKept status 9
+fate_unmade words contents line m status (not_asked r) l is n = absurd (r (to_instrument line) l)
+fate_unmade words contents line m status (faulty e) l is n = inr e
+fate_unmade words contents line m status (bad read s f z) l is n =
     absurd (bad_task words contents read status (to_instrument line) s f z l (loaded_good (Some contents) line.subject narrow_file narrow m is))
-fate_other words contents line m status (checked_well subject k c has e) l is n = absurd (check_no_line words subject line c l)
-fate_other words contents line m status (not_taken other k p has t e) l is n = inl e
-fate_other words contents line m status (made other k p has t e) l is n =
-    absurd (n (subst IsTaken (same_loaded words contents other line k m p l has is) t))
+fate_unmade words contents line m status (checked_well subject k c has e) l is n = absurd (check_no_line words subject line c l)
+fate_unmade words contents line m status (unmade other k p has t e) l is n = inl e
+fate_unmade words contents line m status (made other k p has t e) l is n = absurd (n (same_given words contents other line k m p l has is t))
 
-pub decides_other_form : {words : List (List ℕ)} {new : ShelfState} {before after : PrintState} (held : Option Contents) (reads writes status : ℕ)
-    → Ends words (shelf_state held reads writes) new before after status → WhereKnown held (λ _. IsOtherForm words held → IsKept status 17)
-decides_other_form None reads writes status x = tt
-decides_other_form {words = words} (Some contents) reads writes status x =
-    λ (line, m, l, is, n). fate_other words contents line m status (ends_fate contents reads writes status x) l is n
+pub decides_taken : {words : List (List ℕ)} {new : ShelfState} {before after : PrintState} (held : Option Contents) (reads writes status : ℕ)
+    → Ends words (shelf_state held reads writes) new before after status → WhereKnown held (λ _. IsTaken words held → IsKept status 9)
+decides_taken None reads writes status x = tt
+decides_taken {words = words} (Some contents) reads writes status x =
+    λ (line, m, l, is, n). fate_unmade words contents line m status (ends_fate contents reads writes status x) l is (λ g. n g.0)
+
+pub decides_too_large : {words : List (List ℕ)} {new : ShelfState} {before after : PrintState} (held : Option Contents) (reads writes status : ℕ)
+    → Ends words (shelf_state held reads writes) new before after status → WhereKnown held (λ _. IsTooLarge words held → IsKept status 9)
+decides_too_large None reads writes status x = tt
+decides_too_large {words = words} (Some contents) reads writes status x =
+    λ (line, m, l, is, f, n). fate_unmade words contents line m status (ends_fate contents reads writes status x) l is (λ g. omega (arith, n, g.1))
 
 -- a valid subject that is checked
 fate_checked : (words : List (List ℕ)) (contents : Contents) (subject : List ℕ) (m : Module) (status : ℕ) → Fate words contents status → IsCheck words subject
@@ -252,7 +269,7 @@ fate_checked words contents subject m status (faulty e) c is = inr (inr e)
 fate_checked words contents subject m status (bad read s f z) c is =
     absurd (bad_task words contents read status (to_check subject) s f z c (loaded_good (Some contents) subject wide_file wide m is))
 fate_checked words contents subject m status (checked_well other k d has e) c is = elim e [ inl p ↦ inl p | inr p ↦ inr (inl p) ]
-fate_checked words contents subject m status (not_taken line k l has t e) c is = absurd (check_no_line words subject line c l)
+fate_checked words contents subject m status (unmade line k l has t e) c is = absurd (check_no_line words subject line c l)
 fate_checked words contents subject m status (made line k l has t e) c is = absurd (check_no_line words subject line c l)
 
 pub checks_all : {words : List (List ℕ)} {new : ShelfState} {before after : PrintState} (held : Option Contents) (reads writes status : ℕ)
@@ -261,27 +278,21 @@ checks_all None reads writes status x = tt
 checks_all {words = words} (Some contents) reads writes status x =
     λ subject m c is. fate_checked words contents subject m status (ends_fate contents reads writes status x) c is
 
--- a subject that is taken is valid
-taken_valid : (m : Module) → IsTaken m → IsValid m
-taken_valid m (name, count, n) =
-    subst IsValid (sym (ap (λ (x : Module). record x { customs = m.customs }) n)) (dressed_valid name count m.customs)
-
--- and gets its output
-fate_taken : (words : List (List ℕ)) (contents : Contents) (line : Line) (m : Module) (status : ℕ) → Fate words contents status → IsLine words line
-    → IsLoaded (Some contents) line.subject narrow_file narrow m → IsTaken m → (status ≡ 5) ⊎ ((status ≡ 15) ⊎ IsKept status 0)
-fate_taken words contents line m status (not_asked r) l is n = absurd (r (to_instrument line) l)
-fate_taken words contents line m status (faulty e) l is n = inr (inr (inr e))
-fate_taken words contents line m status (bad read s f z) l is n =
+-- an accepted subject whose output is no longer than the bound
+fate_given : (words : List (List ℕ)) (contents : Contents) (line : Line) (m : Module) (status : ℕ) → Fate words contents status → IsLine words line
+    → IsLoaded (Some contents) line.subject narrow_file narrow m → IsGiven line m → (status ≡ 5) ⊎ ((status ≡ 15) ⊎ IsKept status 0)
+fate_given words contents line m status (not_asked r) l is n = absurd (r (to_instrument line) l)
+fate_given words contents line m status (faulty e) l is n = inr (inr (inr e))
+fate_given words contents line m status (bad read s f z) l is n =
     absurd (bad_task words contents read status (to_instrument line) s f z l (loaded_good (Some contents) line.subject narrow_file narrow m is))
-fate_taken words contents line m status (checked_well subject k c has e) l is n = absurd (check_no_line words subject line c l)
-fate_taken words contents line m status (not_taken other k p has t e) l is n =
-    absurd (t (subst IsTaken (same_loaded words contents line other m k l p is has) n))
-fate_taken words contents line m status (made other k p has t e) l is n =
+fate_given words contents line m status (checked_well subject k c has e) l is n = absurd (check_no_line words subject line c l)
+fate_given words contents line m status (unmade other k p has t e) l is n = absurd (t (same_given words contents line other m k l p is has n))
+fate_given words contents line m status (made other k p has t e) l is n =
     elim e [ inl a ↦ inl a | inr a ↦ inr (elim a [ inl b ↦ inl b | inr b ↦ inr (inl b) ]) ]
 
 pub completes : {words : List (List ℕ)} {new : ShelfState} {before after : PrintState} (held : Option Contents) (reads writes status : ℕ)
     → Ends words (shelf_state held reads writes) new before after status → Completes words held status
 completes None reads writes status x = tt
 completes {words = words} (Some contents) reads writes status x =
-    λ line bytes m l i f n. fate_taken words contents line m status (ends_fate contents reads writes status x) l
-    (record { bytes = bytes; read = i; fit = f; valid = taken_valid m n }) n
+    λ line bytes m l i a n. fate_given words contents line m status (ends_fate contents reads writes status x) l
+    (record { bytes = bytes; read = i; fit = record { spelled = a.spelled; within = a.limits }; valid = a.valid }) (a.free, n)

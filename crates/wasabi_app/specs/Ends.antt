@@ -6,17 +6,17 @@ use Rattle.module_ast.specs.declared.module.Limits.{Limits}
 use Rattle.module_ast.specs.declared.module.Module.{Module}
 use Rattle.module_ast.specs.Limits.{narrow, wide}
 use Rattle.instrument.specs.Made.{narrow_file}
-use Rattle.instrument.specs.Accepted.{IsInstrumented}
+use Rattle.instrument.specs.Accepted.{IsAccepted, IsInstrumented}
+use Rattle.wasm_sem.specs.Link.{IsFree}
 use Rattle.wasabi_app.specs.declared.lines.Refusal.{Refusal}
 use Rattle.wasabi_app.specs.Words.{Line, IsLine, IsCheck, IsRefused}
-use Rattle.wasabi_app.specs.Files.{IsFit, wide_file}
+use Rattle.wasabi_app.specs.Files.{wide_file}
 use Rattle.wasabi_app.specs.Reads.{Read, module_read, IsRead, OfModule, Reads, IsLoaded}
-use Rattle.wasabi_app.specs.Taken.{IsTaken}
-use Rattle.wasabi_app.specs.Texts.{bad_words_text, form_text, unwritten_text, no_memory_text, wrote_text, ok_text, counts_of}
+use Rattle.wasabi_app.specs.Texts.{bad_words_text, taken_text, too_large_text, unwritten_text, no_memory_text, wrote_text, ok_text, counts_of}
 use Rattle.wasabi_app.specs.Refusals.{refusal_status, refusal_text}
 use Rattle.wasabi_app.specs.Printing.{ShelfState, PrintState, Said}
 use Rattle.wasabi_app.specs.Loading.{ReadCause}
-use Rattle.wasabi_app.specs.Making.{hook_count}
+use Rattle.wasabi_app.specs.Making.{hook_count, output_length}
 
 -- the statuses
 pub data Status : ℕ → Type 0 where
@@ -28,17 +28,17 @@ pub data Status : ℕ → Type 0 where
   malformed : Status 6
   unfit : Status 7
   invalid : Status 8
+  no_output : Status 9
   no_memory : Status 14
   unprinted : Status 15
-  other_form : Status 17
 
--- the words ask for an output, and the subject's bytes are an accepted module whose output this is
+-- the words ask for an output, and the subject's bytes are an accepted module whose output this is, no longer than the bound
 pub record HasOutput (words : List (List ℕ)) (held : Option Contents) (line : Line) (written : List ℕ) : Type 0 where
   pub bytes : List ℕ
   pub command : IsLine words line
   pub subject : IsRead held (module_read line.subject narrow_file narrow) bytes
   pub instrumented : IsInstrumented bytes line.hooks written
-  pub taken : IsTaken instrumented.original
+  pub within : length written ≤ line.bound
 
 -- the output stands under the target's name, and all else is as before
 abbrev pub IsWritten : List (List ℕ) → (old new : Option Contents) → Type 0
@@ -55,8 +55,11 @@ pub data Cause (words : List (List ℕ)) (old new : ShelfState) : (status : ℕ)
   no_command : IsRefused words → Unchanged old.contents new.contents → Cause words old new 2 bad_words_text
   unloaded : (read : Read) (status : ℕ) (text : List ℕ) → Reads words old.contents read → ReadCause read old new status text
       → Unchanged old.contents new.contents → Cause words old new status text
-  of_other_form : (line : Line) (m : Module) → IsLine words line → IsLoaded old.contents line.subject narrow_file narrow m → ¬ IsTaken m
-      → Unchanged old.contents new.contents → Cause words old new 17 (form_text line.subject)
+  hooks_taken : (line : Line) (m : Module) → IsLine words line → IsLoaded old.contents line.subject narrow_file narrow m → ¬ IsFree m
+      → Unchanged old.contents new.contents → Cause words old new 9 (taken_text line.subject)
+  too_large : (line : Line) (m : Module) → IsLine words line → IsLoaded old.contents line.subject narrow_file narrow m → IsFree m
+      → line.bound < output_length m line.hooks → Unchanged old.contents new.contents
+      → Cause words old new 9 (too_large_text (output_length m line.hooks))
   unwritten : (line : Line) (written : List ℕ) → HasOutput words old.contents line written → Rose old.writes new.writes
       → WrotePart line.target written old.contents new.contents → Cause words old new 5 (unwritten_text line.target)
   memory_ended : Unchanged old.contents new.contents ⊎ IsWrittenPart words old.contents new.contents → Cause words old new 14 no_memory_text
@@ -95,10 +98,16 @@ IsUnread words held old new =
     (read : Read) × Reads words held read
     × (IsMissing held read.name old new ⊎ ((long : ℕ) × IsTooLong held read.name read.cap long old new))
 
--- the subject is a valid module that is not taken
-abbrev pub IsOtherForm : List (List ℕ) → (held : Option Contents) → Type 0
-IsOtherForm words held =
-    (line : Line) × (m : Module) × IsLine words line × IsLoaded held line.subject narrow_file narrow m × ¬ IsTaken m
+-- the subject is a valid module that imports a hook
+abbrev pub IsTaken : List (List ℕ) → (held : Option Contents) → Type 0
+IsTaken words held =
+    (line : Line) × (m : Module) × IsLine words line × IsLoaded held line.subject narrow_file narrow m × ¬ IsFree m
+
+-- the subject is an accepted module whose output is longer than the bound
+abbrev pub IsTooLarge : List (List ℕ) → (held : Option Contents) → Type 0
+IsTooLarge words held =
+    (line : Line) × (m : Module) × IsLine words line × IsLoaded held line.subject narrow_file narrow m × IsFree m
+    × (line.bound < output_length m line.hooks)
 
 -- Where contents are told, what stands under a name that is read decides, but for faults and want of memory.
 abbrev pub IsKept : (status expected : ℕ) → Type 0
@@ -125,5 +134,5 @@ ChecksAll words held status =
 abbrev pub Completes : List (List ℕ) → Option Contents → (status : ℕ) → Type 0
 Completes words held status =
     WhereKnown held (λ _. (line : Line) (bytes : List ℕ) (m : Module) → IsLine words line
-    → IsRead held (module_read line.subject narrow_file narrow) bytes → IsFit narrow bytes m → IsTaken m
+    → IsRead held (module_read line.subject narrow_file narrow) bytes → IsAccepted bytes m → output_length m line.hooks ≤ line.bound
     → (status ≡ 5) ⊎ ((status ≡ 15) ⊎ IsKept status 0))

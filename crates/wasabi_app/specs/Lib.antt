@@ -5,7 +5,6 @@ pub mod Refusals
 pub mod Printing
 pub mod Files
 pub mod Reads
-pub mod Taken
 pub mod Loading
 pub mod Making
 pub mod Ends

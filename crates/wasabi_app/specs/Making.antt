@@ -1,26 +1,36 @@
 -- How the making of an output ends.
-use Rattle.std.specs.Prelude.{◌≡◌, ℕ, List, length}
+use Rattle.std.specs.Prelude.{◌≡◌, ◌<◌, ℕ, ◌≤◌, List, length}
 use Rattle.module_ast.specs.declared.module.Module.{Module}
 use Rattle.module_ast.specs.Decoding.{Gram}
-use Rattle.module_ast.specs.Profile.{IsWithin}
-use Rattle.module_ast.specs.Limits.{narrow}
 use Rattle.hook_select.specs.declared.Hooks.{Hooks}
 use Rattle.hook_mono.specs.Needed.{needed_keys}
+use Rattle.wasm_sem.specs.Link.{IsFree}
+use Rattle.instrument.specs.Output.{output_bytes}
+use Rattle.instrument.specs.Made.{narrow_file}
 use Rattle.instrument.specs.Accepted.{IsInstrumented}
-use Rattle.wasabi_app.specs.Taken.{IsTaken}
-use Rattle.wasabi_app.specs.Texts.{form_text, wrote_text, no_memory_text}
+use Rattle.wasabi_app.specs.Words.{Line}
+use Rattle.wasabi_app.specs.Texts.{taken_text, too_large_text, wrote_text, no_memory_text}
 
 -- how many hooks the output of a module has
 abbrev pub hook_count : Module → Hooks → ℕ
 hook_count m hooks = length (needed_keys m hooks)
 
--- the output of a module, for every file of it, and the line that tells of it
-pub record IsOutputMade (m : Module) (hooks : Hooks) (output text : List ℕ) : Type 0 where
-  pub taken : IsTaken m
-  pub instrumented : (file : List ℕ) → Gram file m → IsWithin narrow m → IsInstrumented file hooks output
-  pub line : text ≡ wrote_text (length output) (hook_count m hooks)
+-- how many bytes it has
+abbrev pub output_length : Module → Hooks → ℕ
+output_length m hooks = length (output_bytes m hooks)
+
+-- the output of a module, for every file of it, no longer than the bound
+pub record IsOutputOf (m : Module) (line : Line) (output : List ℕ) : Type 0 where
+  pub instrumented : (file : List ℕ) → Gram file m → length file ≤ narrow_file → IsInstrumented file line.hooks output
+  pub within : length output ≤ line.bound
+
+-- and the line that tells of it
+pub record IsOutputMade (m : Module) (line : Line) (output text : List ℕ) : Type 0 where
+  pub made : IsOutputOf m line output
+  pub says : text ≡ wrote_text (length output) (hook_count m line.hooks)
 
 -- there is no output
-pub data OutputCause (subject : List ℕ) (m : Module) : (status : ℕ) → (text : List ℕ) → Type 0 where
-  form : ¬ IsTaken m → OutputCause subject m 17 (form_text subject)
-  unmade_no_memory : OutputCause subject m 14 no_memory_text
+pub data OutputCause (line : Line) (m : Module) : (status : ℕ) → (text : List ℕ) → Type 0 where
+  taken : ¬ IsFree m → OutputCause line m 9 (taken_text line.subject)
+  large : IsFree m → line.bound < output_length m line.hooks → OutputCause line m 9 (too_large_text (output_length m line.hooks))
+  unmade_no_memory : OutputCause line m 14 no_memory_text

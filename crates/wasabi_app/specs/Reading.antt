@@ -1,5 +1,5 @@
 -- The words of a command as they are read, a few at a time.
-use Rattle.std.specs.Prelude.{◌≡◌, ◌≢◌, ℕ, List, Some, option_map, codes}
+use Rattle.std.specs.Prelude.{◌≡◌, ◌≢◌, ℕ, List, Some, None, option_map, unwrap_or, codes}
 use Rattle.hook_select.specs.declared.Hooks.{Hooks}
 use Rattle.wasabi_app.specs.declared.words.Line.{Line as ReadLine}
 use Rattle.wasabi_app.specs.declared.words.Options.{Options as ReadOptions}
@@ -7,24 +7,29 @@ use Rattle.wasabi_app.specs.declared.words.Command.{Command}
 use Rattle.wasabi_app.specs.declared.words.Command.TheVariants.{Check, Instrument}
 use Rattle.wasabi_app.specs.declared.lines.Counts.{Counts as ReadCounts}
 use Rattle.wasabi_app.specs.Texts.{Counts}
-use Rattle.wasabi_app.specs.Words.{Line, Options, IsList, IsLine, IsCheck, Adds, AreOptions}
+use Rattle.instrument.specs.Made.{longest_output}
+use Rattle.wasabi_app.specs.Words.{Line, Options, IsList, IsBound, IsLine, IsCheck, Adds, AreOptions, all_hooks}
 
 -- the line that was read, as its texts
 abbrev pub line_of : ReadLine → Line
-line_of line = record { subject = line.subject.now; target = line.target.now; hooks = line.hooks }
+line_of line = record { subject = line.subject.now; target = line.target.now; hooks = line.hooks; bound = line.bound }
 
 -- so the options
 abbrev pub options_of : ReadOptions → Options
-options_of o = record { target = option_map (λ t. t.now) o.target; hooks = o.hooks }
+options_of o = record { target = option_map (λ t. t.now) o.target; hooks = o.hooks; bound = o.bound }
 
 -- the words ask for this command
 abbrev pub IsCommand : List (List ℕ) → Command → Type 0
 IsCommand words (Check subject) = IsCheck words subject.now
 IsCommand words (Instrument line) = IsLine words (line_of line)
 
--- the text is no list that is taken
+-- the text is no list of groups
 abbrev pub IsNoList : (text : List ℕ) → Type 0
 IsNoList text = (hooks : Hooks) → IsList text hooks → ⊥
+
+-- the text is no number of bytes that an output may have
+abbrev pub IsNoBound : (text : List ℕ) → Type 0
+IsNoBound text = (bound : ℕ) → IsBound text bound → ⊥
 
 -- this option can't be added
 abbrev pub AddsNone : (name value : List ℕ) → Options → Type 0
@@ -38,13 +43,13 @@ AreNoOptions words old = (new : Options) → AreOptions words old new → ⊥
 abbrev pub IsModeOf : (mode subject : List ℕ) → Options → Command → Type 0
 IsModeOf mode subject options (Check s) = (mode ≡ codes "check") × (s.now ≡ subject)
 IsModeOf mode subject options (Instrument line) =
-    (mode ≡ codes "instrument") × (line.subject.now ≡ subject)
-    × (options ≡ record { target = Some line.target.now; hooks = Some line.hooks })
+    (mode ≡ codes "instrument") × (line.subject.now ≡ subject) × (options.target ≡ Some line.target.now)
+    × (line.hooks ≡ unwrap_or options.hooks all_hooks) × (line.bound ≡ unwrap_or options.bound longest_output)
 
 -- this mode with these options is no command
 pub record IsNoMode (mode : List ℕ) (options : Options) : Type 0 where
   pub no_check : mode ≢ codes "check"
-  pub no_line : (target : List ℕ) (hooks : Hooks) → mode ≡ codes "instrument" → options ≡ record { target = Some target; hooks = Some hooks } → ⊥
+  pub no_line : mode ≡ codes "instrument" → options.target ≡ None
 
 -- the counts that were made
 abbrev pub counts_in : ReadCounts → Counts

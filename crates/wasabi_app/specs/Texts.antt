@@ -54,8 +54,11 @@ body_text name func = concat_texts (codes "error 8: " ∷ name ∷ codes " has a
 abbrev pub no_memory_text : List ℕ
 no_memory_text = codes "error 14: out of memory\n"
 
-abbrev pub form_text : (name : List ℕ) → List ℕ
-form_text name = concat_texts (codes "error 17: " ∷ name ∷ codes " is of a form not built yet\n" ∷ [])
+abbrev pub taken_text : (name : List ℕ) → List ℕ
+taken_text name = concat_texts (codes "error 9: " ∷ name ∷ codes " is already instrumented\n" ∷ [])
+
+abbrev pub too_large_text : (long : ℕ) → List ℕ
+too_large_text long = concat_texts (codes "error 9: the output would be " ∷ decimal long ∷ codes " bytes\n" ∷ [])
 
 -- so many bytes, with so many hooks
 abbrev pub wrote_text : (bytes hooks : ℕ) → List ℕ

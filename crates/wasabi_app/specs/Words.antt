@@ -1,8 +1,10 @@
 -- The words of a command: which are taken, and what they ask for.
-use Rattle.std.specs.Prelude.{◌≡◌, ◌≢◌, ℕ, ◌⊎◌, List, [], ◌∷◌, map, codes, Option, Some, None, String, string_bytes}
+use Rattle.std.specs.Prelude.{◌≡◌, ◌≢◌, ℕ, ◌≤◌, List, [], ◌∷◌, map, codes, Option, Some, None, unwrap_or, String, string_bytes, true}
+use Rattle.std.specs.Str.Parse.{IsNumeral, digits_value}
 use Rattle.std.specs.declared.alloc.Global.{Global}
 use Rattle.hook_select.specs.declared.Hooks.{Hooks}
-use Rattle.hook_select.specs.Groups.{read_list, reads}
+use Rattle.hook_select.specs.Groups.{hooks_of, read_list, reads}
+use Rattle.instrument.specs.Made.{longest_output}
 
 -- texts as their bytes
 abbrev pub texts : List (String Global) → List (List ℕ)
@@ -13,23 +15,33 @@ abbrev pub IsValue : List ℕ → Type 0
 IsValue [] = ⊥
 IsValue (b ∷ bs) = b ≢ 45
 
--- the lists of groups that are taken: `nop` and `none`
-abbrev pub IsList : List ℕ → Hooks → Type 0
-IsList text hooks = ((text ≡ codes "nop") ⊎ (text ≡ codes "none")) × (read_list text ≡ reads hooks)
+-- the text is a list of these groups
+abbrev pub IsList : (text : List ℕ) → Hooks → Type 0
+IsList text hooks = read_list text ≡ reads hooks
 
--- what the options say: the target's name and the groups
+-- the text is a number of bytes: decimal digits alone, from 1 to the most that are written
+pub record IsBound (text : List ℕ) (bound : ℕ) : Type 0 where
+  pub numeral : IsNumeral 10 text
+  pub value : bound ≡ digits_value 10 text
+  pub some : 1 ≤ bound
+  pub most : bound ≤ longest_output
+
+-- what the options say: the target's name, the groups, and how many bytes the output may have
 pub record Options : Type 0 where
   pub target : Option (List ℕ)
   pub hooks : Option Hooks
+  pub bound : Option ℕ
 
 abbrev pub no_options : Options
-no_options = record { target = None; hooks = None }
+no_options = record { target = None; hooks = None; bound = None }
 
 -- an option that was not there before, with its value
-abbrev pub Adds : (name value : List ℕ) → (old new : Options) → Type 0
-Adds name value old new =
-    ((name ≡ codes "--out") × (old.target ≡ None) × IsValue value × (new ≡ record old { target = Some value }))
-    ⊎ ((name ≡ codes "--hooks") × (old.hooks ≡ None) × ((hooks : Hooks) × IsList value hooks × (new ≡ record old { hooks = Some hooks })))
+pub data Adds (name value : List ℕ) (old new : Options) : Type 0 where
+  out_added : name ≡ codes "--out" → old.target ≡ None → IsValue value → new ≡ record old { target = Some value } → Adds name value old new
+  hooks_added : (hooks : Hooks) → name ≡ codes "--hooks" → old.hooks ≡ None → IsList value hooks
+      → new ≡ record old { hooks = Some hooks } → Adds name value old new
+  max_output_added : (bound : ℕ) → name ≡ codes "--max-output" → old.bound ≡ None → IsBound value bound
+      → new ≡ record old { bound = Some bound } → Adds name value old new
 
 -- each option with its value, in any order, and each at most once
 abbrev pub AreOptions : List (List ℕ) → (old new : Options) → Type 0
@@ -49,15 +61,24 @@ pub record Asks (words : List (List ℕ)) (mode subject : List ℕ) (options : O
 abbrev pub IsCheck : List (List ℕ) → (subject : List ℕ) → Type 0
 IsCheck words subject = (options : Options) × Asks words (codes "check") subject options
 
--- the subject is to be instrumented for these groups, and written under the target's name
+-- the subject is to be instrumented for these groups, and written under the target's name where it has no more bytes
 pub record Line : Type 0 where
   pub subject : List ℕ
   pub target : List ℕ
   pub hooks : Hooks
+  pub bound : ℕ
 
--- both options are there
-abbrev pub IsLine : List (List ℕ) → Line → Type 0
-IsLine words line = Asks words (codes "instrument") line.subject (record { target = Some line.target; hooks = Some line.hooks })
+-- every group
+abbrev pub all_hooks : Hooks
+all_hooks = hooks_of (λ g. true)
+
+-- The target is given; where groups are not, they are all, and where a bound is not, it is the most that is written.
+pub record IsLine (words : List (List ℕ)) (line : Line) : Type 0 where
+  pub options : Options
+  pub asks : Asks words (codes "instrument") line.subject options
+  pub target : options.target ≡ Some line.target
+  pub hooks : line.hooks ≡ unwrap_or options.hooks all_hooks
+  pub bound : line.bound ≡ unwrap_or options.bound longest_output
 
 -- what the words ask for
 pub data Task : Type 0 where

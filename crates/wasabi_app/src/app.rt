@@ -4,7 +4,7 @@ ghost use Rattle.std.specs.Prelude.{◌≡◌, ◌≢◌, ◌≤◌, ◌⊎◌, 
 ghost use Rattle.outside_io.specs.Outside.{Rose, Unchanged, WhereKnown};
 ghost use Rattle.wasabi_app.specs.Words.{Line, IsCheck, IsLine, IsRefused, texts};
 ghost use Rattle.wasabi_app.specs.Files.{IsNoModule, IsUnfit, IsInvalid};
-ghost use Rattle.wasabi_app.specs.Ends.{ComesTo, Ends, Status, IsDone, IsWritten, IsWrittenPart, IsOf, IsUnread, IsOtherForm, Decides, IsAboveCap, IsFile, IsKept, ChecksAll, Completes};
+ghost use Rattle.wasabi_app.specs.Ends.{ComesTo, Ends, Status, IsDone, IsWritten, IsWrittenPart, IsOf, IsUnread, IsTaken, IsTooLarge, Decides, IsAboveCap, IsFile, IsKept, ChecksAll, Completes};
 ghost use Rattle.wasabi_app.specs.Printing.{ShelfState, shelf_state, print_state};
 
 use crate::check_mode::check;
@@ -17,15 +17,17 @@ use std::alloc::Global;
 use std::thread::Threads;
 
 /// Runs a command and answers its status, the first that applies. `wasabi check SUBJECT` prints the counts of a valid
-/// module, `wasabi instrument SUBJECT --out F --hooks LIST` writes its output and prints one line; each takes the other's
+/// module, `wasabi instrument SUBJECT --out F` writes its output and prints one line; `--hooks LIST` gives the groups, which
+/// are all else, and `--max-output N` how many bytes the output may have, which are 268,435,456 else. `check` takes these
 /// options, with their values, and leaves them aside.
 ///
 /// 2: the words are of no command. 3: the subject is missing, or has more bytes than 268,435,456, and 16,777,216 for
 /// `instrument`. 4: it can't be read. 6: no module has its bytes (5.5.16). 7: it is a module with a floating type or
 /// instruction, or with a quantity above its limit, which is wide for `check` and narrow for `instrument`. 8: it is not
-/// valid (3.4). Of `instrument` alone, 17: it is of a form not built yet, and 5: the output can't be written. 15: the
-/// line of the answer can't be printed. Else 0. Want of memory, 14, may come in place of each. A refusal but 15 prints its
-/// line; where the sink fails then, the status is that of the refusal all the same.
+/// valid (3.4). Of `instrument` alone, 9: it imports from the hooks' module, or its output has more bytes than it may
+/// have, and 5: the output can't be written. 15: the line of the answer can't be printed. Else 0. Want of memory, 14, may
+/// come in place of each. A refusal but 15 prints its line; where the sink fails then, the status is that of the refusal
+/// all the same.
 pub fn run_app<R: Threads + Sync, S: Shelf, K: Sink>(
     rt: &R,
     alloc: Global,
@@ -50,7 +52,8 @@ pub fn run_app<R: Threads + Sync, S: Shelf, K: Sink>(
     ensures malformed { result ≡ 6 → IsOf (texts words.now) (S.contents shelf.old) (λ limits bytes. IsNoModule bytes) }
     ensures unfit { result ≡ 7 → IsOf (texts words.now) (S.contents shelf.old) IsUnfit }
     ensures invalid { result ≡ 8 → IsOf (texts words.now) (S.contents shelf.old) IsInvalid }
-    ensures other_form { result ≡ 17 → IsOtherForm (texts words.now) (S.contents shelf.old) }
+    ensures no_output { result ≡ 9 →
+        IsTaken (texts words.now) (S.contents shelf.old) ⊎ IsTooLarge (texts words.now) (S.contents shelf.old) }
     ensures write_failed { result ≡ 5 → Rose (S.write_faults shelf.old) (S.write_faults shelf.new) }
     ensures print_failed { result ≡ 15 → Rose (K.faults out.old) (K.faults out.new) }
 
@@ -75,8 +78,10 @@ pub fn run_app<R: Threads + Sync, S: Shelf, K: Sink>(
     ensures malformed_file { Decides (texts words.now) (S.contents shelf.old) (IsFile (λ limits bytes. IsNoModule bytes)) result 6 }
     ensures unfit_file { Decides (texts words.now) (S.contents shelf.old) (IsFile IsUnfit) result 7 }
     ensures invalid_file { Decides (texts words.now) (S.contents shelf.old) (IsFile IsInvalid) result 8 }
-    ensures another_form { WhereKnown (S.contents shelf.old)
-        (λ _. IsOtherForm (texts words.now) (S.contents shelf.old) → IsKept result 17) }
+    ensures taken { WhereKnown (S.contents shelf.old)
+        (λ _. IsTaken (texts words.now) (S.contents shelf.old) → IsKept result 9) }
+    ensures too_large { WhereKnown (S.contents shelf.old)
+        (λ _. IsTooLarge (texts words.now) (S.contents shelf.old) → IsKept result 9) }
     ensures checks { ChecksAll (texts words.now) (S.contents shelf.old) result }
     ensures complete { Completes (texts words.now) (S.contents shelf.old) result }
 {

@@ -15,6 +15,4 @@ pub use app::run_app;
 #[cfg(test)]
 mod needs_tests;
 #[cfg(test)]
-mod rewrite_tests;
-#[cfg(test)]
 mod tests;

@@ -7,7 +7,7 @@ ghost use Rattle.wasabi_app.specs.Refusals.{refusal_status, refusal_text};
 use module_ast::module::Which;
 use std::alloc::{AllocError, Global};
 
-/// Why a command is refused: bad words, a fault of the outside, or what a name's bytes are.
+/// Why a command is refused: bad words, a fault of the outside, what a name's bytes are, or what their output would be.
 #[derive(Clone, Copy)]
 pub(crate) enum Refusal<'w> {
     BadWords,
@@ -45,8 +45,11 @@ pub(crate) enum Refusal<'w> {
         name: &'w str,
         func: u32,
     },
-    OtherForm {
+    HookModuleTaken {
         name: &'w str,
+    },
+    TooLarge {
+        length: u64,
     },
     NoMemory,
 }
@@ -64,8 +67,8 @@ impl Refusal<'_> {
             Refusal::Malformed { .. } => 6,
             Refusal::Floats { .. } | Refusal::OverLimit { .. } => 7,
             Refusal::BrokenRule { .. } | Refusal::InvalidBody { .. } => 8,
+            Refusal::HookModuleTaken { .. } | Refusal::TooLarge { .. } => 9,
             Refusal::NoMemory => 14,
-            Refusal::OtherForm { .. } => 17,
         }
     }
 
@@ -97,10 +100,13 @@ impl Refusal<'_> {
             Refusal::InvalidBody { name, func } => format!(in alloc;
                 "error 8: {name} has an invalid body: function {func}\n"
             ),
-            Refusal::NoMemory => String::from_str(alloc, NO_MEMORY),
-            Refusal::OtherForm { name } => format!(in alloc;
-                "error 17: {name} is of a form not built yet\n"
+            Refusal::HookModuleTaken { name } => format!(in alloc;
+                "error 9: {name} is already instrumented\n"
             ),
+            Refusal::TooLarge { length } => format!(in alloc;
+                "error 9: the output would be {length} bytes\n"
+            ),
+            Refusal::NoMemory => String::from_str(alloc, NO_MEMORY),
         }
     }
 }
@@ -122,7 +128,7 @@ fn name_of(which: Which) -> &'static str
 }
 
 /// The line of an output of so many bytes with so many hooks.
-pub(crate) fn wrote_line(alloc: Global, bytes: usize, hooks: usize) -> Result<String, AllocError>
+pub(crate) fn wrote_line(alloc: Global, bytes: usize, hooks: u32) -> Result<String, AllocError>
     ensures { IfOk result (λ line. string_bytes line ≡ wrote_text bytes hooks) }
 {
     format!(in alloc; "wrote {bytes} bytes with {hooks} hooks\n")

@@ -53,6 +53,25 @@ const TOLD: [u8; 67] = [
     0x0A, 0x0B, 0x01, 0x09, 0x00, 0x41, 0x00, 0x41, 0x00, 0x10, 0x00, 0x01, 0x0B, // code
 ];
 
+// The same function with every hook that it needs: `begin_function`, `nop`, `return_` and `end_function`.
+const ALL_TOLD: [u8; 180] = [
+    0x00, 0x61, 0x73, 0x6D, 0x01, 0x00, 0x00, 0x00, // header
+    0x01, 0x0F, 0x03, 0x60, 0x00, 0x00, 0x60, 0x02, 0x7F, 0x7F, 0x00, 0x60, 0x03, 0x7F, 0x7F, 0x7F,
+    0x00, // types
+    0x02, 0x6D, 0x04, 0x0E, 0x5F, 0x5F, 0x77, 0x61, 0x73, 0x61, 0x62, 0x69, 0x5F, 0x68, 0x6F, 0x6F,
+    0x6B, 0x73, 0x0E, 0x62, 0x65, 0x67, 0x69, 0x6E, 0x5F, 0x66, 0x75, 0x6E, 0x63, 0x74, 0x69, 0x6F,
+    0x6E, 0x00, 0x01, 0x0E, 0x5F, 0x5F, 0x77, 0x61, 0x73, 0x61, 0x62, 0x69, 0x5F, 0x68, 0x6F, 0x6F,
+    0x6B, 0x73, 0x03, 0x6E, 0x6F, 0x70, 0x00, 0x01, 0x0E, 0x5F, 0x5F, 0x77, 0x61, 0x73, 0x61, 0x62,
+    0x69, 0x5F, 0x68, 0x6F, 0x6F, 0x6B, 0x73, 0x07, 0x72, 0x65, 0x74, 0x75, 0x72, 0x6E, 0x5F, 0x00,
+    0x01, 0x0E, 0x5F, 0x5F, 0x77, 0x61, 0x73, 0x61, 0x62, 0x69, 0x5F, 0x68, 0x6F, 0x6F, 0x6B, 0x73,
+    0x0C, 0x65, 0x6E, 0x64, 0x5F, 0x66, 0x75, 0x6E, 0x63, 0x74, 0x69, 0x6F, 0x6E, 0x00, 0x02, // imports
+    0x03, 0x02, 0x01, 0x00, // functions
+    0x07, 0x05, 0x01, 0x01, 0x66, 0x00, 0x04, // exports
+    0x0A, 0x1F, 0x01, 0x1D, 0x00, 0x41, 0x00, 0x41, 0x7F, 0x10, 0x00, 0x41, 0x00, 0x41, 0x00, 0x10,
+    0x01, 0x01, 0x41, 0x00, 0x41, 0x01, 0x10, 0x02, 0x41, 0x00, 0x41, 0x01, 0x41, 0x7F, 0x10, 0x03,
+    0x0B, // code
+];
+
 // The same module as that of one nop, whose export names a second function.
 const WRONG_EXPORT: [u8; 32] = [
     0x00, 0x61, 0x73, 0x6D, 0x01, 0x00, 0x00, 0x00, // header
@@ -71,13 +90,25 @@ const WRONG_BODY: [u8; 32] = [
     0x0A, 0x05, 0x01, 0x03, 0x00, 0x1A, 0x0B, // code
 ];
 
-// The same function with the body `i32.const 0`, `drop`, `block`, `nop`, `end`, which is of another form.
-const OTHER_FORM: [u8; 38] = [
+// The same function with the body `i32.const 0`, `drop`, `block`, `nop`, `end`.
+const BLOCK: [u8; 38] = [
     0x00, 0x61, 0x73, 0x6D, 0x01, 0x00, 0x00, 0x00, // header
     0x01, 0x04, 0x01, 0x60, 0x00, 0x00, // types
     0x03, 0x02, 0x01, 0x00, // functions
     0x07, 0x05, 0x01, 0x01, 0x66, 0x00, 0x00, // exports
     0x0A, 0x0B, 0x01, 0x09, 0x00, 0x41, 0x00, 0x1A, 0x02, 0x40, 0x01, 0x0B, 0x0B, // code
+];
+
+// That function with the hook of nop, at instruction 3.
+const BLOCK_TOLD: [u8; 73] = [
+    0x00, 0x61, 0x73, 0x6D, 0x01, 0x00, 0x00, 0x00, // header
+    0x01, 0x09, 0x02, 0x60, 0x00, 0x00, 0x60, 0x02, 0x7F, 0x7F, 0x00, // types
+    0x02, 0x16, 0x01, 0x0E, 0x5F, 0x5F, 0x77, 0x61, 0x73, 0x61, 0x62, 0x69, 0x5F, 0x68, 0x6F, 0x6F,
+    0x6B, 0x73, 0x03, 0x6E, 0x6F, 0x70, 0x00, 0x01, // imports
+    0x03, 0x02, 0x01, 0x00, // functions
+    0x07, 0x05, 0x01, 0x01, 0x66, 0x00, 0x01, // exports
+    0x0A, 0x11, 0x01, 0x0F, 0x00, 0x41, 0x00, 0x1A, 0x02, 0x40, 0x41, 0x00, 0x41, 0x03, 0x10, 0x00,
+    0x01, 0x0B, 0x0B, // code
 ];
 
 // The same function with 4,294,967,295 locals.
@@ -160,12 +191,61 @@ fn commands_end(rt: HostRuntime) -> Result<(), test::Fail> {
         (
             "instrument a.wasm --out b.wasm --hooks all",
             module,
+            0,
+            "wrote 180 bytes with 4 hooks\n",
+            Some(ALL_TOLD.as_slice()),
+        ),
+        (
+            "instrument a.wasm --out b.wasm",
+            module,
+            0,
+            "wrote 180 bytes with 4 hooks\n",
+            Some(ALL_TOLD.as_slice()),
+        ),
+        (
+            NOP,
+            BLOCK.as_slice(),
+            0,
+            "wrote 73 bytes with 1 hooks\n",
+            Some(BLOCK_TOLD.as_slice()),
+        ),
+        (
+            "instrument a.wasm --out b.wasm",
+            &module[..8],
+            0,
+            "wrote 8 bytes with 0 hooks\n",
+            Some(&module[..8]),
+        ),
+        (
+            "instrument a.wasm --max-output 67 --out b.wasm --hooks nop",
+            module,
+            0,
+            "wrote 67 bytes with 1 hooks\n",
+            Some(told),
+        ),
+        (
+            "instrument a.wasm --max-output 0066 --out b.wasm --hooks nop",
+            module,
+            9,
+            "error 9: the output would be 67 bytes\n",
+            None,
+        ),
+        (
+            NOP,
+            told,
+            9,
+            "error 9: a.wasm is already instrumented\n",
+            None,
+        ),
+        (
+            "instrument a.wasm --out b.wasm --hooks nop,nope",
+            module,
             2,
             "error 2: bad words\n",
             None,
         ),
         (
-            "instrument a.wasm --out b.wasm",
+            "instrument a.wasm --hooks nop",
             module,
             2,
             "error 2: bad words\n",
@@ -234,20 +314,6 @@ fn commands_end(rt: HostRuntime) -> Result<(), test::Fail> {
             "error 8: a.wasm has an invalid body: function 0\n",
             None,
         ),
-        (
-            NOP,
-            &module[..8],
-            17,
-            "error 17: a.wasm is of a form not built yet\n",
-            None,
-        ),
-        (
-            NOP,
-            OTHER_FORM.as_slice(),
-            17,
-            "error 17: a.wasm is of a form not built yet\n",
-            None,
-        ),
     ] {
         let mut shelf = MemoryShelf::new(alloc, fails_of(alloc, None)?);
         shelf.add("a.wasm", subject)?;
@@ -258,6 +324,33 @@ fn commands_end(rt: HostRuntime) -> Result<(), test::Fail> {
         );
         assert_eq!(rt; sink.bytes(), printed.as_bytes());
         assert_eq!(rt; shelf.bytes_of("b.wasm"), written);
+    }
+    Ok(())
+}
+
+#[test]
+fn bounds_are_read(rt: HostRuntime) -> Result<(), test::Fail> {
+    let alloc = rt.alloc();
+    for (words, status) in [
+        ("check a.wasm --max-output 1", 0),
+        ("check a.wasm --max-output 268435456", 0),
+        ("check a.wasm --max-output 000000000000000000000007", 0),
+        ("check a.wasm --max-output 0", 2),
+        ("check a.wasm --max-output 268435457", 2),
+        ("check a.wasm --max-output 18446744073709551623", 2),
+        ("check a.wasm --max-output +7", 2),
+        ("check a.wasm --max-output -7", 2),
+        ("check a.wasm --max-output 7x", 2),
+        ("check a.wasm --max-output", 2),
+        ("check a.wasm --max-output 7 --max-output 7", 2),
+    ] {
+        let mut shelf = MemoryShelf::new(alloc, fails_of(alloc, None)?);
+        shelf.add("a.wasm", &ONE_NOP)?;
+        let mut sink = MemorySink::new(alloc, fails_of(alloc, None)?);
+        assert_eq!(rt;
+            status_of(&rt, alloc, words, &mut shelf, &mut sink)?,
+            status
+        );
     }
     Ok(())
 }
@@ -281,7 +374,7 @@ fn checks_end(rt: HostRuntime) -> Result<(), test::Fail> {
         ),
         (
             CHECK,
-            OTHER_FORM.as_slice(),
+            BLOCK.as_slice(),
             0,
             "ok types 1 imports 0 functions 1 tables 0 memories 0 globals 0 exports 1 elements 0 segments 0 instructions 6\n",
         ),

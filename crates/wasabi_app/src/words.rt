@@ -1,18 +1,19 @@
 // The words of a command.
 
-ghost use Rattle.std.specs.Prelude.{◌≡◌, ◌↔◌, [], ◌∷◌, IsTrue, MatchOption};
-ghost use Rattle.wasabi_app.specs.Words.{Adds, AreOptions, IsList, IsLine, IsRefused, IsValue, no_options, texts};
-ghost use Rattle.wasabi_app.specs.Reading.{AddsNone, AreNoOptions, IsCommand, IsModeOf, IsNoList, IsNoMode, options_of};
+ghost use Rattle.std.specs.Prelude.{◌≡◌, ◌↔◌, ◌≤◌, [], ◌∷◌, IsTrue, IfSome, MatchOption};
+ghost use Rattle.wasabi_app.specs.Words.{Adds, AreOptions, IsBound, IsList, IsLine, IsRefused, IsValue, no_options, texts};
+ghost use Rattle.wasabi_app.specs.Reading.{AddsNone, AreNoOptions, IsCommand, IsModeOf, IsNoBound, IsNoList, IsNoMode, options_of};
 
-use hook_select::Hooks;
+use hook_select::{Hooks, read_list};
 
 /// What a command of the mode `instrument` asks for: the subject is instrumented for these groups, and written under the
-/// target's name.
+/// target's name where the output has no more bytes than the bound.
 #[derive(Clone, Copy)]
 pub(crate) struct Line<'w> {
     pub(crate) subject: &'w str,
     pub(crate) target: &'w str,
     pub(crate) hooks: Hooks,
+    pub(crate) bound: u64,
 }
 
 /// What a command asks for.
@@ -27,7 +28,11 @@ pub(crate) enum Command<'w> {
 struct Options<'w> {
     target: Option<&'w str>,
     hooks: Option<Hooks>,
+    bound: Option<u64>,
 }
+
+// The most bytes that an output may have.
+const LONGEST_OUTPUT: u64 = 268_435_456;
 
 // Whether a text is not empty and does not begin with `-`.
 fn is_value(text: &str) -> bool
@@ -39,20 +44,24 @@ fn is_value(text: &str) -> bool
     }
 }
 
-// The set of groups that a list names; none where it is neither `nop` nor `none`.
+// The set of groups that a list names; none where it is no list.
 fn read_hooks(list: &str) -> Option<Hooks>
     ensures { MatchOption result (IsNoList list.now) (IsList list.now) }
 {
-    if list == "nop" {
-        return Some(Hooks {
-            nop: true,
-            ..Hooks::none()
-        });
+    read_list(list).ok()
+}
+
+// The number of bytes that a text says; none where it is no number, or is out of range. `parse` takes a `+`.
+fn read_bound(text: &str) -> Option<u64>
+    ensures { MatchOption result (IsNoBound text.now) (IsBound text.now) }
+{
+    if let [b'+', ..] = text.as_bytes() {
+        return None;
     }
-    if list == "none" {
-        return Some(Hooks::none());
+    match text.parse::<u64>() {
+        Ok(bound) if 1 <= bound && bound <= LONGEST_OUTPUT => Some(bound),
+        _ => None,
     }
-    None
 }
 
 // The options with one more; none where there is no such option, it stands already, or its value is not taken.
@@ -63,14 +72,21 @@ fn with_option<'w>(options: &Options<'w>, name: &str, value: &'w str) -> Option<
     if name == "--out" && options.target.is_none() && is_value(value) {
         return Some(Options {
             target: Some(value),
-            hooks: options.hooks,
+            ..*options
         });
     }
     if name == "--hooks" && options.hooks.is_none() {
         let hooks = read_hooks(value)?;
         return Some(Options {
-            target: options.target,
             hooks: Some(hooks),
+            ..*options
+        });
+    }
+    if name == "--max-output" && options.bound.is_none() {
+        let bound = read_bound(value)?;
+        return Some(Options {
+            bound: Some(bound),
+            ..*options
         });
     }
     None
@@ -105,12 +121,13 @@ pub(crate) fn read_command(words: &[String]) -> Option<Command<'_>>
     let none = Options {
         target: None,
         hooks: None,
+        bound: None,
     };
     let options = read_options(&none, rest)?;
     command_of(mode.as_str(), subject, &options)
 }
 
-// The command of this mode; none where there is no such mode, or an option that it needs is missing.
+// The command of this mode; none where there is no such mode, or the target that it needs is missing.
 fn command_of<'w>(mode: &str, subject: &'w str, options: &Options<'w>) -> Option<Command<'w>>
     ensures { MatchOption result (IsNoMode mode.now (options_of options.now)) (IsModeOf mode.now subject.now (options_of options.now)) }
 {
@@ -123,6 +140,7 @@ fn command_of<'w>(mode: &str, subject: &'w str, options: &Options<'w>) -> Option
     Some(Command::Instrument(Line {
         subject,
         target: options.target?,
-        hooks: options.hooks?,
+        hooks: options.hooks.unwrap_or(Hooks::all()),
+        bound: options.bound.unwrap_or(LONGEST_OUTPUT),
     }))
 }

@@ -3,12 +3,12 @@ use Rattle.wasabi_app.specs.Words.{texts}
 use Rattle.wasabi_app.specs.Reading.{line_of}
 use Rattle.wasabi_app.specs.Ends.{no_command}
 use Rattle.wasabi_app.proofs.Contents.{unchanged_same}
-use Rattle.wasabi_app.proofs.OptionWords.{line_choice}
+use Rattle.wasabi_app.proofs.OptionWords.{line_bound}
 use Rattle.wasabi_app.proofs.app.answer.Goals as goal
 
-pub instrument-requires-clause-choice : goal.instrument-requires-clause-choice
-instrument-requires-clause-choice g c =
-    λ _ _. line_choice (texts c.args.words.now) (line_of c.in-Some-Instrument.line)
+pub instrument-requires-clause-bound : goal.instrument-requires-clause-bound
+instrument-requires-clause-bound g c =
+    λ _ _. line_bound (texts c.args.words.now) (line_of c.in-Some-Instrument.line)
     (rw c.in-Some-Instrument.field-0-is at c.in-Some-Instrument.ensures)
 
 pub returns-in-None-clause-ended : goal.returns-in-None-clause-ended

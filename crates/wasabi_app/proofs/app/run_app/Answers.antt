@@ -3,7 +3,7 @@ use Rattle.std.proofs.Common.{◌≡◌, None, arith}
 use Rattle.wasabi_app.specs.Files.{IsNoModule, IsUnfit, IsInvalid}
 use Rattle.wasabi_app.specs.Ends.{IsAboveCap}
 use Rattle.wasabi_app.proofs.Causes.{ends_inverted, why_of, any_shelf, check_keeps, is_written, is_kept}
-use Rattle.wasabi_app.proofs.Told.{none, over, malformed, unfit, invalid, decides, decides_file, decides_other_form, checks_all, completes}
+use Rattle.wasabi_app.proofs.Told.{none, over, malformed, unfit, invalid, decides, decides_file, decides_taken, decides_too_large, checks_all, completes}
 use Rattle.wasabi_app.proofs.app.run_app.Goals as goal
 
 pub returns-clause-ended : goal.returns-clause-ended
@@ -33,8 +33,8 @@ returns-clause-unfit g c = why_of _ 7 (c.tell.ensures.ended _ _ _ c.answer-endin
 pub returns-clause-invalid : goal.returns-clause-invalid
 returns-clause-invalid g c = why_of _ 8 (c.tell.ensures.ended _ _ _ c.answer-ending.ensures.ended)
 
-pub returns-clause-other_form : goal.returns-clause-other_form
-returns-clause-other_form g c = why_of _ 17 (c.tell.ensures.ended _ _ _ c.answer-ending.ensures.ended)
+pub returns-clause-no_output : goal.returns-clause-no_output
+returns-clause-no_output g c = why_of _ 9 (c.tell.ensures.ended _ _ _ c.answer-ending.ensures.ended)
 
 pub returns-clause-write_failed : goal.returns-clause-write_failed
 returns-clause-write_failed g c = λ e. (why_of _ 5 (c.tell.ensures.ended _ _ _ c.answer-ending.ensures.ended) e).0
@@ -72,8 +72,11 @@ returns-clause-unfit_file g c = decides_file _ _ _ _ (c.tell.ensures.ended _ _ _
 pub returns-clause-invalid_file : goal.returns-clause-invalid_file
 returns-clause-invalid_file g c = decides_file _ _ _ _ (c.tell.ensures.ended _ _ _ c.answer-ending.ensures.ended) IsInvalid 8 (λ k. omega arith) (λ limits bytes p. invalid p)
 
-pub returns-clause-another_form : goal.returns-clause-another_form
-returns-clause-another_form g c = decides_other_form _ _ _ _ (c.tell.ensures.ended _ _ _ c.answer-ending.ensures.ended)
+pub returns-clause-taken : goal.returns-clause-taken
+returns-clause-taken g c = decides_taken _ _ _ _ (c.tell.ensures.ended _ _ _ c.answer-ending.ensures.ended)
+
+pub returns-clause-too_large : goal.returns-clause-too_large
+returns-clause-too_large g c = decides_too_large _ _ _ _ (c.tell.ensures.ended _ _ _ c.answer-ending.ensures.ended)
 
 pub returns-clause-checks : goal.returns-clause-checks
 returns-clause-checks g c = checks_all _ _ _ _ (c.tell.ensures.ended _ _ _ c.answer-ending.ensures.ended)

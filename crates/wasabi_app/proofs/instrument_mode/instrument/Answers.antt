@@ -1,8 +1,6 @@
 -- A subject that is not loaded, that has no output, or whose output was to be written.
-use Rattle.std.proofs.Common.{◌≤◌, length, sym, subst, rules}
+use Rattle.std.proofs.Common.{rules}
 use Rattle.std.proofs.lemmas.Result.{err_from_is_err_and}
-use Rattle.module_ast.specs.Canonical.{module_bytes}
-use Rattle.instrument.specs.Made.{narrow_file}
 use Rattle.wasabi_app.specs.Reading.{line_of}
 use Rattle.wasabi_app.specs.Ends.{unloaded}
 use Rattle.wasabi_app.proofs.Contents.{wrote_after, part_after}
@@ -15,31 +13,34 @@ returns-in_err-valid-clause-ended g c = λ words k.
     let p = err_from_is_err_and c.from_residual.result c.from_residual.ensures.1 in
     rw (p.1, p.2) (unloaded _ _ _ (line_reads k) (rw c.narrow.ensures at c.in_err-valid.ensures.refused) c.in_err-valid.ensures.kept)
 
+pub make-requires-clause-limits : goal.make-requires-clause-limits
+make-requires-clause-limits g c = λ _ _. (rw c.narrow.ensures at c.in_ok-valid.ensures.ok).fit.within
+
 pub make-requires-clause-short : goal.make-requires-clause-short
 make-requires-clause-short g c =
     let is = rw c.narrow.ensures at c.in_ok-valid.ensures.ok in
-    subst (λ m. length (module_bytes m) ≤ narrow_file) (sym c.module.ensures.module) (canonical_short is.bytes c.in_ok-valid.valid is.read.short is.fit.spelled)
+    λ _ _. canonical_short is.bytes c.in_ok-valid.valid is.read.short is.fit.spelled
 
 pub returns-in_err-output-clause-ended : goal.returns-in_err-output-clause-ended
 returns-in_err-output-clause-ended g c = λ words k.
     let p = err_from_is_err_and c.from_residual-in_err-output.result c.from_residual-in_err-output.ensures.1 in
     rw (p.1, p.2) (refuses_unmade words _ _ (line_of c.args.line.now) c.in_ok-valid.valid _ _ k (rw c.narrow.ensures at c.in_ok-valid.ensures.ok) c.load.ensures.kept
-    (rw c.module.ensures.module at c.in_err-output.ensures.refused))
+    c.in_err-output.ensures.refused)
 
 pub returns-in-Ok-clause-ended : goal.returns-in-Ok-clause-ended
 returns-in-Ok-clause-ended g c = λ words k.
     answers_written words _ _ (line_of c.args.line.now) c.in_ok-valid.valid _ _ k (rw c.narrow.ensures at c.in_ok-valid.ensures.ok)
-    (rw c.module.ensures.module at c.in_ok-output.ensures.ok)
+    c.in_ok-output.ensures.ok
     (wrote_after _ _ _ _ _ c.load.ensures.kept (rw c.as_slice.ensures.value at c.in-Ok.ensures.written))
 
 pub returns-in-Err-Failed-clause-ended : goal.returns-in-Err-Failed-clause-ended
 returns-in-Err-Failed-clause-ended g c = λ words k.
     refuses_unwritten words _ _ (line_of c.args.line.now) c.in_ok-valid.valid _ _ k (rw c.narrow.ensures at c.in_ok-valid.ensures.ok)
-    (rw c.module.ensures.module at c.in_ok-output.ensures.ok) (rw (← c.load.ensures.write_count) (search rules))
+    c.in_ok-output.ensures.ok (rw (← c.load.ensures.write_count) (search rules))
     (part_after _ _ _ _ _ c.load.ensures.kept (rw c.as_slice.ensures.value at c.in-Err-Failed.ensures.part))
 
 pub returns-clause-ended : goal.returns-clause-ended
 returns-clause-ended g c = λ words k.
     refuses_written words _ _ (line_of c.args.line.now) c.in_ok-valid.valid _ _ k (rw c.narrow.ensures at c.in_ok-valid.ensures.ok)
-    (rw c.module.ensures.module at c.in_ok-output.ensures.ok)
+    c.in_ok-output.ensures.ok
     (part_after _ _ _ _ _ c.load.ensures.kept (rw c.as_slice.ensures.value at c.in-Err-NoMemory.ensures.part))

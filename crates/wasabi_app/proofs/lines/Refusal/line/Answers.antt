@@ -24,5 +24,8 @@ returns-in-BrokenRule c = rw c.in-BrokenRule.is c.format-in-BrokenRule.ensures.o
 pub returns-in-InvalidBody : goal.returns-in-InvalidBody
 returns-in-InvalidBody c = rw c.in-InvalidBody.is c.format-in-InvalidBody.ensures.ok
 
-pub returns-in-OtherForm : goal.returns-in-OtherForm
-returns-in-OtherForm c = rw c.in-OtherForm.is c.format-in-OtherForm.ensures.ok
+pub returns-in-HookModuleTaken : goal.returns-in-HookModuleTaken
+returns-in-HookModuleTaken c = rw c.in-HookModuleTaken.is c.format-in-HookModuleTaken.ensures.ok
+
+pub returns-in-TooLarge : goal.returns-in-TooLarge
+returns-in-TooLarge c = rw c.in-TooLarge.is c.format-in-TooLarge.ensures.ok
