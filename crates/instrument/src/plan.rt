@@ -113,8 +113,7 @@ fn need_each(table: &mut HookTable, keys: Vec<HookKey>) -> Result<(), NoMemory>
 
 // The hooks that the bodies need, joined in the order of functions.
 fn needed(alloc: Global, m: &ValidModule, hooks: Hooks) -> Result<HookTable, NoMemory>
-    requires limits { IsWithin narrow m.now }
-    requires short { length (module_bytes m.now) ≤ narrow_file }
+    requires { IsWithin narrow m.now }
     ensures { IfOk result (λ table. table ≡ needed_keys m.now hooks) }
 {
     let mut table = HookTable::new(alloc);

@@ -11,12 +11,12 @@ overflow_cast-defined-end c =
 
 pub need_each-requires : goal.need_each-requires
 need_each-requires c =
-    (adds_needs c.args.m.now c.args.hooks c.typed.result c.loop-defined.defined c.loop-defined.table c.in_ok-keys.keys.items c.requires.limits c.typed.ensures.of c.typed.ensures.at c.loop-defined.invariant c.in_ok-keys.ensures).few
+    (adds_needs c.args.m.now c.args.hooks c.typed.result c.loop-defined.defined c.loop-defined.table c.in_ok-keys.keys.items c.requires c.typed.ensures.of c.typed.ensures.at c.loop-defined.invariant c.in_ok-keys.ensures).few
 
 pub loop-defined-preserved : goal.loop-defined-preserved
 loop-defined-preserved c =
     c.in_ok-need_each.ensures
-    ∙ (adds_needs c.args.m.now c.args.hooks c.typed.result c.loop-defined.defined c.loop-defined.table c.in_ok-keys.keys.items c.requires.limits c.typed.ensures.of c.typed.ensures.at c.loop-defined.invariant c.in_ok-keys.ensures).next
+    ∙ (adds_needs c.args.m.now c.args.hooks c.typed.result c.loop-defined.defined c.loop-defined.table c.in_ok-keys.keys.items c.requires c.typed.ensures.of c.typed.ensures.at c.loop-defined.invariant c.in_ok-keys.ensures).next
 
 pub returns : goal.returns
 returns c =
