@@ -1,0 +1,38 @@
+-- What a run has beside its frames, memory and globals: what runs, the answers so far, the table and how many host calls
+-- were made.
+use Rattle.std.specs.Prelude.{◌≡◌, ℕ, ◌≤◌, List, Option}
+use Rattle.module_ast.specs.declared.module.Module.{Module}
+use Rattle.module_ast.specs.Memory.{pages}
+use Rattle.wasm_sem.specs.declared.Script.{Script}
+use Rattle.wasm_sem.specs.Store.{Store}
+use Rattle.wasm_sem.specs.Link.{opening_store}
+use Rattle.wasm_sem.specs.Machine.{Env, Configuration, configuration, run_of}
+
+-- the same table, and no host call more
+pub record HasSameRest (old new : Store) : Type 0 where
+  pub slots : new.slots ≡ old.slots
+  pub hosts : new.hosts ≡ old.hosts
+
+-- the same runs, with the answers so far
+pub record GoesOnBeside (old new : Env) : Type 0 where
+  pub phase : new.phase ≡ old.phase
+  pub started : new.started ≡ old.started
+  pub answers : new.answers ≡ old.answers
+  pub store : HasSameRest old.store new.store
+
+-- how many host calls were made
+abbrev pub hosts_in : Configuration → ℕ
+hosts_in (configuration e fs) = e.store.hosts
+
+-- how many pages the memory has
+abbrev pub pages_in : Configuration → ℕ
+pages_in (configuration e fs) = pages e.store.memory
+
+-- so many were made by the run, one in a step at most
+pub record HasMadeHosts (m : Module) (s : Script) (made hosts : ℕ) : Type 0 where
+  pub counted : hosts_in (run_of m s made) ≡ hosts
+  pub few : hosts ≤ made
+
+-- the table when the run opened, which no step changes
+abbrev pub IsTableOf : Module → Script → List (Option ℕ) → Type 0
+IsTableOf m s slots = slots ≡ (opening_store m s).slots

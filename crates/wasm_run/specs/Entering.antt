@@ -1,0 +1,26 @@
+-- A call of a function of the module, on what the machine keeps.
+use Rattle.std.specs.Prelude.{◌≡◌, ℕ, List, [], ◌∷◌, length, Option, Some, None}
+use Rattle.wasm_num.specs.declared.Value.{Value}
+use Rattle.module_ast.specs.declared.module.FuncType.{FuncType}
+use Rattle.module_ast.specs.declared.module.Body.{Body}
+use Rattle.module_ast.specs.Validity.{declared_locals}
+use Rattle.wasm_sem.specs.declared.Trap.{Trap}
+use Rattle.wasm_sem.specs.Link.{Instance}
+use Rattle.wasm_sem.specs.Machine.{Frame, Env, configuration, Next, reduces, traps, pop_values, with_ops, new_frame, enter}
+use Rattle.wasm_run.specs.Flat.{Flat}
+use Rattle.wasm_run.specs.Kept.{Lies}
+
+-- a frame that calls a function of the module with the topmost operands
+pub record IsCalling (s : Flat) (inst : Instance) (fr : Frame) (below : List Frame) (ty : FuncType) (args rest : List Value) : Type 0 where
+  pub lies : Lies s (fr ∷ below)
+  pub popped : pop_values (length ty.params) fr.top.ops [] ≡ Some (args, rest)
+
+-- the frame of the call, or a trap where there are too many
+abbrev pub entered_next : Instance → Env → Frame → List Frame → (func : ℕ) → FuncType → Body → (args rest : List Value) → Next
+entered_next inst e fr below f ty body args rest =
+    enter inst e (with_ops fr rest ∷ below) (new_frame f ty (declared_locals body.groups) body.code args)
+
+abbrev pub HasEntered : Env → Option Trap → Next → Flat → Type 0
+HasEntered e None (reduces (configuration f fs)) s = (f ≡ e) × Lies s fs
+HasEntered e (Some t) (traps u) s = t ≡ u
+HasEntered e _ _ s = ⊥

@@ -1,0 +1,13 @@
+pub mod Flat
+pub mod Kept
+pub mod Straight
+pub mod Comes
+pub mod Standing
+pub mod Advances
+pub mod Entering
+pub mod Rooms
+pub mod Running
+pub mod Calls
+pub mod Resolved
+pub mod Beside
+pub mod Answering

@@ -1,0 +1,31 @@
+-- Room for all that the frames of a run may come to have.
+use Rattle.std.specs.Prelude.{◌≡◌, ℕ, ◌+◌, ◌≤◌, List, [], ◌∷◌, ◌++◌, length, Some, slice_get}
+use Rattle.wasm_num.specs.declared.ValType.{ValType}
+use Rattle.module_ast.specs.declared.module.FuncType.{FuncType}
+use Rattle.module_ast.specs.declared.module.Module.{Module}
+use Rattle.module_ast.specs.Marks.{height}
+use Rattle.module_ast.specs.Positions.{code_nesting}
+use Rattle.module_ast.specs.Tree.{Tree}
+use Rattle.wasm_sem.specs.Link.{own, callees_of}
+use Rattle.wasm_sem.specs.Machine.{Frame}
+use Rattle.wasm_sem.specs.Heights.{function_context}
+use Rattle.wasm_run.specs.Flat.{Flat}
+use Rattle.wasm_run.specs.Kept.{all_values, all_spots}
+
+-- there is room for the locals and the greatest height of a frame's function, and for as many labels as its nesting and
+-- one, above what stands below the frame
+pub record HasOwnRoom (m : Module) (values labels : ℕ) (fr : Frame) (below : List Frame) : Type 0 where
+  pub values_fit : (ty : FuncType) (declared : List ValType) (code : Tree) → slice_get (callees_of m) fr.func ≡ Some (own ty declared code)
+      → length (all_values below) + length (ty.params ++ declared) + height (function_context m ty declared) code ≤ values
+  pub labels_fit : (ty : FuncType) (declared : List ValType) (code : Tree) → slice_get (callees_of m) fr.func ≡ Some (own ty declared code)
+      → length (all_spots below) + 1 + code_nesting code ≤ labels
+
+-- of each frame
+abbrev pub HaveRoom : Module → (values labels : ℕ) → List Frame → Type 0
+HaveRoom m values labels [] = Unit {0}
+HaveRoom m values labels (fr ∷ below) = HasOwnRoom m values labels fr below × HaveRoom m values labels below
+
+-- no less room than before
+pub record KeepsRoom (old new : Flat) : Type 0 where
+  pub values : old.value_room ≤ new.value_room
+  pub labels : old.spot_room ≤ new.spot_room

@@ -1,0 +1,102 @@
+-- A run as the machine keeps it: a module, a script, and how many steps have been made.
+use Rattle.std.specs.Prelude.{◌≡◌, ℕ, ◌+◌, List, [], ◌∷◌, Result, Ok, Err, Option, Some, None, Bool, true, false, slice_get}
+use Rattle.std.specs.declared.alloc.AllocError.{AllocError}
+use Rattle.wasm_num.specs.declared.Value.{Value}
+use Rattle.module_ast.specs.declared.module.Module.{Module}
+use Rattle.module_ast.specs.declared.module.FuncType.{FuncType}
+use Rattle.module_ast.specs.declared.module.Body.{Body}
+use Rattle.module_ast.specs.Marks.{height}
+use Rattle.module_ast.specs.Positions.{code_nesting}
+use Rattle.module_ast.specs.Profile.{locals_of}
+use Rattle.module_ast.specs.Tree.{Tree, plain, call}
+use Rattle.module_ast.specs.Validity.{declared_locals}
+use Rattle.wasm_sem.specs.declared.Trap.{Trap}
+use Rattle.wasm_sem.specs.Heights.{function_context}
+use Rattle.wasm_sem.specs.Link.{own, callees_of}
+use Rattle.module_ast.specs.Validity.{IsValid}
+use Rattle.run_store.specs.Held.{Held}
+use Rattle.wasm_sem.specs.declared.Script.{Script}
+use Rattle.wasm_sem.specs.Link.{instance, IsScriptInRange, Links}
+use Rattle.wasm_sem.specs.Machine.{Frame, Configuration, configuration, traps, step, run_of}
+use Rattle.wasm_sem.specs.Typed.{IsComplete}
+use Rattle.wasm_run.specs.Flat.{Flat}
+use Rattle.wasm_run.specs.Kept.{Lies}
+use Rattle.wasm_run.specs.Standing.{KeepsStore}
+use Rattle.wasm_run.specs.Advances.{IsAtCall, IsAtGrow}
+use Rattle.wasm_run.specs.Rooms.{HaveRoom}
+use Rattle.wasm_run.specs.declared.advance.Did.{Did}
+use Rattle.wasm_run.specs.declared.advance.Did.TheVariants as dids
+
+-- what stands behind so many steps is `run_of «module» script made`
+pub record Run : Type 0 where
+  pub «module» : Module
+  pub script : Script
+  pub made : ℕ
+
+-- where the run stands
+abbrev pub configuration_of : Run → Configuration
+configuration_of r = run_of r.module r.script r.made
+
+-- one step more
+abbrev pub one_more : Run → Run
+one_more r = record r { made = r.made + 1 }
+
+-- a valid module that links with a script
+pub record IsLinked (m : Module) (s : Script) : Type 0 where
+  pub valid : IsValid m
+  pub complete : IsComplete m
+  pub range : IsScriptInRange s
+  pub links : Links m s
+
+-- The machine keeps this configuration, with room for each frame. Where no frame is left, it may still have the values of
+-- the last one.
+abbrev pub KeepsConfiguration : Module → Script → Configuration → Flat → Held → List Value → Type 0
+KeepsConfiguration m s (configuration e []) f memory globals = (f.bases ≡ []) × KeepsStore (instance m s) e.store memory globals
+KeepsConfiguration m s (configuration e (fr ∷ below)) f memory globals =
+    Lies f (fr ∷ below) × KeepsStore (instance m s) e.store memory globals × HaveRoom m f.value_room f.spot_room (fr ∷ below)
+
+pub record IsRunning (m : Module) (s : Script) (made : ℕ) (f : Flat) (memory : Held) (globals : List Value) : Type 0 where
+  pub linked : IsLinked m s
+  pub keeps : KeepsConfiguration m s (run_of m s made) f memory globals
+
+-- a function runs
+abbrev pub IsInside : Configuration → Type 0
+IsInside (configuration e []) = ⊥
+IsInside (configuration e (fr ∷ below)) = Unit {0}
+
+-- as the flag says
+abbrev pub HoldsIf : Bool → Type 0 → Type 0
+HoldsIf true A = A
+HoldsIf false A = A → ⊥
+
+-- the innermost frame is so
+abbrev pub Innermost : (Frame → Type 0) → Configuration → Type 0
+Innermost P (configuration e []) = ⊥
+Innermost P (configuration e (fr ∷ below)) = P fr
+
+-- One step was made, or a trap, which is a step too. At a call none was made, nor where memory is wanting, which is so at
+-- `memory.grow` alone.
+abbrev pub StepsInside : Result Did AllocError → Run → Run → Type 0
+StepsInside (Ok dids.Went) old new = new ≡ one_more old
+StepsInside (Ok (dids.Trapped t)) old new = (new ≡ one_more old) × (step (instance old.module old.script) (configuration_of old) ≡ traps t)
+StepsInside (Ok dids.Calls) old new = (new ≡ old) × Innermost IsAtCall (configuration_of old)
+StepsInside (Err u) old new = (new ≡ old) × Innermost IsAtGrow (configuration_of old)
+
+-- ---- a call of a function of the module
+
+-- the innermost frame stands before it, with this code behind
+pub record CallsOwn (m : Module) (c : Configuration) (f : ℕ) (k : Tree) (ty : FuncType) (body : Body) : Type 0 where
+  pub at : Innermost (λ (fr : Frame). fr.top.rest ≡ plain (call f) k) c
+  pub callee : slice_get (callees_of m) f ≡ Some (own ty (declared_locals body.groups) body.code)
+
+-- what its frame takes
+pub record IsSizeOf (m : Module) (ty : FuncType) (body : Body) (locals high nesting : ℕ) : Type 0 where
+  pub locals_are : locals ≡ locals_of body.groups
+  pub high_is : high ≡ height (function_context m ty (declared_locals body.groups)) body.code
+  pub nesting_is : nesting ≡ code_nesting body.code
+
+-- one step was made, to a trap or not; none where memory is wanting
+abbrev pub MakesCall : Result (Option Trap) AllocError → Run → Run → Type 0
+MakesCall (Ok None) old new = new ≡ one_more old
+MakesCall (Ok (Some t)) old new = (new ≡ one_more old) × (step (instance old.module old.script) (configuration_of old) ≡ traps t)
+MakesCall (Err u) old new = new ≡ old

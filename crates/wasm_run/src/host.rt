@@ -1,0 +1,87 @@
+// What a host function answers. (Standard, 4.4.7)
+
+ghost use Rattle.std.specs.Prelude.{◌≡◌, ◌+◌, ◌≤◌, length, drop, All};
+ghost use Rattle.module_ast.specs.Typing.{push};
+ghost use Rattle.wasm_sem.specs.Link.{IsWriteInRange};
+ghost use Rattle.wasm_sem.specs.Store.{value_of, values_of, answer_at, writes_done, written_memory};
+ghost use Rattle.wasm_run.specs.Answering.{returned_with, answer_given};
+
+use crate::stack::Stack;
+use module_ast::module::FuncType;
+use run_store::memory::Memory;
+use wasm_num::{ValType, Value};
+use wasm_sem::{HostAnswer, HostWrite, Script};
+
+/// The value that a number of the script stands for, modulo its width. (Standard, 4.2.1)
+pub(crate) fn value_of(ty: ValType, number: i128) -> Value
+    ensures { result ≡ value_of ty number }
+{
+    match ty {
+        ValType::I32 => Value::I32(number.rem_euclid(1 << 32).unsigned_abs() as u32),
+        ValType::I64 => Value::I64(number.rem_euclid(1 << 64).unsigned_abs() as u64),
+    }
+}
+
+// A value for each type is put on top, for which there is room: what the numbers stand for in order, and 0 past the last.
+fn push_results(stack: &mut Stack, types: &[ValType], numbers: &[i128])
+    requires { length stack.old.values + length types.now ≤ stack.old.value_room }
+    ensures { stack.new ≡ record stack.old { values = push (values_of types.now numbers.now) stack.old.values } }
+{
+    for place in 0..types.len() {
+        let number = numbers.get(place).copied().unwrap_or(0);
+        stack.push(value_of(types[place], number));
+    }
+}
+
+// The writes of an answer are done in order, but for those that end past the memory.
+fn write_all(memory: &mut Memory, writes: &[HostWrite])
+    requires { All IsWriteInRange writes.now }
+    ensures bytes { memory.new.bytes ≡ written_memory (writes_done memory.old.bytes writes.now) memory.old.bytes }
+    ensures max { memory.new.max ≡ memory.old.max }
+{
+    for write in writes {
+        // one that ends past the memory is left out
+        let _ = memory.write(u64::from(write.address), write.bytes.as_slice());
+    }
+}
+
+/// The answer to a host call, where so many were made before, if the script has one.
+pub(crate) fn next_answer(script: &Script, hosts: u64) -> Option<&HostAnswer>
+    ensures { answer_given result ≡ answer_at script.now.hosts hosts }
+{
+    script.hosts.as_slice().get(hosts as usize)
+}
+
+/// A call is answered with these numbers: the arguments are taken, and the results put on top, for which there is room. A
+/// number for each result in order, and 0 past the last.
+pub(crate) fn return_numbers(stack: &mut Stack, ty: &FuncType, numbers: &[i128])
+    requires params { length ty.now.params ≤ length stack.old.values }
+    requires room { length (drop (length ty.now.params) stack.old.values) + length ty.now.results ≤ stack.old.value_room }
+    ensures { stack.new ≡ returned_with ty.now (values_of ty.now.results numbers.now) stack.old }
+{
+    stack.drop_top(ty.params.as_slice().len());
+    push_results(stack, ty.results.as_slice(), numbers);
+}
+
+/// A call is answered by the script; without an answer, with zeros. Writes that end past the memory are left out.
+pub(crate) fn answer(
+    stack: &mut Stack,
+    memory: &mut Memory,
+    ty: &FuncType,
+    answer: Option<&HostAnswer>,
+)
+    requires params { length ty.now.params ≤ length stack.old.values }
+    requires room { length (drop (length ty.now.params) stack.old.values) + length ty.now.results ≤ stack.old.value_room }
+    requires writes { All IsWriteInRange (answer_given answer).writes }
+    ensures stack { stack.new ≡ returned_with ty.now (values_of ty.now.results (answer_given answer.entry).results) stack.old }
+    ensures bytes { memory.new.bytes ≡ written_memory (writes_done memory.old.bytes (answer_given answer.entry).writes) memory.old.bytes }
+    ensures max { memory.new.max ≡ memory.old.max }
+{
+    match answer {
+        Some(answer) => {
+            return_numbers(stack, ty, answer.results.as_slice());
+            write_all(memory, answer.writes.as_slice());
+        }
+        None => return_numbers(stack, ty, &[]),
+    }
+}
