@@ -1,5 +1,5 @@
 -- How many host calls a run has made, step by step.
-use Rattle.std.proofs.Common.{◌≡◌, ℕ, ◌+◌, List, [], ◌∷◌, length, Bool, true, false, cond, nat_lt, refl, sym, ap, subst, ◌∙◌, arith}
+use Rattle.std.proofs.Common.{◌≡◌, ℕ, ◌+◌, List, [], ◌∷◌, length, Option, Bool, true, false, cond, nat_lt, refl, sym, ap, subst, ◌∙◌, arith}
 use Rattle.wasm_num.specs.declared.Value.{Value}
 use Rattle.module_ast.specs.declared.module.Module.{Module}
 use Rattle.module_ast.specs.declared.module.FuncType.{FuncType}
@@ -12,12 +12,11 @@ use Rattle.wasm_sem.specs.declared.Trap.{Trap}
 use Rattle.wasm_sem.specs.declared.Trap.TheVariants.{Depth}
 use Rattle.wasm_sem.specs.Link.{own, Instance, instance}
 use Rattle.wasm_sem.specs.Machine.{Frame, Env, Configuration, configuration, Next, reduces, traps, ends, stuck, with_ops, frame_behind, step, after_step, run_of}
-use Rattle.wasm_run.specs.Answering.{CallsFunction}
 use Rattle.wasm_run.specs.Beside.{hosts_in, HasMadeHosts}
 use Rattle.wasm_run.specs.Calls.{NextIsNoCall}
 use Rattle.wasm_run.specs.Flat.{Flat, first_rest}
 use Rattle.wasm_run.specs.Running.{IsLinked, KeepsConfiguration, IsRunning, IsInside}
-use Rattle.wasm_run.proofs.Answering.{invoker}
+use Rattle.wasm_run.proofs.Invoking.{Invoker}
 use Rattle.wasm_run.proofs.Beside.{NextGoesOn, answer_stays, same_beside, step_goes_on}
 use Rattle.wasm_run.proofs.Rooms.{next_state}
 
@@ -55,12 +54,13 @@ module _ (m : Module) (s : Script) (made hosts : ℕ) (linked : IsLinked m s) (h
         go (configuration e (fr ∷ below)) at (lies, store, room) inside =
             same_hosts e (fr ∷ below) at (step_goes_on (instance m s) e fr below (subst (λ ss. NextIsNoCall (first_rest ss)) lies.spots none))
 
-    -- where it calls a function of the module
-    pub own_hosts : (func : ℕ) (k : Tree) (ty : FuncType) (locals : List ValType) (code : Tree) → CallsFunction m (run_of m s made) func k (own ty locals code) → HasMadeHosts m s (made + 1) hosts
-    own_hosts func k ty locals code calls =
-        let x = invoker m s made f memory globals running func k (own ty locals code) calls in
-        same_hosts x.env (x.frame ∷ x.below) x.at (subst (NextGoesOn x.env) (sym x.next_is) (entered x.env (with_ops (frame_behind x.frame k) x.rest ∷ x.below) _ (nat_lt (length (with_ops (frame_behind x.frame k) x.rest ∷ x.below)) (instance m s).depth)))
-      where
-        entered : (e : Env) (below : List Frame) (fr : Frame) (b : Bool) → NextGoesOn e (cond b (reduces (configuration e (fr ∷ below))) (traps Depth))
-        entered e below fr true = same_beside e
-        entered e below fr false = tt
+  -- where it calls a function of the module
+  pub own_hosts : (f : Flat) (memory : Held) (globals : List Value) (slot : Option ℕ) (func : ℕ) (k : Tree) (ty : FuncType) (locals : List ValType) (code : Tree)
+      → Invoker m s made f memory globals linked slot func k (own ty locals code) → HasMadeHosts m s (made + 1) hosts
+  own_hosts f memory globals slot func k ty locals code x =
+      same_hosts x.env (x.frame ∷ x.below) x.at
+      (subst (NextGoesOn x.env) (sym x.next_is) (entered x.env (with_ops (frame_behind x.frame k) x.rest ∷ x.below) _ (nat_lt (length (with_ops (frame_behind x.frame k) x.rest ∷ x.below)) (instance m s).depth)))
+    where
+      entered : (e : Env) (below : List Frame) (fr : Frame) (b : Bool) → NextGoesOn e (cond b (reduces (configuration e (fr ∷ below))) (traps Depth))
+      entered e below fr true = same_beside e
+      entered e below fr false = tt

@@ -1,5 +1,5 @@
 -- A step of the machine is a step of the run.
-use Rattle.std.proofs.Common.{◌≡◌, ℕ, ◌+◌, List, [], ◌∷◌, Result, Ok, Err, refl, sym, ap, subst, ◌∙◌, ne_eqb, arith}
+use Rattle.std.proofs.Common.{◌≡◌, ℕ, ◌+◌, ◌<◌, ◌≤◌, inr, List, [], ◌∷◌, Option, Some, None, Result, Ok, Err, refl, sym, ap, subst, ◌∙◌, ne_eqb, arith}
 use Rattle.std.specs.declared.alloc.AllocError.{AllocError}
 use Rattle.std.specs.Prelude.{IsErr, not, ◌==◌, length}
 use Rattle.wasm_num.specs.declared.Value.{Value}
@@ -8,7 +8,7 @@ use Rattle.module_ast.specs.Memory.{pages}
 use Rattle.run_store.specs.Held.{Held}
 use Rattle.wasm_run.specs.Beside.{pages_in}
 use Rattle.wasm_sem.specs.declared.Answer.{Answer}
-use Rattle.wasm_sem.specs.declared.Answer.TheVariants.{Returned, Trapped}
+use Rattle.wasm_sem.specs.declared.Answer.TheVariants.{Returned, Trapped, Unfinished}
 use Rattle.wasm_sem.specs.declared.Script.{Script}
 use Rattle.wasm_sem.specs.declared.Trap.{Trap}
 use Rattle.wasm_sem.specs.Link.{Instance, instance}
@@ -18,7 +18,17 @@ use Rattle.wasm_run.specs.Flat.{Flat, first_rest}
 use Rattle.wasm_run.specs.Standing.{IsStanding, KeepsStore, Went, Trapped as HasTrapped}
 use Rattle.wasm_run.specs.Advances.{IsAtCall, IsAtGrow, IsSame, Advances, GoesAtNoCall}
 use Rattle.wasm_run.specs.Rooms.{HaveRoom}
-use Rattle.wasm_run.specs.Running.{HoldsIf, Run, configuration_of, KeepsConfiguration, IsRunning, IsInside, Innermost, StepsInside}
+use Rattle.wasm_run.specs.Below.{IsAnswerOf}
+use Rattle.wasm_run.specs.Moves.{RunsOn, EndsWith, MovesBy, MayWant, MakesStep}
+use Rattle.module_ast.specs.Tree.{Tree}
+use Rattle.wasm_run.specs.Running.{HoldsIf, Run, configuration_of, KeepsConfiguration, IsRunning, IsInside, Innermost}
+use Rattle.wasm_run.proofs.Beside.{NextGoesOn, step_goes_on}
+use Rattle.wasm_run.proofs.Ending.{few_live, NextAnswers, step_answers, same_values}
+use Rattle.wasm_run.proofs.Pushed.{push_length, pushed_same}
+use Rattle.wasm_sem.specs.Typed.{IsPhaseTyped}
+use Rattle.wasm_sem.proofs.Live.{IsLive, IsStateLive}
+use Rattle.wasm_sem.proofs.LiveSteps.{always_live}
+use Rattle.module_ast.specs.Typing.{push}
 use Rattle.wasm_run.specs.declared.advance.Did.{Did}
 use Rattle.wasm_run.specs.declared.advance.Did.TheVariants as dids
 use Rattle.wasm_run.proofs.Rooms.{follows_room, next_state, standing_at}
@@ -28,6 +38,12 @@ pub env_store : (inst : Instance) (p : Phase) (e : Env) (a : Answer) → (env_af
 env_store inst starting e a = refl
 env_store inst (calling n) e a = refl
 env_store inst over e a = refl
+
+-- while a function runs the run is not over
+busy_phase : (inst : Instance) (e : Env) (fr : Frame) (below : List Frame) (p : Phase) → IsPhaseTyped inst p (fr ∷ below) → p ≡ over → ⊥
+busy_phase inst e fr below starting h q = absurd cc
+busy_phase inst e fr below (calling n) h q = absurd cc
+busy_phase inst e fr below over h q = absurd cc
 
 module _ (m : Module) (s : Script) (made : ℕ) (f : Flat) (memory : Held) (globals : List Value) (running : IsRunning m s made f memory globals) where
   abbrev inst : Instance
@@ -42,9 +58,14 @@ module _ (m : Module) (s : Script) (made : ℕ) (f : Flat) (memory : Held) (glob
       go (configuration e (fr ∷ below)) at (lies, store, room) inside =
           let l = running.linked in (inst, e, fr, below, standing_at m s l.valid l.complete l.range l.links f memory globals made e fr below at lies store room)
 
+  -- what a step leads to: a function runs on, or the last frame has left its values
+  abbrev pub LeadsTo : Configuration → Configuration → Flat → Type 0
+  LeadsTo c (configuration e []) t = (vs : List Value) × EndsWith inst (Returned vs) c (configuration e []) × (t.bases ≡ []) × (t.values ≡ push vs []) × (length vs ≤ 1)
+  LeadsTo c (configuration e (fr ∷ below)) t = RunsOn c (configuration e (fr ∷ below)) × (0 < length t.bases)
+
   -- what a step leaves
   abbrev pub Leaves : Result Did AllocError → Configuration → Flat → Held → List Value → Type 0
-  Leaves (Ok dids.Went) c t u g = IsRunning m s (made + 1) t u g
+  Leaves (Ok dids.Went) c t u g = IsRunning m s (made + 1) t u g × LeadsTo c (run_of m s (made + 1)) t
   Leaves (Ok (dids.Trapped trap)) c t u g = ((empty : Flat) → empty.bases ≡ [] → IsRunning m s (made + 1) empty u g) × (step inst c ≡ traps trap)
   Leaves (Ok dids.Calls) c t u g = IsRunning m s made t u g × Innermost IsAtCall c
   Leaves (Err v) c t u g = IsRunning m s made t u g × Innermost IsAtGrow c
@@ -59,6 +80,22 @@ module _ (m : Module) (s : Script) (made : ℕ) (f : Flat) (memory : Held) (glob
     went e fr below (traps trap) follows room w = absurd w
     went e fr below ends follows room w = absurd w
     went e fr below stuck follows room w = absurd w
+
+    -- and leads there
+    leads : (e : Env) (fr : Frame) (below : List Frame) (n : Next) → (e.phase ≡ over → ⊥) → NextGoesOn e n → NextAnswers inst e n → Went inst e n t u g → LeadsTo (configuration e (fr ∷ below)) (after_step inst (configuration e (fr ∷ below)) n) t
+    leads e fr below (reduces (configuration x [])) busy on (us, p, few) (vs, q, ended, keeps) = (
+      vs,
+      subst (λ x. EndsWith inst (Returned vs) (configuration e (fr ∷ below)) (configuration x [])) (sym q) (record { outside = λ h. h; told = record { phase = refl; started = refl; answers = refl } }),
+      ended.bases,
+      ended.values,
+      subst (λ (vs : List Value). length vs ≤ 1) (same_values inst e.phase e us vs busy (sym p ∙ q)) few,
+    )
+    leads e fr below (reduces (configuration x (h ∷ hs))) busy on none (lies, keeps) =
+        let bases = ap length lies.bases in
+        (record { inside = tt; same = record { phase = on.phase; started = on.started; answers = on.answers } }, omega (arith, bases))
+    leads e fr below (traps trap) busy on none w = absurd w
+    leads e fr below ends busy on none w = absurd w
+    leads e fr below stuck busy on none w = absurd w
 
     -- or trapped
     trapped : (e : Env) (fr : Frame) (below : List Frame) (n : Next) (trap : Trap) → HasTrapped inst e n trap u g → ((empty : Flat) → empty.bases ≡ [] → KeepsConfiguration m s (after_step inst (configuration e (fr ∷ below)) n) empty u g) × (n ≡ traps trap)
@@ -76,11 +113,16 @@ module _ (m : Module) (s : Script) (made : ℕ) (f : Flat) (memory : Held) (glob
         → GoesAtNoCall r fr.top.rest → Advances inst e fr below r f memory globals t u g → Leaves r (configuration e (fr ∷ below)) t u g
     step_leaves e fr below (Ok dids.Went) at room none w =
         let l = running.linked in
-        record {
-          linked = l;
-          keeps = subst (λ c. KeepsConfiguration m s c t u g) (sym (next_state m s l.valid l.complete l.range l.links made (configuration e (fr ∷ below)) at))
-              (went e fr below (step inst (configuration e (fr ∷ below))) (step_follows inst e fr below none) room w);
-        }
+        let live : IsLive m s e (fr ∷ below) = subst (IsStateLive m s) at (always_live m s l.valid l.complete l.range l.links made) in
+        let few = few_live m fr below l.valid live.frames in
+        let there = sym (next_state m s l.valid l.complete l.range l.links made (configuration e (fr ∷ below)) at) in (
+          record {
+            linked = l;
+            keeps = subst (λ c. KeepsConfiguration m s c t u g) there (went e fr below (step inst (configuration e (fr ∷ below))) (step_follows inst e fr below none) room w);
+          },
+          subst (λ c. LeadsTo (configuration e (fr ∷ below)) c t) there
+              (leads e fr below (step inst (configuration e (fr ∷ below))) (busy_phase inst e fr below e.phase live.phase) (step_goes_on inst e fr below none) (step_answers inst e fr below none few) w),
+        )
     step_leaves e fr below (Ok (dids.Trapped trap)) at room none w =
         let l = running.linked in
         let h = trapped e fr below (step inst (configuration e (fr ∷ below))) trap w in (
@@ -106,10 +148,27 @@ module _ (m : Module) (s : Script) (made : ℕ) (f : Flat) (memory : Held) (glob
             step_leaves e fr below r at room (subst (λ ss. GoesAtNoCall r (first_rest ss)) lies.spots none)
             (advances inst e fr below (standing_at m s l.valid l.complete l.range l.links f memory globals made e fr below at lies store room))
 
--- memory was wanting
-pub wanting : (r : Result Did AllocError) (old new : Run) → IsErr r → new ≡ old → Innermost IsAtGrow (configuration_of old) → StepsInside r old new
-wanting (Ok d) old new h same grow = absurd cc
-wanting (Err v) old new h same grow = (same, grow)
+-- what the machine answers behind a step that went on
+pub went_moves : (m : Module) (s : Script) (made : ℕ) (c d : Configuration) (f g : Flat) (memory : Held) (globals : List Value) (running : IsRunning m s made f memory globals) (a : Option Answer)
+    → IsAnswerOf a g → LeadsTo m s made f memory globals running c d g → MovesBy (instance m s) a c d
+went_moves m s made c (configuration e []) f g memory globals running None h (vs, ends_so, bases, values, few) = let n = ap length bases in absurd (omega (arith, h, n))
+went_moves m s made c (configuration e (fr ∷ below)) f g memory globals running None h (on, some) = on
+went_moves m s made c (configuration e []) f g memory globals running (Some (Returned us)) (none, is) (vs, ends_so, bases, values, few) =
+    subst (λ us. EndsWith (instance m s) (Returned us) c (configuration e [])) (pushed_same vs us (sym values ∙ is)) ends_so
+went_moves m s made c (configuration e (fr ∷ below)) f g memory globals running (Some (Returned us)) (none, is) (on, some) = let n = ap length none in absurd (omega (arith, some, n))
+went_moves m s made c d f g memory globals running (Some (Trapped t)) h l = absurd h
+went_moves m s made c d f g memory globals running (Some Unfinished) h l = absurd h
+
+-- there are few values where the last frame has been left
+pub left_few : (m : Module) (s : Script) (made : ℕ) (c d : Configuration) (f g : Flat) (memory : Held) (globals : List Value) (running : IsRunning m s made f memory globals)
+    → LeadsTo m s made f memory globals running c d g → g.bases ≡ [] → length g.values ≤ 4
+left_few m s made c (configuration e []) f g memory globals running (vs, ends_so, bases, values, few) none = let n = ap length values in omega (arith, n, few, push_length vs [])
+left_few m s made c (configuration e (fr ∷ below)) f g memory globals running (on, some) none = let n = ap length none in absurd (omega (arith, some, n))
+
+-- where it traps
+pub trap_ends : (inst : Instance) (c : Configuration) (t : Trap) → step inst c ≡ traps t → EndsWith inst (Trapped t) c (after_step inst c (step inst c))
+trap_ends inst (configuration e fs) t h =
+    subst (λ n. EndsWith inst (Trapped t) (configuration e fs) (after_step inst (configuration e fs) n)) (sym h) (record { outside = λ h. h; told = record { phase = refl; started = refl; answers = refl } })
 
 -- whether a frame is there
 pub inside_by : (m : Module) (s : Script) (c : Configuration) (f : Flat) (memory : Held) (globals : List Value) (n : ℕ) → KeepsConfiguration m s c f memory globals → n ≡ length f.bases → HoldsIf (not (n == 0)) (IsInside c)
@@ -122,3 +181,42 @@ inside_by m s (configuration e (fr ∷ below)) f memory globals n (lies, keeps, 
 pub kept_pages : (m : Module) (s : Script) (c : Configuration) (f : Flat) (memory : Held) (globals : List Value) → KeepsConfiguration m s c f memory globals → pages memory.bytes ≡ pages_in c
 kept_pages m s (configuration e []) f memory globals (none, keeps) = ap (λ (h : Held). pages h.bytes) keeps.memory_is
 kept_pages m s (configuration e (fr ∷ below)) f memory globals (lies, keeps, room) = ap (λ (h : Held). pages h.bytes) keeps.memory_is
+
+-- and no frame is left
+pub trap_running : (m : Module) (s : Script) (made : ℕ) (f : Flat) (memory : Held) (globals : List Value) → IsRunning m s made f memory globals → (t : Trap) → step (instance m s) (run_of m s made) ≡ traps t
+    → (empty : Flat) → empty.bases ≡ [] → IsRunning m s (made + 1) empty memory globals
+trap_running m s made f memory globals running t h empty unframed = go (run_of m s made) refl running.keeps h
+  where
+    go : (c : Configuration) → run_of m s made ≡ c → KeepsConfiguration m s c f memory globals → step (instance m s) c ≡ traps t → IsRunning m s (made + 1) empty memory globals
+    go (configuration e fs) at keeps h =
+        let l = running.linked in
+        record {
+          linked = l;
+          keeps = subst (λ c. KeepsConfiguration m s c empty memory globals)
+              (sym (next_state m s l.valid l.complete l.range l.links made (configuration e fs) at ∙ ap (after_step (instance m s) (configuration e fs)) h))
+              (unframed, subst (λ st. KeepsStore (instance m s) st memory globals) (sym (env_store (instance m s) e.phase e (Trapped t))) (store_of e fs keeps));
+        }
+      where
+        store_of : (e : Env) (fs : List Frame) → KeepsConfiguration m s (configuration e fs) f memory globals → KeepsStore (instance m s) e.store memory globals
+        store_of e [] k = k.1
+        store_of e (fr ∷ below) k = k.1
+
+-- memory is wanting at `memory.grow`
+pub wants_at_grow : (c : Configuration) → Innermost IsAtGrow c → MayWant c
+wants_at_grow (configuration e []) h = absurd h
+wants_at_grow (configuration e (fr ∷ below)) h = inr h
+
+-- a label is there where a frame is
+pub label_there : (m : Module) (s : Script) (f : Flat) (memory : Held) (globals : List Value) (c : Configuration) → KeepsConfiguration m s c f memory globals → IsInside c → 0 < length f.spots
+label_there m s f memory globals (configuration e []) keeps inside = absurd inside
+label_there m s f memory globals (configuration e (fr ∷ below)) (lies, store, room) inside = let n = ap length lies.spots in omega (arith, n)
+
+-- what is left of its sequence is what the frame stands before
+pub place_there : (m : Module) (s : Script) (f : Flat) (memory : Held) (globals : List Value) (c : Configuration) → KeepsConfiguration m s c f memory globals → IsInside c → (place : Tree) → place ≡ first_rest f.spots → Innermost (λ (fr : Frame). fr.top.rest ≡ place) c
+place_there m s f memory globals (configuration e []) keeps inside place is = absurd inside
+place_there m s f memory globals (configuration e (fr ∷ below)) (lies, store, room) inside place is = sym (is ∙ ap first_rest lies.spots)
+
+-- memory was wanting
+pub wanting : (r : Result (Option Answer) AllocError) (old new : Run) → IsErr r → new ≡ old → Innermost IsAtGrow (configuration_of old) → MakesStep r old new
+wanting (Ok d) old new h same grow = absurd cc
+wanting (Err v) old new h same grow = (same, wants_at_grow (configuration_of old) grow)

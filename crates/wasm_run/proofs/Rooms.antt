@@ -154,7 +154,7 @@ module _ (m : Module) (s : Script) (valid : IsValid m) (complete : IsComplete m)
 
 -- ---- a call of a function of the module
 
-zeros_count : (ts : List ValType) → length (zeros ts) ≡ length ts
+pub zeros_count : (ts : List ValType) → length (zeros ts) ≡ length ts
 zeros_count [] = refl
 zeros_count (t ∷ ts) = ap suc (zeros_count ts)
 

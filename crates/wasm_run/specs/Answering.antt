@@ -1,17 +1,12 @@
 -- Calls that are answered at once, by the script or with zeros.
-use Rattle.std.specs.Prelude.{◌≡◌, ℕ, List, length, drop, Option, Some, None, slice_get}
+use Rattle.std.specs.Prelude.{List, length, drop, Option, Some, None}
 use Rattle.std.specs.Borrow.{Bor}
 use Rattle.wasm_num.specs.declared.Value.{Value}
 use Rattle.module_ast.specs.declared.module.FuncType.{FuncType}
-use Rattle.module_ast.specs.declared.module.Module.{Module}
-use Rattle.module_ast.specs.Tree.{Tree, plain, call}
 use Rattle.module_ast.specs.Typing.{push}
 use Rattle.wasm_sem.specs.declared.HostAnswer.{HostAnswer}
-use Rattle.wasm_sem.specs.Link.{Callee, callees_of}
-use Rattle.wasm_sem.specs.Machine.{Frame, Configuration}
 use Rattle.wasm_sem.specs.Store.{no_answer}
 use Rattle.wasm_run.specs.Flat.{Flat}
-use Rattle.wasm_run.specs.Running.{Innermost}
 
 -- the arguments are taken, and these results are on top
 abbrev pub returned_with : FuncType → (results : List Value) → Flat → Flat
@@ -21,8 +16,3 @@ returned_with ty results f = record f { values = push results (drop (length ty.p
 abbrev pub answer_given : Option (Bor HostAnswer) → HostAnswer
 answer_given None = no_answer
 answer_given (Some a) = a.now
-
--- the innermost frame stands before a call of this function, with this code behind
-pub record CallsFunction (m : Module) (c : Configuration) (f : ℕ) (k : Tree) (called : Callee) : Type 0 where
-  pub at : Innermost (λ (fr : Frame). fr.top.rest ≡ plain (call f) k) c
-  pub callee : slice_get (callees_of m) f ≡ Some called

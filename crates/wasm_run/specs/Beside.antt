@@ -7,6 +7,12 @@ use Rattle.wasm_sem.specs.declared.Script.{Script}
 use Rattle.wasm_sem.specs.Store.{Store}
 use Rattle.wasm_sem.specs.Link.{opening_store}
 use Rattle.wasm_sem.specs.Machine.{Env, Configuration, configuration, run_of}
+use Rattle.wasm_num.specs.declared.Value.{Value}
+use Rattle.run_store.specs.Held.{Held}
+use Rattle.wasm_run.specs.declared.functions.Function.{Function}
+use Rattle.wasm_run.specs.Flat.{Flat}
+use Rattle.wasm_run.specs.Resolved.{AreFunctionsOf}
+use Rattle.wasm_run.specs.Running.{IsRunning}
 
 -- the same table, and no host call more
 pub record HasSameRest (old new : Store) : Type 0 where
@@ -36,3 +42,10 @@ pub record HasMadeHosts (m : Module) (s : Script) (made hosts : ℕ) : Type 0 wh
 -- the table when the run opened, which no step changes
 abbrev pub IsTableOf : Module → Script → List (Option ℕ) → Type 0
 IsTableOf m s slots = slots ≡ (opening_store m s).slots
+
+-- what the machine keeps of a run after so many steps
+pub record KeepsRun (m : Module) (s : Script) (made : ℕ) (f : Flat) (memory : Held) (globals : List Value) (hosts : ℕ) (functions : List Function) (table : List (Option ℕ)) : Type 0 where
+  pub running : IsRunning m s made f memory globals
+  pub counted : HasMadeHosts m s made hosts
+  pub functions_are : AreFunctionsOf m functions
+  pub table_is : IsTableOf m s table

@@ -1,11 +1,12 @@
 -- A call of a function of the module, on what the machine keeps.
-use Rattle.std.specs.Prelude.{◌≡◌, ℕ, List, [], ◌∷◌, length, Option, Some, None}
+use Rattle.std.specs.Prelude.{◌≡◌, ℕ, ◌+◌, ◌≤◌, ℤ, List, [], ◌∷◌, ◌++◌, length, Option, Some, None}
 use Rattle.wasm_num.specs.declared.Value.{Value}
 use Rattle.module_ast.specs.declared.module.FuncType.{FuncType}
 use Rattle.module_ast.specs.declared.module.Body.{Body}
 use Rattle.module_ast.specs.Validity.{declared_locals}
 use Rattle.wasm_sem.specs.declared.Trap.{Trap}
 use Rattle.wasm_sem.specs.Link.{Instance}
+use Rattle.wasm_sem.specs.Store.{values_of}
 use Rattle.wasm_sem.specs.Machine.{Frame, Env, configuration, Next, reduces, traps, pop_values, with_ops, new_frame, enter}
 use Rattle.wasm_run.specs.Flat.{Flat}
 use Rattle.wasm_run.specs.Kept.{Lies}
@@ -24,3 +25,12 @@ abbrev pub HasEntered : Env → Option Trap → Next → Flat → Type 0
 HasEntered e None (reduces (configuration f fs)) s = (f ≡ e) × Lies s fs
 HasEntered e (Some t) (traps u) s = t ≡ u
 HasEntered e _ _ s = ⊥
+
+-- ---- the only frame
+
+-- A function of the module has been entered by the start or by a call of the script, with what these numbers stand for. There
+-- is room for its locals, so many operands and so many labels inside its own.
+pub record StandsAlone (ty : FuncType) (body : Body) (numbers : List ℤ) (height nesting : ℕ) (f : Flat) : Type 0 where
+  pub lies : (func : ℕ) → Lies f (new_frame func ty (declared_locals body.groups) body.code (values_of ty.params numbers) ∷ [])
+  pub values_fit : length (ty.params ++ declared_locals body.groups) + height ≤ f.value_room
+  pub labels_fit : 1 + nesting ≤ f.spot_room

@@ -11,3 +11,10 @@ pub mod Calls
 pub mod Resolved
 pub mod Beside
 pub mod Answering
+pub mod Turns
+pub mod Moves
+pub mod Reaching
+pub mod Below
+pub mod Entries
+pub mod Progress
+pub mod Exported

@@ -9,7 +9,6 @@ use Rattle.module_ast.specs.Tree.{Tree}
 use Rattle.wasm_sem.specs.Link.{own, callees_of}
 use Rattle.wasm_sem.specs.Machine.{Frame}
 use Rattle.wasm_sem.specs.Heights.{function_context}
-use Rattle.wasm_run.specs.Flat.{Flat}
 use Rattle.wasm_run.specs.Kept.{all_values, all_spots}
 
 -- there is room for the locals and the greatest height of a frame's function, and for as many labels as its nesting and
@@ -24,8 +23,3 @@ pub record HasOwnRoom (m : Module) (values labels : ℕ) (fr : Frame) (below : L
 abbrev pub HaveRoom : Module → (values labels : ℕ) → List Frame → Type 0
 HaveRoom m values labels [] = Unit {0}
 HaveRoom m values labels (fr ∷ below) = HasOwnRoom m values labels fr below × HaveRoom m values labels below
-
--- no less room than before
-pub record KeepsRoom (old new : Flat) : Type 0 where
-  pub values : old.value_room ≤ new.value_room
-  pub labels : old.spot_room ≤ new.spot_room

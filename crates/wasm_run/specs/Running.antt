@@ -1,6 +1,5 @@
 -- A run as the machine keeps it: a module, a script, and how many steps have been made.
-use Rattle.std.specs.Prelude.{◌≡◌, ℕ, ◌+◌, List, [], ◌∷◌, Result, Ok, Err, Option, Some, None, Bool, true, false, slice_get}
-use Rattle.std.specs.declared.alloc.AllocError.{AllocError}
+use Rattle.std.specs.Prelude.{◌≡◌, ℕ, ◌+◌, List, [], ◌∷◌, Bool, true, false}
 use Rattle.wasm_num.specs.declared.Value.{Value}
 use Rattle.module_ast.specs.declared.module.Module.{Module}
 use Rattle.module_ast.specs.declared.module.FuncType.{FuncType}
@@ -8,24 +7,18 @@ use Rattle.module_ast.specs.declared.module.Body.{Body}
 use Rattle.module_ast.specs.Marks.{height}
 use Rattle.module_ast.specs.Positions.{code_nesting}
 use Rattle.module_ast.specs.Profile.{locals_of}
-use Rattle.module_ast.specs.Tree.{Tree, plain, call}
 use Rattle.module_ast.specs.Validity.{declared_locals}
-use Rattle.wasm_sem.specs.declared.Trap.{Trap}
 use Rattle.wasm_sem.specs.Heights.{function_context}
-use Rattle.wasm_sem.specs.Link.{own, callees_of}
 use Rattle.module_ast.specs.Validity.{IsValid}
 use Rattle.run_store.specs.Held.{Held}
 use Rattle.wasm_sem.specs.declared.Script.{Script}
 use Rattle.wasm_sem.specs.Link.{instance, IsScriptInRange, Links}
-use Rattle.wasm_sem.specs.Machine.{Frame, Configuration, configuration, traps, step, run_of}
+use Rattle.wasm_sem.specs.Machine.{Frame, Configuration, configuration, run_of}
 use Rattle.wasm_sem.specs.Typed.{IsComplete}
 use Rattle.wasm_run.specs.Flat.{Flat}
 use Rattle.wasm_run.specs.Kept.{Lies}
 use Rattle.wasm_run.specs.Standing.{KeepsStore}
-use Rattle.wasm_run.specs.Advances.{IsAtCall, IsAtGrow}
 use Rattle.wasm_run.specs.Rooms.{HaveRoom}
-use Rattle.wasm_run.specs.declared.advance.Did.{Did}
-use Rattle.wasm_run.specs.declared.advance.Did.TheVariants as dids
 
 -- what stands behind so many steps is `run_of «module» script made`
 pub record Run : Type 0 where
@@ -74,29 +67,10 @@ abbrev pub Innermost : (Frame → Type 0) → Configuration → Type 0
 Innermost P (configuration e []) = ⊥
 Innermost P (configuration e (fr ∷ below)) = P fr
 
--- One step was made, or a trap, which is a step too. At a call none was made, nor where memory is wanting, which is so at
--- `memory.grow` alone.
-abbrev pub StepsInside : Result Did AllocError → Run → Run → Type 0
-StepsInside (Ok dids.Went) old new = new ≡ one_more old
-StepsInside (Ok (dids.Trapped t)) old new = (new ≡ one_more old) × (step (instance old.module old.script) (configuration_of old) ≡ traps t)
-StepsInside (Ok dids.Calls) old new = (new ≡ old) × Innermost IsAtCall (configuration_of old)
-StepsInside (Err u) old new = (new ≡ old) × Innermost IsAtGrow (configuration_of old)
-
--- ---- a call of a function of the module
-
--- the innermost frame stands before it, with this code behind
-pub record CallsOwn (m : Module) (c : Configuration) (f : ℕ) (k : Tree) (ty : FuncType) (body : Body) : Type 0 where
-  pub at : Innermost (λ (fr : Frame). fr.top.rest ≡ plain (call f) k) c
-  pub callee : slice_get (callees_of m) f ≡ Some (own ty (declared_locals body.groups) body.code)
+-- ---- a function of the module
 
 -- what its frame takes
 pub record IsSizeOf (m : Module) (ty : FuncType) (body : Body) (locals high nesting : ℕ) : Type 0 where
   pub locals_are : locals ≡ locals_of body.groups
   pub high_is : high ≡ height (function_context m ty (declared_locals body.groups)) body.code
   pub nesting_is : nesting ≡ code_nesting body.code
-
--- one step was made, to a trap or not; none where memory is wanting
-abbrev pub MakesCall : Result (Option Trap) AllocError → Run → Run → Type 0
-MakesCall (Ok None) old new = new ≡ one_more old
-MakesCall (Ok (Some t)) old new = (new ≡ one_more old) × (step (instance old.module old.script) (configuration_of old) ≡ traps t)
-MakesCall (Err u) old new = new ≡ old

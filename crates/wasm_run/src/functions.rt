@@ -4,14 +4,18 @@ ghost use Rattle.std.specs.Prelude.{◌≡◌, ◌+◌, ◌<◌, ◌^◌, ◌∷
 ghost use Rattle.module_ast.specs.declared.module.Module.{Module as valid_module};
 ghost use Rattle.module_ast.specs.declared.module.Body.{Body as function_body};
 ghost use Rattle.module_ast.specs.Profile.{locals_of};
-ghost use Rattle.wasm_sem.specs.Link.{item_callees, import_callees, own_callee, callees_of, is_hook};
+ghost use Rattle.wasm_sem.specs.Link.{callee_type, item_callees, import_callees, own_callee, callees_of, is_hook};
+ghost use Rattle.wasm_sem.specs.Machine.{have_same_types, same_func_type};
+ghost use Rattle.wasm_run.specs.Reaching.{index_count};
 ghost use Rattle.wasm_run.specs.Resolved.{callee_for, HasSize, AreFunctionsOf};
 
 use crate::call::Size;
+use module_ast::code::Instr;
 use module_ast::module::{Body, FuncType, Group, Import, Item, Module};
 use module_ast::nesting;
 use std::alloc::{AllocError, Global};
-use wasm_num::NoMemory;
+use wasm_num::{NoMemory, ValType};
+use wasm_sem::Trap;
 use wasm_valid::ValidModule;
 
 /// A function of a module: answered by the script, a hook, or the module's own, with what its frame takes. (Standard, 4.2.6)
@@ -22,7 +26,64 @@ pub(crate) enum Function<'m> {
     Own(&'m FuncType, &'m Body, Size),
 }
 
+impl<'m> Function<'m> {
+    /// Its type.
+    pub fn ty(&self) -> &'m FuncType
+        ensures { result.now ≡ callee_type (callee_for self.now) }
+    {
+        match self {
+            Function::Host(ty) => ty,
+            Function::Hook(ty) => ty,
+            Function::Own(ty, _, _) => ty,
+        }
+    }
+}
+
+/// A call of a function by its index: the code behind the call and, where it goes through a slot of the table, the slot,
+/// whose number is on top of the arguments. (Standard, 4.4.7)
+#[derive(Clone, Copy)]
+pub(crate) struct Invocation<'m> {
+    pub func: u32,
+    pub function: Function<'m>,
+    pub rest: &'m [Instr],
+    pub slot: Option<u32>,
+}
+
+impl<'m> Invocation<'m> {
+    /// How many operands stand above the arguments: the number of the slot, where there is one.
+    pub fn above(&self) -> usize
+        ensures { result ≡ index_count self.now.slot }
+    {
+        match self.slot {
+            Some(_) => 1,
+            None => 0,
+        }
+    }
+}
+
+/// Where the next instruction leads: it is no call, it traps before it comes to a function, or it calls one.
+pub(crate) enum Target<'m> {
+    NoCall,
+    Traps(Trap),
+    Invokes(Invocation<'m>),
+}
+
 const HOOK_MODULE: &str = "__wasabi_hooks";
+
+// Whether two types are the same, of results or of parameters.
+fn same_types(these: &[ValType], those: &[ValType]) -> bool
+    ensures { result ≡ have_same_types these.now those.now }
+{
+    these == those
+}
+
+/// Whether two function types are the same. (Standard, 2.3.5)
+pub(crate) fn same_func_type(this: &FuncType, that: &FuncType) -> bool
+    ensures { result ≡ same_func_type this.now that.now }
+{
+    same_types(this.params.as_slice(), that.params.as_slice())
+        && same_types(this.results.as_slice(), that.results.as_slice())
+}
 
 // Whether an import is a hook.
 fn names_a_hook(import: &Import) -> bool

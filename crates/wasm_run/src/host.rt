@@ -1,6 +1,6 @@
 // What a host function answers. (Standard, 4.4.7)
 
-ghost use Rattle.std.specs.Prelude.{◌≡◌, ◌+◌, ◌≤◌, length, drop, All};
+ghost use Rattle.std.specs.Prelude.{◌≡◌, ◌+◌, ◌≤◌, length, drop, All, IfOk, OnOk, OnErr};
 ghost use Rattle.module_ast.specs.Typing.{push};
 ghost use Rattle.wasm_sem.specs.Link.{IsWriteInRange};
 ghost use Rattle.wasm_sem.specs.Store.{value_of, values_of, answer_at, writes_done, written_memory};
@@ -9,7 +9,8 @@ ghost use Rattle.wasm_run.specs.Answering.{returned_with, answer_given};
 use crate::stack::Stack;
 use module_ast::module::FuncType;
 use run_store::memory::Memory;
-use wasm_num::{ValType, Value};
+use std::alloc::Global;
+use wasm_num::{NoMemory, ValType, Value, Values};
 use wasm_sem::{HostAnswer, HostWrite, Script};
 
 /// The value that a number of the script stands for, modulo its width. (Standard, 4.2.1)
@@ -22,8 +23,8 @@ pub(crate) fn value_of(ty: ValType, number: i128) -> Value
     }
 }
 
-// A value for each type is put on top, for which there is room: what the numbers stand for in order, and 0 past the last.
-fn push_results(stack: &mut Stack, types: &[ValType], numbers: &[i128])
+/// A value for each type is put on top, for which there is room: what the numbers stand for in order, and 0 past the last.
+pub(crate) fn push_values(stack: &mut Stack, types: &[ValType], numbers: &[i128])
     requires { length stack.old.values + length types.now ≤ stack.old.value_room }
     ensures { stack.new ≡ record stack.old { values = push (values_of types.now numbers.now) stack.old.values } }
 {
@@ -31,6 +32,22 @@ fn push_results(stack: &mut Stack, types: &[ValType], numbers: &[i128])
         let number = numbers.get(place).copied().unwrap_or(0);
         stack.push(value_of(types[place], number));
     }
+}
+
+/// A value for each type: what the numbers stand for in order, and 0 past the last.
+pub(crate) fn values_of(
+    alloc: Global,
+    types: &[ValType],
+    numbers: &[i128],
+) -> Result<Values, NoMemory>
+    ensures { IfOk result (λ vs. vs ≡ values_of types.now numbers.now) }
+{
+    let mut values = Values::new(alloc);
+    for place in 0..types.len() {
+        let number = numbers.get(place).copied().unwrap_or(0);
+        values.push(value_of(types[place], number))?;
+    }
+    Ok(values)
 }
 
 // The writes of an answer are done in order, but for those that end past the memory.
@@ -60,7 +77,7 @@ pub(crate) fn return_numbers(stack: &mut Stack, ty: &FuncType, numbers: &[i128])
     ensures { stack.new ≡ returned_with ty.now (values_of ty.now.results numbers.now) stack.old }
 {
     stack.drop_top(ty.params.as_slice().len());
-    push_results(stack, ty.results.as_slice(), numbers);
+    push_values(stack, ty.results.as_slice(), numbers);
 }
 
 /// A call is answered by the script; without an answer, with zeros. Writes that end past the memory are left out.
@@ -83,5 +100,29 @@ pub(crate) fn answer(
             write_all(memory, answer.writes.as_slice());
         }
         None => return_numbers(stack, ty, &[]),
+    }
+}
+
+/// A host function that no other calls is answered by the script; without an answer, with zeros. Its results are given back.
+/// Writes that end past the memory are left out. After an `Err` the memory is as it was.
+pub(crate) fn answer_entry(
+    alloc: Global,
+    memory: &mut Memory,
+    ty: &FuncType,
+    answer: Option<&HostAnswer>,
+) -> Result<Values, NoMemory>
+    requires writes { All IsWriteInRange (answer_given answer).writes }
+    ensures values { IfOk result (λ vs. vs ≡ values_of ty.now.results (answer_given answer.entry).results) }
+    ensures bytes { OnOk result (memory.new.bytes ≡ written_memory (writes_done memory.old.bytes (answer_given answer.entry).writes) memory.old.bytes) }
+    ensures max { memory.new.max ≡ memory.old.max }
+    ensures err { OnErr result (memory.new ≡ memory.old) }
+{
+    match answer {
+        Some(answer) => {
+            let results = values_of(alloc, ty.results.as_slice(), answer.results.as_slice())?;
+            write_all(memory, answer.writes.as_slice());
+            Ok(results)
+        }
+        None => values_of(alloc, ty.results.as_slice(), &[]),
     }
 }

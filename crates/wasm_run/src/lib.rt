@@ -4,9 +4,16 @@
 mod advance;
 mod call;
 mod control;
+mod exports;
 mod functions;
 mod host;
+mod machine;
 mod opening;
+mod progress;
 mod running;
 mod stack;
 mod straight;
+
+pub use exports::exported_functions;
+pub use machine::Machine;
+pub use opening::{least_pages, least_slots, offset_of, open_globals};

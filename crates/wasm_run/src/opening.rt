@@ -55,7 +55,7 @@ fn offset_in(globals: &[Value], instr: &Instr) -> u32
 }
 
 /// Where a segment begins. (Standard, 4.5.4)
-pub(crate) fn offset_of(globals: &[Value], offset: &Code) -> u32
+pub fn offset_of(globals: &[Value], offset: &Code) -> u32
     ensures { result ≡ offset_of globals.now offset.now }
 {
     match offset.as_slice() {
@@ -80,11 +80,7 @@ fn open_imports(alloc: Global, m: &Module, script: &Script) -> Result<Vec<Value>
 
 /// The values of the globals when a run opens: of the imported ones as the script gives them, then of the others as their
 /// initialisers do. (Standard, 4.5.4)
-pub(crate) fn open_globals(
-    alloc: Global,
-    m: &Module,
-    script: &Script,
-) -> Result<Vec<Value>, NoMemory>
+pub fn open_globals(alloc: Global, m: &Module, script: &Script) -> Result<Vec<Value>, NoMemory>
     ensures { IfOk result (λ v. v.items ≡ opening_globals m.now script.now) }
 {
     let mut values = open_imports(alloc, m, script)?;
@@ -174,9 +170,20 @@ pub(crate) fn open_memory(
     Ok(memory)
 }
 
-// How many slots the table has, 0 without one.
+/// How many pages the module's memory has at least, 0 without one. (Standard, 2.5.5)
 #[tactic(auto, using(crate::proofs::Ranges::first_least, crate::proofs::Ranges::none_least))]
-fn slot_count(m: &Module) -> u32
+pub fn least_pages(m: &Module) -> u32
+    ensures { result ≡ least_size (memories_of m.now) }
+{
+    match memory_range(m) {
+        Some(range) => range.min,
+        None => 0,
+    }
+}
+
+/// How many slots the module's table has at least, 0 without one. (Standard, 2.5.4)
+#[tactic(auto, using(crate::proofs::Ranges::first_least, crate::proofs::Ranges::none_least))]
+pub fn least_slots(m: &Module) -> u32
     ensures { result ≡ least_size (tables_of m.now) }
 {
     match table_range(m) {
@@ -209,7 +216,7 @@ pub(crate) fn open_table(alloc: Global, m: &Module, globals: &[Value]) -> Result
     ensures { IfOk result (λ t. t ≡ with_elements globals.now m.now.elements (replicate (least_size (tables_of m.now)) None)) }
 {
     let mut slots = Vec::new(alloc);
-    slots.resize(slot_count(m) as usize, None)?;
+    slots.resize(least_slots(m) as usize, None)?;
     for element in m.elements.as_slice() {
         let start = offset_of(globals, &element.offset) as usize;
         place_functions(alloc, &mut slots, start, element.funcs.as_slice())?;

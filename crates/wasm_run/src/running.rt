@@ -1,21 +1,27 @@
 // A run, step by step.
 
-ghost use Rattle.std.specs.Prelude.{◌≡◌, ℕ, ◌+◌, ◌<◌, ◌^◌, Some, slice_get, IfOk};
-ghost use Rattle.module_ast.specs.Seen.{code_of};
-ghost use Rattle.wasm_run.specs.Running.{Run, configuration_of, HoldsIf, IsInside, StepsInside, CallsOwn, IsSizeOf, Innermost, MakesCall, one_more};
-ghost use Rattle.wasm_run.specs.Answering.{CallsFunction};
-ghost use Rattle.wasm_run.specs.Beside.{hosts_in, pages_in};
+ghost use Rattle.std.specs.Prelude.{◌≡◌, ℕ, ℤ, ◌+◌, ◌-◌, ◌<◌, ◌^◌, List, length, Some, None, Ok, slice_get, IfOk, OnErr};
+ghost use Rattle.module_ast.specs.Seen.{code_of, before};
+ghost use Rattle.module_ast.specs.Tree.{plain, call, call_indirect};
+ghost use Rattle.wasm_sem.specs.Answers.{hook_in};
 ghost use Rattle.wasm_sem.specs.Laws.{slots_in};
-ghost use Rattle.wasm_sem.specs.Link.{hook, host, callees_of, IsScriptInRange, Links};
+ghost use Rattle.wasm_sem.specs.Link.{Callee, hook, host, own, callees_of, instance, IsScriptInRange, Links};
+ghost use Rattle.wasm_sem.specs.Machine.{Frame, traps, step};
+ghost use Rattle.wasm_sem.specs.Trace.{items};
 ghost use Rattle.wasm_sem.specs.Typed.{IsComplete};
-ghost use Rattle.wasm_sem.specs.Machine.{Frame};
-ghost use Rattle.module_ast.specs.Tree.{Tree, plain, call};
+ghost use Rattle.module_ast.specs.Validity.{declared_locals};
+ghost use Rattle.wasm_run.specs.Running.{Run, configuration_of, HoldsIf, IsInside, IsSizeOf, Innermost};
+ghost use Rattle.wasm_run.specs.Beside.{hosts_in, pages_in};
+ghost use Rattle.wasm_run.specs.Advances.{IsAtCall};
+ghost use Rattle.wasm_run.specs.Entries.{EntersNext};
+ghost use Rattle.wasm_run.specs.Moves.{MayWant, MakesStep};
+ghost use Rattle.wasm_run.specs.Reaching.{IsAtSlot, Reaches, IsInvocation, IsTarget};
 ghost use Rattle.wasm_run.specs.Resolved.{callee_for, HasSize};
 
 use crate::advance::{Did, advance};
-use crate::call::{Size, call_own};
-use crate::functions::{Function, functions_of};
-use crate::host::{answer, next_answer, return_numbers};
+use crate::call::{Size, call_own, enter_alone};
+use crate::functions::{Function, Invocation, Target, functions_of, same_func_type};
+use crate::host::{answer, answer_entry, next_answer, return_numbers, values_of};
 use crate::opening::{open_globals, open_memory, open_table};
 use crate::stack::Stack;
 use module_ast::code::Instr;
@@ -26,7 +32,7 @@ use run_store::table::Table;
 use std::alloc::{AllocError, Global};
 use std::marker::Model;
 use wasm_num::NoMemory;
-use wasm_sem::{Script, Trap};
+use wasm_sem::{Answer, HookCall, Script, Trap};
 use wasm_valid::ValidModule;
 
 /// A run of a module under a script, after so many steps. Contracts see these three alone: all else is what stands behind
@@ -42,12 +48,12 @@ pub(crate) struct Running<'m> {
     hosts: u64,
     functions: Vec<Function<'m>>,
     table: Table,
+    alloc: Global,
 }
 
 impl<'m> Model for Running<'m> {
-    ghost use Rattle.wasm_run.specs.Beside.{HasMadeHosts, IsTableOf};
-    ghost use Rattle.wasm_run.specs.Resolved.{AreFunctionsOf};
-    ghost use Rattle.wasm_run.specs.Running.{Run, IsRunning};
+    ghost use Rattle.wasm_run.specs.Running.{Run};
+    ghost use Rattle.wasm_run.specs.Beside.{KeepsRun};
 
     ghost Value = { Run };
 
@@ -58,7 +64,7 @@ impl<'m> Model for Running<'m> {
 
     ghost view = { λ a. record { «module» = a.module.now; script = a.script.now; made = a.made } };
 
-    ghost invariant = { λ a. IsRunning a.module.now a.script.now a.made a.stack a.memory a.globals × HasMadeHosts a.module.now a.script.now a.made a.hosts × AreFunctionsOf a.module.now a.functions.items × IsTableOf a.module.now a.script.now a.table };
+    ghost invariant = { λ a. KeepsRun a.module.now a.script.now a.made a.stack a.memory a.globals a.hosts a.functions.items a.table };
 }
 
 impl<'m> Running<'m> {
@@ -89,6 +95,7 @@ impl<'m> Running<'m> {
             hosts: 0,
             functions,
             table,
+            alloc,
         })
     }
 
@@ -97,6 +104,13 @@ impl<'m> Running<'m> {
         ensures { HoldsIf result (IsInside (configuration_of self.now)) }
     {
         self.stack.frames() != 0
+    }
+
+    /// The script.
+    pub fn script(&self) -> &'m Script
+        ensures { result.now ≡ self.now.script }
+    {
+        self.script
     }
 
     /// How many steps have been made.
@@ -127,45 +141,281 @@ impl<'m> Running<'m> {
         self.hosts
     }
 
-    /// The next step of the innermost frame where that is no call. An `Err` comes at `memory.grow` alone and leaves all as
-    /// it was. (Standard, 4.4)
-    pub fn step_inside(&mut self) -> Result<Did, AllocError>
+    /// The next step of the innermost frame. Where it leaves the last one, or traps, what ran has ended. An `Err` comes at a
+    /// call or at `memory.grow` alone, and leaves all as it was. (Standard, 4.4)
+    pub fn step_inside(&mut self) -> Result<Option<Answer>, AllocError>
         requires inside { IsInside (configuration_of self.old) }
-        requires few { self.old.made < 2 ^ 63 }
-        ensures { StepsInside result self.old self.new }
+        requires few { self.old.made < 2 ^ 64 - 1 }
+        ensures { MakesStep result self.old self.new }
     {
         match advance(&mut self.stack, &mut self.memory, &mut self.globals)? {
             Did::Went => {
                 self.made += 1;
-                Ok(Did::Went)
+                Ok(self.stack.answer(self.alloc))
             }
             Did::Trapped(trap) => {
                 self.stack.clear();
                 self.made += 1;
-                Ok(Did::Trapped(trap))
+                Ok(Some(Answer::Trapped(trap)))
             }
-            Did::Calls => Ok(Did::Calls),
+            Did::Calls => self.call(),
         }
     }
 
-    /// A call of a function of the module is made, with the code behind it, or traps where there are too many frames. Its
-    /// frame gets all the memory that it needs now. After an `Err` all is as it was. (Standard, 4.4.7)
-    pub fn enter_own(
+    /// The call of a hook that comes next, with its words; none where another step comes. An `Err` comes at a call alone.
+    pub fn hook_called(&self) -> Result<Option<HookCall>, NoMemory>
+        requires { IsInside (configuration_of self.now) }
+        ensures hook { IfOk result (λ h. h ≡ hook_in (items (instance self.now.module self.now.script) (configuration_of self.now))) }
+        ensures err { OnErr result (MayWant (configuration_of self.now)) }
+    {
+        match self.target() {
+            Target::NoCall => Ok(None),
+            Target::Traps(_) => Ok(None),
+            Target::Invokes(invocation) => self.hook_of(invocation),
+        }
+    }
+
+    // The words of a hook's call.
+    fn hook_of(&self, invocation: Invocation<'m>) -> Result<Option<HookCall>, NoMemory>
+        requires { IsInvocation invocation self.now }
+        ensures hook { IfOk result (λ h. h ≡ hook_in (items (instance self.now.module self.now.script) (configuration_of self.now))) }
+    {
+        let alloc = self.alloc;
+        let Function::Hook(ty) = invocation.function else {
+            return Ok(None);
+        };
+        let args = self
+            .stack
+            .values_below(alloc, ty.params.as_slice().len(), invocation.above())?;
+        Ok(Some(HookCall {
+            import: invocation.func,
+            args,
+        }))
+    }
+
+    /// The start, or the next call of the script, calls the function of this index with what these numbers stand for. A host
+    /// function and a hook end it at once. After an `Err` all is as it was. (Standard, 4.5.5)
+    pub fn enter(&mut self, func: u32, numbers: &[i128]) -> Result<Option<Answer>, AllocError>
+        requires few { self.old.made < 2 ^ 64 - 1 }
+        requires next { (called : Callee) × EntersNext (instance self.old.module self.old.script) (configuration_of self.old) func numbers.now called }
+        ensures { MakesStep result self.old self.new }
+    {
+        match self.entered(func, numbers) {
+            Function::Host(ty) => self.enter_host(ty),
+            Function::Hook(ty) => self.enter_hook(ty),
+            Function::Own(ty, body, size) => self.enter_first(ty, body, size, numbers),
+        }
+    }
+
+    /// The call of a hook that is entered next, with its words; none where it is another function.
+    pub fn hook_entered(&self, func: u32, numbers: &[i128]) -> Result<Option<HookCall>, NoMemory>
+        requires { (called : Callee) × EntersNext (instance self.now.module self.now.script) (configuration_of self.now) func numbers.now called }
+        ensures hook { IfOk result (λ h. h ≡ hook_in (items (instance self.now.module self.now.script) (configuration_of self.now))) }
+        ensures err { OnErr result (MayWant (configuration_of self.now)) }
+    {
+        let alloc = self.alloc;
+        let Function::Hook(ty) = self.entered(func, numbers) else {
+            return Ok(None);
+        };
+        let args = values_of(alloc, ty.params.as_slice(), numbers)?;
+        Ok(Some(HookCall { import: func, args }))
+    }
+
+    // The function that is entered next, by its index.
+    fn entered(&self, func: u32, _numbers: &[i128]) -> Function<'m>
+        requires { (called : Callee) × EntersNext (instance self.now.module self.now.script) (configuration_of self.now) func _numbers.now called }
+        ensures next { EntersNext (instance self.now.module self.now.script) (configuration_of self.now) func _numbers.now (callee_for result) }
+        ensures size { HasSize self.now.module result }
+    {
+        self.called(func)
+    }
+
+    // A host function is entered, and ends at once with the script's next answer.
+    fn enter_host(&mut self, ty: &FuncType) -> Result<Option<Answer>, AllocError>
+        requires few { self.old.made < 2 ^ 64 - 1 }
+        requires next { (f : ℕ) × (numbers : List ℤ) × EntersNext (instance self.old.module self.old.script) (configuration_of self.old) f numbers (host ty.now) }
+        ensures { MakesStep result self.old self.new }
+    {
+        let given = next_answer(self.script, self.hosts);
+        let results = answer_entry(self.alloc, &mut self.memory, ty, given)?;
+        self.hosts += 1;
+        self.made += 1;
+        Ok(Some(Answer::Returned(results)))
+    }
+
+    // A hook is entered, and ends at once with zeros.
+    fn enter_hook(&mut self, ty: &FuncType) -> Result<Option<Answer>, AllocError>
+        requires few { self.old.made < 2 ^ 64 - 1 }
+        requires next { (f : ℕ) × (numbers : List ℤ) × EntersNext (instance self.old.module self.old.script) (configuration_of self.old) f numbers (hook ty.now) }
+        ensures { MakesStep result self.old self.new }
+    {
+        let results = values_of(self.alloc, ty.results.as_slice(), &[])?;
+        self.made += 1;
+        Ok(Some(Answer::Returned(results)))
+    }
+
+    // A function of the module is entered as the first frame, which gets all the memory that it needs now.
+    fn enter_first(
         &mut self,
-        rest: &'m [Instr],
         ty: &FuncType,
         body: &'m Body,
         size: Size,
-    ) -> Result<Option<Trap>, AllocError>
-        requires few { self.old.made < 2 ^ 63 }
-        requires calls { (f : ℕ) × CallsOwn self.old.module (configuration_of self.old) f (code_of rest.now) ty.now body.now }
+        numbers: &[i128],
+    ) -> Result<Option<Answer>, AllocError>
+        requires few { self.old.made < 2 ^ 64 - 1 }
+        requires next { (f : ℕ) × EntersNext (instance self.old.module self.old.script) (configuration_of self.old) f numbers.now (own ty.now (declared_locals body.now.groups) body.now.code) }
         requires size { IsSizeOf self.old.module ty.now body.now size.locals size.height size.nesting }
         requires height { size.locals + size.height < 2 ^ 63 }
         requires nesting { size.nesting < 2 ^ 63 }
-        ensures { MakesCall result self.old self.new }
+        ensures { MakesStep result self.old self.new }
+    {
+        enter_alone(&mut self.stack, ty, body, size, numbers)?;
+        self.made += 1;
+        Ok(None)
+    }
+
+    // Where the next instruction leads.
+    fn target(&self) -> Target<'m>
+        requires { IsInside (configuration_of self.now) }
+        ensures { IsTarget result self.now }
+    {
+        match self.stack.place() {
+            [] => Target::NoCall,
+            [instr, rest @ ..] => self.target_of(instr, rest),
+        }
+    }
+
+    // Where an instruction leads, with the sequence behind it.
+    fn target_of(&self, instr: &'m Instr, rest: &'m [Instr]) -> Target<'m>
+        requires { Innermost (λ (fr : Frame). fr.top.rest ≡ before instr.now (code_of rest.now)) (configuration_of self.now) }
+        ensures { IsTarget result self.now }
+    {
+        match instr {
+            Instr::Call(func) => Target::Invokes(self.direct(*func, rest)),
+            Instr::CallIndirect(ty) => self.through(*ty, rest),
+            _ => Target::NoCall,
+        }
+    }
+
+    // A call of the function of this index.
+    fn direct(&self, func: u32, rest: &'m [Instr]) -> Invocation<'m>
+        requires { Innermost (λ (fr : Frame). fr.top.rest ≡ plain (call func) (code_of rest.now)) (configuration_of self.now) }
+        ensures { IsInvocation result self.now }
+    {
+        Invocation {
+            func,
+            function: self.functions[func as usize],
+            rest,
+            slot: None,
+        }
+    }
+
+    // A call through the slot whose number is on top, of a function that has to be of the type of this index.
+    fn through(&self, ty: u32, rest: &'m [Instr]) -> Target<'m>
+        requires { Innermost (λ (fr : Frame). fr.top.rest ≡ plain (call_indirect ty) (code_of rest.now)) (configuration_of self.now) }
+        ensures { IsTarget result self.now }
+    {
+        let slot = self.stack.top_i32();
+        match self.table.slot(slot) {
+            None => Target::Traps(Trap::NoSlot),
+            Some(None) => Target::Traps(Trap::EmptySlot),
+            Some(Some(func)) => self.in_slot(slot, func, ty, rest),
+        }
+    }
+
+    // A call of the function that is in the slot.
+    fn in_slot(&self, slot: u32, func: u32, ty: u32, rest: &'m [Instr]) -> Target<'m>
+        requires at { Innermost (IsAtSlot ty (code_of rest.now) slot) (configuration_of self.now) }
+        requires there { slice_get (slots_in (configuration_of self.now)) slot ≡ Some (Some func) }
+        ensures { IsTarget result self.now }
+    {
+        let asked = &self.module.types.as_slice()[ty as usize];
+        let function = self.called(func);
+        if same_func_type(function.ty(), asked) {
+            Target::Invokes(Invocation {
+                func,
+                function,
+                rest,
+                slot: Some(slot),
+            })
+        } else {
+            Target::Traps(Trap::WrongType)
+        }
+    }
+
+    // A function by its index.
+    fn called(&self, func: u32) -> Function<'m>
+        requires { func < length (callees_of self.now.module) }
+        ensures stands { slice_get (callees_of self.now.module) func ≡ Some (callee_for result) }
+        ensures size { HasSize self.now.module result }
+    {
+        self.functions[func as usize]
+    }
+
+    // The call that comes next is made.
+    fn call(&mut self) -> Result<Option<Answer>, AllocError>
+        requires few { self.old.made < 2 ^ 64 - 1 }
+        requires at { Innermost IsAtCall (configuration_of self.old) }
+        ensures { MakesStep result self.old self.new }
+    {
+        match self.target() {
+            Target::NoCall => unreachable!(),
+            Target::Traps(trap) => Ok(Some(self.trap(trap))),
+            Target::Invokes(invocation) => self.invoke(invocation),
+        }
+    }
+
+    // The step traps, and what ran has ended.
+    fn trap(&mut self, trap: Trap) -> Answer
+        requires few { self.old.made < 2 ^ 64 - 1 }
+        requires traps { step (instance self.old.module self.old.script) (configuration_of self.old) ≡ traps trap }
+        ensures { MakesStep (Ok (Some result)) self.old self.new }
+    {
+        self.stack.clear();
+        self.made += 1;
+        Answer::Trapped(trap)
+    }
+
+    // A function of the module is entered, or traps where there are too many frames; any other is answered at once.
+    fn invoke(&mut self, invocation: Invocation<'m>) -> Result<Option<Answer>, AllocError>
+        requires few { self.old.made < 2 ^ 64 - 1 }
+        requires calls { IsInvocation invocation self.old }
+        ensures { MakesStep result self.old self.new }
+    {
+        match invocation.function {
+            Function::Host(ty) => {
+                self.call_host(invocation.rest, invocation.slot, ty);
+                Ok(None)
+            }
+            Function::Hook(ty) => {
+                self.call_hook(invocation.rest, invocation.slot, ty);
+                Ok(None)
+            }
+            Function::Own(ty, body, size) => {
+                self.enter_own(invocation.rest, invocation.slot, ty, body, size)
+            }
+        }
+    }
+
+    // A call of a function of the module is made, with the code behind it, or traps where there are too many frames. Its
+    // frame gets all the memory that it needs now. (Standard, 4.4.7)
+    fn enter_own(
+        &mut self,
+        rest: &'m [Instr],
+        slot: Option<u32>,
+        ty: &FuncType,
+        body: &'m Body,
+        size: Size,
+    ) -> Result<Option<Answer>, AllocError>
+        requires few { self.old.made < 2 ^ 64 - 1 }
+        requires calls { (f : ℕ) × Reaches (instance self.old.module self.old.script) (configuration_of self.old) slot f (code_of rest.now) (own ty.now (declared_locals body.now.groups) body.now.code) }
+        requires size { IsSizeOf self.old.module ty.now body.now size.locals size.height size.nesting }
+        requires height { size.locals + size.height < 2 ^ 63 }
+        requires nesting { size.nesting < 2 ^ 63 }
+        ensures { MakesStep result self.old self.new }
     {
         let place = self.stack.place();
-        self.stack.go_on(rest);
+        self.stack.step_behind(rest, slot);
         match call_own(&mut self.stack, self.script.depth as usize, ty, body, size) {
             Ok(None) => {
                 self.made += 1;
@@ -174,65 +424,36 @@ impl<'m> Running<'m> {
             Ok(Some(trap)) => {
                 self.stack.clear();
                 self.made += 1;
-                Ok(Some(trap))
+                Ok(Some(Answer::Trapped(trap)))
             }
             Err(error) => {
-                self.stack.go_on(place);
+                self.stack.step_back(place, slot);
                 Err(error)
             }
         }
     }
-    /// A call of a hook, with the code behind it: it is answered with zeros and changes nothing else.
-    pub fn call_hook(&mut self, rest: &'m [Instr], ty: &FuncType)
-        requires few { self.old.made < 2 ^ 63 }
-        requires calls { (f : ℕ) × CallsFunction self.old.module (configuration_of self.old) f (code_of rest.now) (hook ty.now) }
-        ensures { self.new ≡ one_more self.old }
+
+    // A call of a hook is answered with zeros and changes nothing else.
+    fn call_hook(&mut self, rest: &'m [Instr], slot: Option<u32>, ty: &FuncType)
+        requires few { self.old.made < 2 ^ 64 - 1 }
+        requires calls { (f : ℕ) × Reaches (instance self.old.module self.old.script) (configuration_of self.old) slot f (code_of rest.now) (hook ty.now) }
+        ensures { MakesStep (Ok None) self.old self.new }
     {
-        self.stack.go_on(rest);
+        self.stack.step_behind(rest, slot);
         return_numbers(&mut self.stack, ty, &[]);
         self.made += 1;
     }
 
-    /// A call of a host function, with the code behind it: the script's next answer is given, or, past the last one, zeros.
-    /// (Standard, 4.4.7)
-    pub fn call_host(&mut self, rest: &'m [Instr], ty: &FuncType)
-        requires few { self.old.made < 2 ^ 63 }
-        requires calls { (f : ℕ) × CallsFunction self.old.module (configuration_of self.old) f (code_of rest.now) (host ty.now) }
-        ensures { self.new ≡ one_more self.old }
+    // A call of a host function: the script's next answer is given, or, past the last one, zeros. (Standard, 4.4.7)
+    fn call_host(&mut self, rest: &'m [Instr], slot: Option<u32>, ty: &FuncType)
+        requires few { self.old.made < 2 ^ 64 - 1 }
+        requires calls { (f : ℕ) × Reaches (instance self.old.module self.old.script) (configuration_of self.old) slot f (code_of rest.now) (host ty.now) }
+        ensures { MakesStep (Ok None) self.old self.new }
     {
-        self.stack.go_on(rest);
+        self.stack.step_behind(rest, slot);
         let given = next_answer(self.script, self.hosts);
         answer(&mut self.stack, &mut self.memory, ty, given);
         self.hosts += 1;
         self.made += 1;
-    }
-
-    // The function that is called next, by its index.
-    fn called(&self, func: u32) -> Function<'m>
-        requires { (k : Tree) × Innermost (λ (fr : Frame). fr.top.rest ≡ plain (call func) k) (configuration_of self.now) }
-        ensures stands { slice_get (callees_of self.now.module) func ≡ Some (callee_for result) }
-        ensures size { HasSize self.now.module result }
-    {
-        self.functions[func as usize]
-    }
-
-    /// A call of the function of this index, with the code behind it. A function of the module is entered, or traps where there
-    /// are too many frames; any other is answered at once. After an `Err` all is as it was. (Standard, 4.4.7)
-    pub fn call(&mut self, func: u32, rest: &'m [Instr]) -> Result<Option<Trap>, AllocError>
-        requires few { self.old.made < 2 ^ 63 }
-        requires at { Innermost (λ (fr : Frame). fr.top.rest ≡ plain (call func) (code_of rest.now)) (configuration_of self.old) }
-        ensures { MakesCall result self.old self.new }
-    {
-        match self.called(func) {
-            Function::Host(ty) => {
-                self.call_host(rest, ty);
-                Ok(None)
-            }
-            Function::Hook(ty) => {
-                self.call_hook(rest, ty);
-                Ok(None)
-            }
-            Function::Own(ty, body, size) => self.enter_own(rest, ty, body, size),
-        }
     }
 }

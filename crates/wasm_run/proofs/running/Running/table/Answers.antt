@@ -9,4 +9,4 @@ use Rattle.wasm_run.proofs.running.Running.table.Goals as goal
 pub returns : goal.returns
 returns c =
     subst (λ (r : Run). c.self.inside.table ≡ slots_in (configuration_of r)) c.self.view_is
-    (c.self.invariant.3 ∙ sym (slots_stay (instance c.self.inside.module.now c.self.inside.script.now) c.self.inside.made (opening_configuration c.self.inside.module.now c.self.inside.script.now)))
+    (c.self.invariant.table_is ∙ sym (slots_stay (instance c.self.inside.module.now c.self.inside.script.now) c.self.inside.made (opening_configuration c.self.inside.module.now c.self.inside.script.now)))

@@ -1,0 +1,148 @@
+-- The call of a hook that a step tells.
+use Rattle.std.proofs.Common.{◌≡◌, ℕ, ◌+◌, ◌≤◌, zero, suc, List, [], ◌∷◌, ◌++◌, length, drop, Option, Some, None, Result, Ok, Err, Bool, true, false, ◌||◌, refl, sym, ap, ◌∙◌, arith, slice_get, length-append}
+use Rattle.std.specs.Borrow.{Bor}
+use Rattle.std.specs.Prelude.{reverse, OnErr}
+use Rattle.std.proofs.lemmas.List.{length-reverse}
+use Rattle.std.proofs.lemmas.Bool.{or_right, false≢true}
+use Rattle.std.proofs.lemmas.Option.{none-some, same_Some}
+use Rattle.wasm_num.specs.declared.Value.{Value}
+use Rattle.module_ast.specs.declared.module.FuncType.{FuncType}
+use Rattle.module_ast.specs.declared.module.Module.{Module}
+use Rattle.module_ast.specs.Tree.{Tree, done, plain, block, loop, if_then, if_else, Plain, call, call_indirect}
+use Rattle.module_ast.specs.Typing.{push}
+use Rattle.run_store.specs.Held.{Held}
+use Rattle.wasm_sem.specs.declared.HookCall.{HookCall}
+use Rattle.wasm_sem.specs.declared.Script.{Script}
+use Rattle.wasm_sem.specs.Answers.{hook_in}
+use Rattle.wasm_sem.specs.Link.{Callee, host, hook, own, callees_of, is_hook_function, some_hook, Instance, instance}
+use Rattle.wasm_sem.specs.Machine.{Frame, Env, Configuration, configuration, pop_values, run_of}
+use Rattle.wasm_sem.specs.Trace.{told_invoke, told_code, told_items, items_by, items}
+use Rattle.wasm_sem.proofs.Runs.{pop_push}
+use Rattle.wasm_run.specs.Below.{IsBelow}
+use Rattle.wasm_run.specs.Calls.{IsNoCall, NextIsNoCall}
+use Rattle.wasm_run.specs.Flat.{Flat}
+use Rattle.wasm_run.specs.Kept.{under}
+use Rattle.wasm_run.specs.Reaching.{index_count, with_index, Reaches}
+use Rattle.wasm_run.specs.Resolved.{callee_for}
+use Rattle.wasm_run.specs.declared.functions.Function.{Function}
+use Rattle.wasm_run.specs.declared.functions.Function.TheVariants as functions
+use Rattle.wasm_run.specs.Running.{Innermost, IsRunning}
+use Rattle.wasm_run.proofs.Shown.{step_none}
+use Rattle.wasm_run.proofs.Entering.{parts}
+use Rattle.wasm_run.proofs.Invoking.{index_dropped, index_there, Invoker, invoker}
+
+-- ---- modules without hooks
+
+-- so what is told of a step is what a module with hooks tells, where that is none
+pub hook_told : (inst : Instance) (c : Configuration) (h : Option HookCall) → hook_in (told_items inst c) ≡ h → (inst.hooked ≡ false → h ≡ None) → h ≡ hook_in (items inst c)
+hook_told inst c h told bare = go inst.hooked refl
+  where
+    go : (b : Bool) → inst.hooked ≡ b → h ≡ hook_in (items_by b inst c)
+    go true e = sym told
+    go false e = bare e ∙ sym (step_none inst c)
+
+-- a function that is a hook
+pub hook_there : (cs : List Callee) (f : ℕ) (c : Callee) → slice_get cs f ≡ Some c → is_hook_function c ≡ true → some_hook cs ≡ true
+hook_there [] f c at h = absurd (none-some c at)
+hook_there (d ∷ ds) zero c at h = ap (λ b. b || some_hook ds) (ap is_hook_function (same_Some d c at) ∙ h)
+hook_there (d ∷ ds) (suc f) c at h = or_right (is_hook_function d) (some_hook ds) (hook_there ds f c at h)
+
+-- ---- a call
+
+-- what is told of a call of a function that is no hook
+pub no_hook : (inst : Instance) (e : Env) (f : ℕ) (c : Callee) (args : List Value) → is_hook_function c ≡ false → hook_in (told_invoke inst e f c args) ≡ None
+no_hook inst e f (own ty locals code) args h = refl
+no_hook inst e f (host ty) args h = refl
+no_hook inst e f (hook ty) args h = absurd cc
+
+no_call_plain : (inst : Instance) (e : Env) (i : Plain) (k : Tree) (o : List Value) → IsNoCall i → told_code inst e (plain i k) o ≡ []
+no_call_plain inst e (call f) k o h = absurd h
+no_call_plain inst e (call_indirect x) k o h = absurd h
+no_call_plain inst e i k o h = refl
+
+no_call : (inst : Instance) (e : Env) (k : Tree) (o : List Value) → NextIsNoCall k → told_code inst e k o ≡ []
+no_call inst e done o h = refl
+no_call inst e (plain i k) o h = no_call_plain inst e i k o h
+no_call inst e (block ty body k) o h = refl
+no_call inst e (loop ty body k) o h = refl
+no_call inst e (if_then ty body k) o h = refl
+no_call inst e (if_else ty body other k) o h = refl
+
+-- where no call comes next
+pub nothing_told : (inst : Instance) (c : Configuration) → Innermost (λ (fr : Frame). NextIsNoCall fr.top.rest) c → told_items inst c ≡ []
+nothing_told inst (configuration e []) h = absurd h
+nothing_told inst (configuration e (fr ∷ below)) h = no_call inst e fr.top.rest fr.top.ops h
+
+-- nothing told is no call of a hook
+pub none_told : (inst : Instance) (c : Configuration) → told_items inst c ≡ [] → None ≡ hook_in (items inst c)
+none_told inst c h = hook_told inst c None (ap hook_in h) (λ _. refl)
+
+-- what is popped stands on top of what is below
+pop_over : (n : ℕ) (o taken below a r : List Value) → pop_values n o taken ≡ Some (a, r) → pop_values n (o ++ below) taken ≡ Some (a, r ++ below)
+pop_over zero o taken below a r h = ap (λ (p : List Value × List Value). Some (p.0, p.1 ++ below)) (same_Some (taken, o) (a, r) h)
+pop_over (suc n) [] taken below a r h = absurd (none-some (a, r) h)
+pop_over (suc n) (v ∷ o) taken below a r h = pop_over n o (v ∷ taken) below a r h
+
+module _ (m : Module) (s : Script) (made : ℕ) (f : Flat) (memory : Held) (globals : List Value) (running : IsRunning m s made f memory globals) (slot : Option ℕ) (func : ℕ) (k : Tree) where
+  abbrev inst : Instance
+  inst = instance m s
+
+  module _ (called : Callee) (calls : Reaches inst (run_of m s made) slot func k called) where
+    abbrev x : Invoker m s made f memory globals running.linked slot func k called
+    x = invoker m s made f memory globals running.linked slot func k called running.keeps calls
+
+    told_call_is : told_items inst (run_of m s made) ≡ told_invoke inst x.env func called x.args
+    told_call_is = ap (told_items inst) x.at ∙ x.told_is
+
+    -- of another function
+    pub other_called : is_hook_function called ≡ false → None ≡ hook_in (items inst (run_of m s made))
+    other_called h = hook_told inst (run_of m s made) None (ap hook_in told_call_is ∙ no_hook inst x.env func called x.args h) (λ _. refl)
+
+  -- ---- of a hook
+
+  module _ (ty : FuncType) (calls : Reaches inst (run_of m s made) slot func k (hook ty)) where
+    abbrev z : Invoker m s made f memory globals running.linked slot func k (hook ty)
+    z = invoker m s made f memory globals running.linked slot func k (hook ty) running.keeps calls
+
+    operands_are : f.values ≡ with_index slot z.ops ++ under z.frame z.below
+    operands_are = z.lies.values ∙ ap (λ o. o ++ under z.frame z.below) z.ops_are
+
+    -- its words are there
+    pub words_there : (n : ℕ) → n ≡ index_count slot → n + length ty.params ≤ length f.values
+    words_there n same =
+        let are = parts (length ty.params) z.ops [] z.args z.rest z.popped in
+        let counted = are.count in
+        omega (
+          arith,
+          same,
+          counted,
+          ap length operands_are,
+          index_there slot z.ops (under z.frame z.below),
+          length-append z.ops (under z.frame z.below),
+          ap length are.whole,
+          length-append (reverse z.args) z.rest,
+          length-reverse z.args,
+        )
+
+    -- and are what the call passes
+    pub words_are : (n : ℕ) (vs : List Value) → n ≡ index_count slot → IsBelow n (length ty.params) vs f.values → Some (record { «import» = func; args = vs }) ≡ hook_in (items inst (run_of m s made))
+    words_are n vs same h =
+        let left = drop (n + length ty.params) f.values in
+        let taken : drop n f.values ≡ z.ops ++ under z.frame z.below = ap (λ n. drop n f.values) same ∙ ap (drop (index_count slot)) operands_are ∙ index_dropped slot z.ops (under z.frame z.below) in
+        let popped : Some (vs, left) ≡ Some (z.args, z.rest ++ under z.frame z.below) =
+        sym (pop_push vs left) ∙ ap (λ n. pop_values n (push vs left) []) h.size ∙ ap (λ o. pop_values (length ty.params) o []) (sym h.are ∙ taken)
+        ∙ pop_over (length ty.params) z.ops [] (under z.frame z.below) z.args z.rest z.popped in
+        ap (λ (args : List Value). Some (record { «import» = func; args = args })) (ap (λ (p : List Value × List Value). p.0) (same_Some (vs, left) (z.args, z.rest ++ under z.frame z.below) popped))
+        ∙ hook_told inst (run_of m s made) (Some (record { «import» = func; args = z.args })) (ap hook_in (told_call_is (hook ty) calls))
+        (λ bare. absurd (false≢true (sym bare ∙ hook_there (callees_of m) func (hook ty) z.callee refl)))
+
+-- what holds wherever
+pub on_err : {A E : Type 0} {P : Type 0} (r : Result A E) → P → OnErr r P
+on_err (Ok x) h = tt
+on_err (Err e) h = h
+
+-- a function that is no hook
+pub other_function : (f : Function) → ((ty : Bor FuncType) → f ≡ functions.Hook ty → ⊥) → is_hook_function (callee_for f) ≡ false
+other_function (functions.Host ty) h = refl
+other_function (functions.Hook ty) h = absurd (h ty refl)
+other_function (functions.Own ty body size) h = refl

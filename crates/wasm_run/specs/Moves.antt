@@ -1,0 +1,43 @@
+-- What a step of a run comes to: a function runs on, or what ran has ended; and where memory may be wanting.
+use Rattle.std.specs.Prelude.{◌≡◌, [], ◌∷◌, Result, Ok, Err, Option, Some, None, ◌⊎◌}
+use Rattle.std.specs.declared.alloc.AllocError.{AllocError}
+use Rattle.wasm_sem.specs.declared.Answer.{Answer}
+use Rattle.wasm_sem.specs.Link.{Instance, instance}
+use Rattle.wasm_sem.specs.Machine.{Env, Configuration, configuration, env_after}
+use Rattle.wasm_run.specs.Advances.{IsAtCall, IsAtGrow}
+use Rattle.wasm_run.specs.Running.{Run, configuration_of, one_more, IsInside}
+
+-- what stands beside the frames
+abbrev pub env_beside : Configuration → Env
+env_beside (configuration e fs) = e
+
+-- what runs or is entered next is the same, and so are the answers
+pub record HasSameAnswers (old new : Env) : Type 0 where
+  pub phase : new.phase ≡ old.phase
+  pub started : new.started ≡ old.started
+  pub answers : new.answers ≡ old.answers
+
+-- a function runs on
+pub record RunsOn (old new : Configuration) : Type 0 where
+  pub inside : IsInside new
+  pub same : HasSameAnswers (env_beside old) (env_beside new)
+
+-- what ran has ended with this answer
+pub record EndsWith (inst : Instance) (a : Answer) (old new : Configuration) : Type 0 where
+  pub outside : IsInside new → ⊥
+  pub told : HasSameAnswers (env_after inst (env_beside old).phase (env_beside old) a) (env_beside new)
+
+-- Memory may be wanting only where the start or a call of the script is entered, or at a call or a `memory.grow`.
+abbrev pub MayWant : Configuration → Type 0
+MayWant (configuration e []) = Unit {0}
+MayWant (configuration e (fr ∷ below)) = IsAtCall fr ⊎ IsAtGrow fr
+
+-- a function runs on, or what ran has ended with this answer
+abbrev pub MovesBy : Instance → Option Answer → (old new : Configuration) → Type 0
+MovesBy inst None old new = RunsOn old new
+MovesBy inst (Some a) old new = EndsWith inst a old new
+
+-- One step was made. Where memory is wanting none was.
+abbrev pub MakesStep : Result (Option Answer) AllocError → (old new : Run) → Type 0
+MakesStep (Ok a) old new = (new ≡ one_more old) × MovesBy (instance old.module old.script) a (configuration_of old) (configuration_of (one_more old))
+MakesStep (Err u) old new = (new ≡ old) × MayWant (configuration_of old)

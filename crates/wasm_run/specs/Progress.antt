@@ -1,0 +1,53 @@
+-- How far the start and the calls of a script have come.
+use Rattle.std.specs.Prelude.{◌≡◌, ℕ, ◌<◌, ℤ, List, length, map, Option, Some, None, Result, Ok, Err, Bool, true, false, vec_capacity}
+use Rattle.std.specs.declared.alloc.AllocError.{AllocError}
+use Rattle.module_ast.specs.declared.module.Module.{Module}
+use Rattle.wasm_sem.specs.declared.Answer.{Answer}
+use Rattle.wasm_sem.specs.declared.Call.{Call}
+use Rattle.wasm_sem.specs.declared.Script.{Script}
+use Rattle.wasm_sem.specs.Link.{Callee, exported_func, Instance, instance}
+use Rattle.wasm_sem.specs.Machine.{Phase, starting, calling, over, Env, env_after, is_over}
+use Rattle.wasm_run.specs.declared.progress.Stage.{Stage}
+use Rattle.wasm_run.specs.declared.progress.Stage.TheVariants as stages
+use Rattle.wasm_run.specs.declared.progress.Progress.{Progress}
+use Rattle.wasm_run.specs.Entries.{EntersNext}
+use Rattle.wasm_run.specs.Moves.{env_beside, MayWant}
+use Rattle.wasm_run.specs.Running.{Run, configuration_of, one_more, IsLinked, IsInside}
+
+-- what runs or is entered next: the start function, which this is, or a call of the script by its number
+abbrev pub IsStage : Module → Stage → Phase → Type 0
+IsStage m (stages.Start f) p = (m.start ≡ Some f) × (p ≡ starting)
+IsStage m (stages.Call n) p = p ≡ calling n
+IsStage m stages.Over p = p ≡ over
+
+-- what runs or is entered next, and the answers so far
+pub record Tells (m : Module) (e : Env) (p : Progress) : Type 0 where
+  pub stage : IsStage m p.stage e.phase
+  pub started : p.started ≡ e.started
+  pub answers : p.answers.items ≡ e.answers
+
+-- where what ran has ended with an answer, the next one comes
+abbrev pub env_by : Instance → Option Answer → Env → Env
+env_by inst None e = e
+env_by inst (Some a) e = env_after inst e.phase e a
+
+-- the functions of a script's calls, by their indices
+abbrev pub AreCalled : Module → Script → List ℕ → Type 0
+AreCalled m s functions = map Some functions ≡ map (λ (c : Call). exported_func c.export.bytes m.exports) s.calls
+
+-- While a function runs there is room for its answer.
+pub record KeepsAnswers (r : Run) (p : Progress) (functions : List ℕ) : Type 0 where
+  pub linked : IsLinked r.module r.script
+  pub tells : Tells r.module (env_beside (configuration_of r)) p
+  pub room : IsInside (configuration_of r) → length p.answers.items < vec_capacity p.answers
+  pub functions_are : AreCalled r.module r.script functions
+
+-- this function is entered next, with what these numbers stand for
+abbrev pub IsEntry : Run → (func : ℕ) → (numbers : List ℤ) → Type 0
+IsEntry r func numbers = (called : Callee) × EntersNext (instance r.module r.script) (configuration_of r) func numbers called
+
+-- One step was made, or the run is over. Where memory is wanting none was made.
+abbrev pub GoesOn : Result Bool AllocError → (old new : Run) → Type 0
+GoesOn (Ok true) old new = (new ≡ one_more old) × (is_over (configuration_of old) ≡ false)
+GoesOn (Ok false) old new = (new ≡ old) × (is_over (configuration_of old) ≡ true)
+GoesOn (Err u) old new = (new ≡ old) × MayWant (configuration_of old) × (is_over (configuration_of old) ≡ false)

@@ -1,0 +1,65 @@
+-- Where a call of the innermost frame leads.
+use Rattle.std.specs.Prelude.{◌≡◌, ℕ, List, [], ◌∷◌, length, drop, Option, Some, None, slice_get}
+use Rattle.wasm_num.specs.declared.Value.{Value}
+use Rattle.wasm_num.specs.declared.Value.TheVariants.{I32}
+use Rattle.module_ast.specs.Tree.{Tree, plain, call_indirect}
+use Rattle.module_ast.specs.Seen.{code_of}
+use Rattle.wasm_sem.specs.Link.{Callee, callee_type, Instance, instance}
+use Rattle.wasm_sem.specs.Machine.{Frame, Env, Configuration, configuration, traps, pop_values, call_popped, frame_behind, step}
+use Rattle.wasm_sem.specs.Trace.{told_popped, told_code, told_items}
+use Rattle.wasm_run.specs.declared.functions.Invocation.{Invocation}
+use Rattle.wasm_run.specs.declared.functions.Target.{Target}
+use Rattle.wasm_run.specs.declared.functions.Target.TheVariants as targets
+use Rattle.wasm_run.specs.Advances.{IsAtCall}
+use Rattle.wasm_run.specs.Calls.{NextIsNoCall}
+use Rattle.wasm_run.specs.Flat.{Flat, moved_spots}
+use Rattle.wasm_run.specs.Resolved.{callee_for, HasSize}
+use Rattle.wasm_run.specs.Running.{Run, configuration_of, Innermost}
+
+-- how many operands stand above the arguments: the index of a slot, where the call goes through one
+abbrev pub index_count : Option ℕ → ℕ
+index_count None = 0
+index_count (Some i) = 1
+
+abbrev pub with_index : Option ℕ → List Value → List Value
+with_index None o = o
+with_index (Some i) o = I32 i ∷ o
+
+-- the innermost label stands behind the call, and the index has been taken
+abbrev pub behind_call : Option ℕ → Tree → Flat → Flat
+behind_call slot k f = record f { values = drop (index_count slot) f.values; spots = moved_spots k f.spots }
+
+-- the call is not made: the index is there again, and the innermost label stands before the call
+abbrev pub before_call : Option ℕ → Tree → Flat → Flat
+before_call slot place f = record f { values = with_index slot f.values; spots = moved_spots place f.spots }
+
+-- a frame stands before a call of this function, with this code behind
+pub record CallsFrom (inst : Instance) (e : Env) (fr : Frame) (below : List Frame) (slot : Option ℕ) (func : ℕ) (k : Tree) (called : Callee) : Type 0 where
+  pub at : IsAtCall fr
+  pub ops : List Value
+  pub ops_are : fr.top.ops ≡ with_index slot ops
+  pub callee : slice_get inst.funcs func ≡ Some called
+  pub next_is : step inst (configuration e (fr ∷ below)) ≡ call_popped inst e (frame_behind fr k) below func called (pop_values (length (callee_type called).params) ops [])
+  pub told_is : told_code inst e fr.top.rest fr.top.ops ≡ told_popped inst e func called (pop_values (length (callee_type called).params) ops [])
+
+-- and so does the innermost
+abbrev pub Reaches : Instance → Configuration → (slot : Option ℕ) → (func : ℕ) → Tree → Callee → Type 0
+Reaches inst (configuration e []) slot func k called = ⊥
+Reaches inst (configuration e (fr ∷ below)) slot func k called = CallsFrom inst e fr below slot func k called
+
+-- a frame stands before a call through the slot of this number, of a function of this type, with this code behind
+pub record IsAtSlot (ty : ℕ) (k : Tree) (slot : ℕ) (fr : Frame) : Type 0 where
+  pub at : fr.top.rest ≡ plain (call_indirect ty) k
+  pub ops : List Value
+  pub ops_are : fr.top.ops ≡ I32 slot ∷ ops
+
+-- the call that comes next, of a function with what its frame takes
+abbrev pub IsInvocation : Invocation → Run → Type 0
+IsInvocation i r =
+    Reaches (instance r.module r.script) (configuration_of r) i.slot i.func (code_of i.rest.now) (callee_for i.function) × HasSize r.module i.function
+
+-- no call comes next, or one that traps before its function is reached, or one of a function
+abbrev pub IsTarget : Target → Run → Type 0
+IsTarget targets.NoCall r = Innermost (λ (fr : Frame). NextIsNoCall fr.top.rest) (configuration_of r)
+IsTarget (targets.Traps t) r = (step (instance r.module r.script) (configuration_of r) ≡ traps t) × (told_items (instance r.module r.script) (configuration_of r) ≡ [])
+IsTarget (targets.Invokes i) r = IsInvocation i r

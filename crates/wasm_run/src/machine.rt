@@ -1,0 +1,238 @@
+// The machine: a run of a module under a script.
+
+ghost use Rattle.std.specs.Prelude.{◌≡◌, ◌+◌, ◌-◌, ◌<◌, ◌^◌, Some, None, true, false, IfOk, OnErr, MatchOption};
+ghost use Rattle.wasm_sem.specs.Answers.{turn_by};
+ghost use Rattle.wasm_sem.specs.Laws.{slots_in};
+ghost use Rattle.wasm_sem.specs.Link.{IsScriptInRange, Links};
+ghost use Rattle.wasm_sem.specs.Machine.{is_over};
+ghost use Rattle.wasm_sem.specs.Typed.{IsComplete};
+ghost use Rattle.wasm_run.specs.Beside.{hosts_in, pages_in};
+ghost use Rattle.wasm_run.specs.Moves.{MayWant};
+ghost use Rattle.wasm_run.specs.Progress.{IsEntry, GoesOn};
+ghost use Rattle.wasm_run.specs.Running.{Run, configuration_of, IsInside};
+ghost use Rattle.wasm_run.specs.Turns.{MakesTurn, RunsFor, started_in, answers_in, next_turn};
+
+use crate::exports::called_functions;
+use crate::progress::{Progress, Stage, call_from};
+use crate::running::Running;
+use run_store::table::Table;
+use std::alloc::Global;
+use std::marker::Model;
+use wasm_num::NoMemory;
+use wasm_sem::{Answer, HookCall, Script, Stop, Turn};
+use wasm_valid::ValidModule;
+
+/// A run of a valid module under a script with which it links, after so many steps. Contracts see these three: what stands
+/// behind the steps is the standard's configuration. (Standard, 4.2, 4.5)
+#[derive(Drop)]
+pub struct Machine<'m> {
+    running: Running<'m>,
+    progress: Progress,
+    functions: Vec<u32>,
+}
+
+impl<'m> Model for Machine<'m> {
+    ghost use Rattle.wasm_run.specs.Progress.{KeepsAnswers};
+    ghost use Rattle.wasm_run.specs.Running.{Run};
+
+    ghost Value = { Run };
+
+    ghost use Rattle.module_ast.specs.contracts.module.Module as of_module;
+    ghost use Rattle.std.specs.Coded.{codes};
+
+    ghost coded = { Prim.hlevel (codes, of_module.the_row.coded) };
+
+    ghost view = { λ a. a.running };
+
+    ghost invariant = { λ a. KeepsAnswers a.running a.progress a.functions.items };
+}
+
+// A function that is entered next: its index, and the numbers of its arguments.
+#[derive(Clone, Copy)]
+struct NextCall<'m> {
+    func: u32,
+    numbers: &'m [i128],
+}
+
+// What a step does that is made: it calls this hook, or none.
+fn turn_with(hook: Option<HookCall>) -> Turn
+    ensures { result ≡ turn_by false hook }
+{
+    match hook {
+        Some(call) => Turn::Hook(call),
+        None => Turn::Ran,
+    }
+}
+
+impl<'m> Machine<'m> {
+    /// The run of a module under a script with which it links, before the first step: its memory and its table, with the
+    /// data and the elements of its segments, and its globals. The names of exports are sorted once. (Standard, 4.5.4)
+    pub fn new(
+        alloc: Global,
+        valid: &'m ValidModule,
+        script: &'m Script,
+    ) -> Result<Machine<'m>, NoMemory>
+        requires complete { IsComplete valid.now }
+        requires range { IsScriptInRange script.now }
+        requires links { Links valid.now script.now }
+        ensures { IfOk result (λ r. r ≡ record { «module» = valid.now; script = script.now; made = 0 }) }
+    {
+        let running = Running::new(alloc, valid, script)?;
+        let module = valid.module();
+        let functions = called_functions(alloc, module, script)?;
+        let stage = match module.start {
+            Some(func) => Stage::Start(func),
+            None => call_from(0, functions.len()),
+        };
+        Ok(Machine {
+            running,
+            progress: Progress {
+                stage,
+                started: None,
+                answers: Vec::new(alloc),
+            },
+            functions,
+        })
+    }
+
+    /// Makes one step, and says what it did: the call of a hook, with its words, or another. After the end of the run nothing
+    /// changes. An `Err` comes only where the start or a call of the script is entered, or at a call or a `memory.grow`, and
+    /// leaves the machine as it was. (Standard, 4.4)
+    pub fn step(&mut self) -> Result<Turn, NoMemory>
+        requires few { self.old.made < 2 ^ 64 - 1 }
+        ensures turns { MakesTurn result self.old self.new }
+        ensures err { OnErr result (MayWant (configuration_of self.old)) }
+    {
+        let turn = self.turn()?;
+        self.go_on()?;
+        Ok(turn)
+    }
+
+    /// Makes steps until the run is over or so many were made. `OutOfSteps` says that the run goes on then. After an `Err`
+    /// the machine stands behind the steps made so far.
+    pub fn run(&mut self, steps: u64) -> Result<Stop, NoMemory>
+        requires few { self.old.made + steps < 2 ^ 64 }
+        ensures { RunsFor steps result self.old self.new }
+    {
+        for _ in 0..steps {
+            if !self.go_on()? {
+                return Ok(Stop::Over);
+            }
+        }
+        Ok(if self.over() {
+            Stop::Over
+        } else {
+            Stop::OutOfSteps
+        })
+    }
+
+    // What the next step does. An `Err` comes where a function is called or entered.
+    fn turn(&self) -> Result<Turn, NoMemory>
+        ensures turn { IfOk result (λ t. t ≡ next_turn self.now) }
+        ensures err { OnErr result (MayWant (configuration_of self.now)) }
+    {
+        if self.running.is_inside() {
+            return Ok(turn_with(self.running.hook_called()?));
+        }
+        let Some(entry) = self.entry() else {
+            return Ok(Turn::Over);
+        };
+        Ok(turn_with(self.running.hook_entered(entry.func, entry.numbers)?))
+    }
+
+    // The function that is entered next, where none runs; none behind the end.
+    fn entry(&self) -> Option<NextCall<'m>>
+        requires { IsInside (configuration_of self.now) → ⊥ }
+        ensures { MatchOption result (is_over (configuration_of self.now) ≡ true) (λ e. IsEntry self.now e.func e.numbers.now) }
+    {
+        match self.progress.stage {
+            Stage::Start(func) => Some(NextCall { func, numbers: &[] }),
+            Stage::Call(number) => {
+                let Some(call) = self.running.script().calls.as_slice().get(number) else {
+                    unreachable!();
+                };
+                Some(NextCall {
+                    func: self.functions[number],
+                    numbers: call.args.as_slice(),
+                })
+            }
+            Stage::Over => None,
+        }
+    }
+
+    // Makes one step, and says whether the run had gone on. The phase is looked at only where no function runs.
+    fn go_on(&mut self) -> Result<bool, NoMemory>
+        requires few { self.old.made < 2 ^ 64 - 1 }
+        ensures { GoesOn result self.old self.new }
+    {
+        if self.running.is_inside() {
+            let ended = self.running.step_inside()?;
+            self.progress.end(ended, self.functions.len());
+            return Ok(true);
+        }
+        let Some(entry) = self.entry() else {
+            return Ok(false);
+        };
+        self.progress.answers.reserve(1)?;
+        let ended = self.running.enter(entry.func, entry.numbers)?;
+        self.progress.end(ended, self.functions.len());
+        Ok(true)
+    }
+
+    /// The table, with no slots where the module has none.
+    pub fn table(&self) -> &Table
+        ensures { result.now ≡ slots_in (configuration_of self.now) }
+    {
+        self.running.table()
+    }
+
+    /// How many steps have been made.
+    pub fn made(&self) -> u64
+        ensures { result ≡ self.now.made }
+    {
+        self.running.made()
+    }
+
+    /// Whether the run has ended.
+    pub fn over(&self) -> bool
+        ensures { result ≡ is_over (configuration_of self.now) }
+    {
+        matches!(self.progress.stage, Stage::Over)
+    }
+
+    /// The answer of the start function; none where the module has none, or it has not ended.
+    pub fn start(&self) -> Option<&Answer>
+        ensures { MatchOption result (started_in (configuration_of self.now) ≡ None) (λ a. started_in (configuration_of self.now) ≡ Some a.now) }
+    {
+        self.progress.started.as_ref()
+    }
+
+    /// The answers of the script's calls that have ended, in order.
+    pub fn answers(&self) -> &[Answer]
+        ensures { result.now ≡ answers_in (configuration_of self.now) }
+    {
+        self.progress.answers.as_slice()
+    }
+
+    /// The answers of the start function and of the calls, as `start` and `answers` say.
+    pub fn into_answers(self) -> (Option<Answer>, Vec<Answer>)
+        ensures start { result.0 ≡ started_in (configuration_of self.entry) }
+        ensures calls { result.1.items ≡ answers_in (configuration_of self.entry) }
+    {
+        (self.progress.started, self.progress.answers)
+    }
+
+    /// How many pages the memory has, 0 without one.
+    pub fn pages(&self) -> u32
+        ensures { result ≡ pages_in (configuration_of self.now) }
+    {
+        self.running.pages()
+    }
+
+    /// How many host calls have been made, those of hooks left out.
+    pub fn hosts(&self) -> u64
+        ensures { result ≡ hosts_in (configuration_of self.now) }
+    {
+        self.running.hosts()
+    }
+}
