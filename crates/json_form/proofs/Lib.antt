@@ -1,0 +1,4 @@
+pub mod Lists
+pub mod Exact
+pub mod Again
+pub mod TextForms

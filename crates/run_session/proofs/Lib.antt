@@ -1,0 +1,4 @@
+pub mod InRange
+pub mod Phases
+pub mod Refusals
+pub mod Within

@@ -1,0 +1,5 @@
+pub mod Forms
+pub mod Script
+pub mod Linking
+pub mod Sessions
+pub mod Steps

@@ -1,0 +1,36 @@
+-- How linking is answered: refusals as faults, and the exported functions by their names.
+use Rattle.std.specs.Prelude.{◌≡◌, ℕ, List, ℤ, Option, Some, None, option_and_then, Result, Ok, Err}
+use Rattle.module_ast.specs.declared.module.FuncType.{FuncType}
+use Rattle.module_ast.specs.declared.module.Module.{Module}
+use Rattle.module_ast.specs.Validity.{func_type}
+use Rattle.wasm_sem.specs.Link.{Refusal, no_export, bad_args, memory_cap, table_cap, segment_range, refusal_unless, fit_types, exported_func}
+use Rattle.run_session.specs.declared.link.LinkFault.{LinkFault}
+use Rattle.run_session.specs.declared.link.LinkFault.TheVariants.{NoExport, BadArgs, MemoryCap, TableCap, SegmentRange, NoMemory}
+
+-- the refusal that a fault tells; that memory is wanting is none
+abbrev pub refusal_of : LinkFault → Option Refusal
+refusal_of (NoExport n) = Some (no_export n)
+refusal_of (BadArgs n) = Some (bad_args n)
+refusal_of (MemoryCap n) = Some (memory_cap n)
+refusal_of (TableCap n) = Some (table_cap n)
+refusal_of SegmentRange = Some segment_range
+refusal_of NoMemory = None
+
+-- the fault tells this refusal, or that memory is wanting
+abbrev pub TellsRefusal : LinkFault → Option Refusal → Type 0
+TellsRefusal NoMemory r = Unit {0}
+TellsRefusal fault r = r ≡ refusal_of fault
+
+-- there is no refusal, or the fault tells it
+abbrev pub ChecksRefusal : {A : Type 0} → Result A LinkFault → Option Refusal → Type 0
+ChecksRefusal (Ok a) r = r ≡ None
+ChecksRefusal (Err fault) r = TellsRefusal fault r
+
+-- the type of the function that is exported under a name
+abbrev pub exported_type : Module → (name : List ℕ) → Option FuncType
+exported_type m name = option_and_then (func_type m) (exported_func name m.exports)
+
+-- a call of a function of this type, if it is there
+abbrev pub type_refusal : (call : ℕ) → List ℤ → Option FuncType → Option Refusal
+type_refusal n args None = Some (no_export n)
+type_refusal n args (Some t) = refusal_unless (fit_types t.params args) (bad_args n)

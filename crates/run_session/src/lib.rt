@@ -1,0 +1,13 @@
+// Runs by a script.
+#![tactic(auto)]
+
+mod forms;
+mod link;
+mod script;
+mod session;
+#[cfg(test)]
+mod tests;
+
+pub use link::LinkFault;
+pub use script::{ScriptFault, read_script};
+pub use session::{Outcome, Session};

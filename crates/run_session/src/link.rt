@@ -1,0 +1,209 @@
+// Whether a module links with a script. (Standard, 4.5.4)
+
+ghost use Rattle.std.specs.Prelude.{◌≡◌, ◌+◌, nat_le};
+ghost use Rattle.std.specs.Option.{option_copied};
+ghost use Rattle.module_ast.specs.Spaces.{tables_of, memories_of, spaces_of};
+ghost use Rattle.module_ast.specs.Validity.{IsValid};
+ghost use Rattle.wasm_sem.specs.Link.{link, calls_refusal, refusal_unless, memory_cap, table_cap, segment_range, least_size, fits_type, fit_types, fit_elements, fit_segments, fit_all};
+ghost use Rattle.wasm_sem.specs.Typed.{IsComplete};
+ghost use Rattle.wasm_run.specs.Exported.{HasExports};
+ghost use Rattle.run_session.specs.Linking.{ChecksRefusal, exported_type, type_refusal};
+
+use module_ast::module::{Element, FuncType, Module, Segment};
+use module_ast::spaces::Spaces;
+use std::alloc::{AllocError, Global};
+use std::collections::BTreeMap;
+use wasm_num::{ValType, Value};
+use wasm_run::{exported_functions, least_pages, least_slots, offset_of, open_globals};
+use wasm_sem::{Call, Script};
+use wasm_valid::ValidModule;
+
+#[cfg(test)]
+mod tests;
+
+/// Why a module does not link with a script. The calls are numbered from 0. (Standard, 4.5.4)
+#[derive(Clone, Copy, Debug, PartialEq, Eq)]
+pub enum LinkFault {
+    /// No function is exported under the name that this call has.
+    NoExport { call: u64 },
+    /// This call has more or fewer arguments than its function, or one that is not of its type.
+    BadArgs { call: u64 },
+    /// The memory has this many pages at least, more than the script allows.
+    MemoryCap { pages: u32 },
+    /// The table has this many slots at least, more than 1,000,000.
+    TableCap { slots: u32 },
+    /// An element or data segment ends past its table or memory.
+    SegmentRange,
+    /// An allocation failed.
+    NoMemory,
+}
+
+impl From<AllocError> for LinkFault {
+    ghost use Rattle.run_session.specs.declared.link.LinkFault.TheVariants.{NoMemory};
+
+    ghost from_gives = { λ _ e. e ≡ NoMemory };
+
+    fn from(_refused: AllocError) -> LinkFault {
+        LinkFault::NoMemory
+    }
+}
+
+const MOST_SLOTS: u32 = 1_000_000;
+
+const PAGE_BYTES: u64 = 65_536;
+
+/// Looks for the first refusal: for each call that its function is there and then that its arguments fit, the least size of
+/// the memory, that of the table, and the ranges of the segments. (Standard, 4.5.4)
+pub(crate) fn check_links(
+    alloc: Global,
+    valid: &ValidModule,
+    script: &Script,
+) -> Result<(), LinkFault>
+    requires { IsComplete valid.now }
+    ensures { ChecksRefusal result (link valid.now script.now) }
+{
+    let module = valid.module();
+    check_calls(alloc, module, script.calls.as_slice())?;
+    check_pages(module, script.pages)?;
+    check_slots(module)?;
+    check_segments(alloc, module, script)
+}
+
+// Whether each call is of an exported function, and its arguments fit.
+fn check_calls(alloc: Global, m: &Module, calls: &[Call]) -> Result<(), LinkFault>
+    requires valid { IsValid m.now }
+    requires complete { IsComplete m.now }
+    ensures { ChecksRefusal result (calls_refusal m.now 0 calls.now) }
+{
+    let spaces = Spaces::new(alloc, m)?;
+    let exports = exported_functions(alloc, m.exports.as_slice())?;
+    for (index, call) in calls.iter().enumerate() {
+        let function = exported_type(m, &spaces, &exports, call.export.as_str());
+        check_call(index as u64, call, function)?;
+    }
+    Ok(())
+}
+
+// The type of the function that is exported under this name.
+fn exported_type<'m>(
+    m: &'m Module,
+    spaces: &Spaces,
+    exports: &BTreeMap<&str, u32>,
+    name: &str,
+) -> Option<&'m FuncType>
+    requires spaces { spaces.now ≡ spaces_of m.now }
+    requires exports { HasExports exports.now m.now.exports }
+    ensures { option_copied result ≡ exported_type m.now name.now }
+{
+    let function = exports.get(name)?;
+    spaces.func_type(m, *function)
+}
+
+// Whether the function of a call is there, and the arguments fit it.
+fn check_call(index: u64, call: &Call, function: Option<&FuncType>) -> Result<(), LinkFault>
+    ensures { ChecksRefusal result (type_refusal index call.now.args (option_copied function.entry)) }
+{
+    match function {
+        None => Err(LinkFault::NoExport { call: index }),
+        Some(ty) if fit_types(ty.params.as_slice(), call.args.as_slice()) => Ok(()),
+        Some(_) => Err(LinkFault::BadArgs { call: index }),
+    }
+}
+
+// Whether there are as many numbers as types, and each fits.
+fn fit_types(types: &[ValType], numbers: &[i128]) -> bool
+    ensures { result ≡ fit_types types.now numbers.now }
+{
+    if types.len() != numbers.len() {
+        return false;
+    }
+    for (ty, number) in types.iter().zip(numbers) {
+        if !fits_type(*ty, *number) {
+            return false;
+        }
+    }
+    true
+}
+
+// Whether a number, read as signed or as unsigned, fits a type.
+fn fits_type(ty: ValType, number: i128) -> bool
+    ensures { result ≡ fits_type ty number }
+{
+    match ty {
+        ValType::I32 => -0x8000_0000 <= number && number <= 0xFFFF_FFFF,
+        ValType::I64 => { -0x8000_0000_0000_0000 <= number && number <= 0xFFFF_FFFF_FFFF_FFFF }
+    }
+}
+
+// Whether the script allows as many pages as the memory has at least.
+fn check_pages(m: &Module, most: u32) -> Result<(), LinkFault>
+    ensures { ChecksRefusal result (refusal_unless (nat_le (least_size (memories_of m.now)) most) (memory_cap (least_size (memories_of m.now)))) }
+{
+    let pages = least_pages(m);
+    if pages <= most {
+        Ok(())
+    } else {
+        Err(LinkFault::MemoryCap { pages })
+    }
+}
+
+// Whether the table has at least no more slots than a run allows.
+fn check_slots(m: &Module) -> Result<(), LinkFault>
+    ensures { ChecksRefusal result (refusal_unless (nat_le (least_size (tables_of m.now)) 1000000) (table_cap (least_size (tables_of m.now)))) }
+{
+    let slots = least_slots(m);
+    if slots <= MOST_SLOTS {
+        Ok(())
+    } else {
+        Err(LinkFault::TableCap { slots })
+    }
+}
+
+// Whether each segment ends within its table or memory.
+fn check_segments(alloc: Global, m: &Module, script: &Script) -> Result<(), LinkFault>
+    ensures { ChecksRefusal result (refusal_unless (fit_all m.now script.now) segment_range) }
+{
+    let globals = open_globals(alloc, m, script)?;
+    let slots = u64::from(least_slots(m));
+    let bytes = u64::from(least_pages(m)) * PAGE_BYTES;
+    let elements_fit = fit_elements(&globals, slots, m.elements.as_slice());
+    if elements_fit && fit_segments(&globals, bytes, m.segments.as_slice()) {
+        Ok(())
+    } else {
+        Err(LinkFault::SegmentRange)
+    }
+}
+
+// Whether so many items from a place on end within a size.
+fn ends_within(start: u32, count: usize, size: u64) -> bool
+    ensures { result ≡ nat_le (start + count) size }
+{
+    let count = count as u64;
+    count <= size && u64::from(start) <= size - count
+}
+
+// Whether the elements end within a table of so many slots.
+fn fit_elements(globals: &[Value], slots: u64, elements: &[Element]) -> bool
+    ensures { result ≡ fit_elements globals.now slots elements.now }
+{
+    for element in elements {
+        let start = offset_of(globals, &element.offset);
+        if !ends_within(start, element.funcs.as_slice().len(), slots) {
+            return false;
+        }
+    }
+    true
+}
+
+// Whether the data ends within a memory of so many bytes.
+fn fit_segments(globals: &[Value], bytes: u64, segments: &[Segment]) -> bool
+    ensures { result ≡ fit_segments globals.now bytes segments.now }
+{
+    for segment in segments {
+        let start = offset_of(globals, &segment.offset);
+        if !ends_within(start, segment.bytes.as_slice().len(), bytes) {
+            return false;
+        }
+    }
+    true
+}

@@ -1,0 +1,180 @@
+// A run of a module by a script, in turns.
+
+ghost use Rattle.std.specs.Prelude.{◌≡◌, ◌+◌, ◌≤◌, IfOk, OnErr};
+ghost use Rattle.wasm_sem.specs.Answers.{summary};
+ghost use Rattle.wasm_sem.specs.Laws.{slots_in};
+ghost use Rattle.wasm_sem.specs.Link.{IsScriptInRange};
+ghost use Rattle.wasm_sem.specs.Typed.{IsComplete};
+ghost use Rattle.wasm_run.specs.Moves.{MayWant};
+ghost use Rattle.wasm_run.specs.Running.{configuration_of};
+ghost use Rattle.run_session.specs.Sessions.{OpensSession, TakesTurn, told_outcome, awaits_start, pending_in, pending_summary};
+
+use crate::link::{LinkFault, check_links};
+use module_ast::seq::Seq;
+use run_store::table::Table;
+use std::alloc::Global;
+use std::marker::Model;
+use wasm_num::NoMemory;
+use wasm_run::Machine;
+use wasm_sem::{Answer, Script, Turn};
+use wasm_valid::ValidModule;
+
+/// What came of a run when it stopped.
+#[derive(Debug, Drop)]
+pub struct Outcome {
+    /// The answer of the start function, where the module has one.
+    pub start: Option<Answer>,
+    /// The answers of the calls that ended, and of the one that ran or would have been entered next, in order.
+    pub calls: Seq<Answer>,
+    /// How many pages the memory has, 0 without one.
+    pub pages: u32,
+    /// How many host calls were made, those of hooks left out.
+    pub hosts: u64,
+    /// Whether the run had not ended.
+    pub running: bool,
+}
+
+// What of a run has no answer yet: what runs, or is entered next.
+#[derive(Clone, Copy, PartialEq, Eq)]
+enum Pending {
+    Nothing,
+    Start,
+    Call,
+}
+
+/// A run of a valid module by a script with which it links, after so many steps, which are at most those of the script.
+/// Contracts see these three. (Standard, 4.2, 4.5)
+#[derive(Drop)]
+pub struct Session<'m> {
+    machine: Machine<'m>,
+    steps: u64,
+    has_start: bool,
+}
+
+impl<'m> Model for Session<'m> {
+    ghost use Rattle.std.specs.Prelude.{◌≡◌, is_some};
+    ghost use Rattle.run_session.specs.Steps.{IsWithinSteps};
+    ghost use Rattle.wasm_run.specs.Running.{Run};
+
+    ghost Value = { Run };
+
+    ghost use Rattle.module_ast.specs.contracts.module.Module as of_module;
+    ghost use Rattle.std.specs.Coded.{codes};
+
+    ghost coded = { Prim.hlevel (codes, of_module.the_row.coded) };
+
+    ghost view = { λ a. a.machine };
+
+    ghost invariant = { λ a. IsWithinSteps a.machine a.steps × (a.has_start ≡ is_some a.machine.module.start) };
+}
+
+impl<'m> Session<'m> {
+    /// The run before its first step. Refusals are looked for in this order, and the first that is found is told: for each
+    /// call that its function is there and then that its arguments fit, the least size of the memory, that of the table,
+    /// and the ranges of the segments. (Standard, 4.5.4)
+    pub fn link(
+        alloc: Global,
+        valid: &'m ValidModule,
+        script: &'m Script,
+    ) -> Result<Session<'m>, LinkFault>
+        requires complete { IsComplete valid.now }
+        requires range { IsScriptInRange script.now }
+        ensures { OpensSession valid.now script.now result }
+    {
+        check_links(alloc, valid, script)?;
+        let machine = Machine::new(alloc, valid, script)?;
+        Ok(Session {
+            machine,
+            steps: script.steps,
+            has_start: valid.module().start.is_some(),
+        })
+    }
+
+    /// Makes one step, and says what it did: the call of a hook, with its words, or another. `Over` exactly where the run
+    /// has ended, or the script's steps were made; then nothing changes. An `Err` comes only where the start or a call of
+    /// the script is entered, or at a call or a `memory.grow`, and leaves the session as it was. (Standard, 4.4)
+    pub fn call(&mut self) -> Result<Turn, NoMemory>
+        ensures turn { TakesTurn result self.old self.new }
+        ensures within { self.new.made ≤ self.new.script.steps }
+        ensures err { OnErr result (MayWant (configuration_of self.old)) }
+    {
+        if self.machine.made() == self.steps {
+            return Ok(Turn::Over);
+        }
+        self.machine.step()
+    }
+
+    /// How many steps of the script are left.
+    pub fn left(&self) -> u64
+        ensures { self.now.made + result ≡ self.now.script.steps }
+    {
+        self.steps - self.machine.made()
+    }
+
+    /// The table, with no slots where the module has none.
+    pub fn table(&self) -> &Table
+        ensures { result.now ≡ slots_in (configuration_of self.now) }
+    {
+        self.machine.table()
+    }
+
+    // Whether the module has a start function that has not ended.
+    fn awaits_start(&self) -> bool
+        ensures { result ≡ awaits_start self.now }
+    {
+        self.has_start && self.machine.start().is_none()
+    }
+
+    // What has no answer yet.
+    fn pending(&self) -> Pending
+        ensures { result ≡ pending_in (configuration_of self.now) }
+    {
+        if self.machine.over() {
+            return Pending::Nothing;
+        }
+        if self.awaits_start() {
+            return Pending::Start;
+        }
+        Pending::Call
+    }
+
+    /// What has come of the run by now.
+    pub fn finish(self) -> Result<Outcome, NoMemory>
+        ensures outcome { IfOk result (λ o. told_outcome o ≡ summary (configuration_of self.entry)) }
+        ensures within { self.entry.made ≤ self.entry.script.steps }
+    {
+        let pending = self.pending();
+        let pages = self.machine.pages();
+        let hosts = self.machine.hosts();
+        let (started, answers) = self.machine.into_answers();
+        tell(pending, pages, hosts, started, answers)
+    }
+}
+
+// What is told where this has no answer yet.
+fn tell(
+    pending: Pending,
+    pages: u32,
+    hosts: u64,
+    started: Option<Answer>,
+    answers: Vec<Answer>,
+) -> Result<Outcome, NoMemory>
+    ensures { IfOk result (λ o. told_outcome o ≡ pending_summary pending pages hosts started answers.items) }
+{
+    let mut calls = answers;
+    let start = match pending {
+        Pending::Nothing => started,
+        Pending::Start => Some(Answer::Unfinished),
+        Pending::Call => {
+            calls.push(Answer::Unfinished)?;
+            started
+        }
+    };
+    Ok(Outcome {
+        start,
+        calls: Seq::from_vec(calls),
+        pages,
+        hosts,
+        running: pending != Pending::Nothing,
+    })
+}
