@@ -1,7 +1,11 @@
 pub mod OptionWords
 pub mod Positions
 pub mod Files
+pub mod Scripts
+pub mod RunLines
+pub mod RunEnds
 pub mod Contents
 pub mod Causes
 pub mod Told
 pub mod Outputs
+pub mod RunOutputs

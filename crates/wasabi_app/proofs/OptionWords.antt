@@ -5,10 +5,10 @@ use Rattle.std.specs.declared.alloc.Global.{Global}
 use Rattle.hook_select.specs.declared.Hooks.{Hooks}
 use Rattle.hook_select.specs.Groups.{reads}
 use Rattle.instrument.specs.Made.{longest_output}
-use Rattle.wasabi_app.specs.Words.{Options, Line, IsList, IsBound, Adds, out_added, hooks_added, max_output_added, AreOptions, IsLine, IsRefused, to_check, to_instrument, IsValue, no_options, all_hooks, texts}
+use Rattle.wasabi_app.specs.Words.{Options, Line, IsList, IsBound, Adds, out_added, hooks_added, max_output_added, script_added, AreOptions, IsLine, IsRun, IsRefused, to_check, to_instrument, to_run, IsValue, no_options, all_hooks, texts}
 use Rattle.wasabi_app.specs.declared.words.Options.{Options as ReadOptions}
 use Rattle.wasabi_app.specs.declared.words.Command.{Command}
-use Rattle.wasabi_app.specs.declared.words.Command.TheVariants.{Check, Instrument}
+use Rattle.wasabi_app.specs.declared.words.Command.TheVariants.{Check, Instrument, Run}
 use Rattle.wasabi_app.specs.Reading.{AddsNone, AreNoOptions, IsCommand, IsModeOf, IsNoMode, options_of}
 
 -- the texts of words of which the first two are known
@@ -38,6 +38,7 @@ one_added name value old a b (hooks_added g n e v p) (hooks_added h m f w q) =
     p ∙ ap (λ x. record old { hooks = Some x }) (one_list value g h v w) ∙ sym q
 one_added name value old a b (max_output_added g n e v p) (max_output_added h m f w q) =
     p ∙ ap (λ x. record old { bound = Some x }) (one_bound value g h v w) ∙ sym q
+one_added name value old a b (script_added n e v p) (script_added m f w q) = p ∙ sym q
 one_added name value old a b (out_added n e v p) (hooks_added h m f w q) = absurd (let k : codes "--out" ≡ codes "--hooks" = sym n ∙ m in cc)
 one_added name value old a b (out_added n e v p) (max_output_added h m f w q) =
     absurd (let k : codes "--out" ≡ codes "--max-output" = sym n ∙ m in cc)
@@ -48,6 +49,16 @@ one_added name value old a b (max_output_added g n e v p) (out_added m f w q) =
     absurd (let k : codes "--max-output" ≡ codes "--out" = sym n ∙ m in cc)
 one_added name value old a b (max_output_added g n e v p) (hooks_added h m f w q) =
     absurd (let k : codes "--max-output" ≡ codes "--hooks" = sym n ∙ m in cc)
+one_added name value old a b (out_added n e v p) (script_added m f w q) = absurd (let k : codes "--out" ≡ codes "--script" = sym n ∙ m in cc)
+one_added name value old a b (script_added n e v p) (out_added m f w q) = absurd (let k : codes "--script" ≡ codes "--out" = sym n ∙ m in cc)
+one_added name value old a b (hooks_added g n e v p) (script_added m f w q) =
+    absurd (let k : codes "--hooks" ≡ codes "--script" = sym n ∙ m in cc)
+one_added name value old a b (script_added n e v p) (hooks_added h m f w q) =
+    absurd (let k : codes "--script" ≡ codes "--hooks" = sym n ∙ m in cc)
+one_added name value old a b (max_output_added g n e v p) (script_added m f w q) =
+    absurd (let k : codes "--max-output" ≡ codes "--script" = sym n ∙ m in cc)
+one_added name value old a b (script_added n e v p) (max_output_added h m f w q) =
+    absurd (let k : codes "--script" ≡ codes "--max-output" = sym n ∙ m in cc)
 
 -- so do options
 one_options : (words : List (List ℕ)) (old a b : Options) → AreOptions words old a → AreOptions words old b → a ≡ b
@@ -79,6 +90,13 @@ refused_behind program mode subject rest options are none (to_instrument line) a
     let missing : options.target ≡ None = none.no_line (cc) in
     let there = a.target in
     cc
+refused_behind program mode subject rest options are none (to_run s script) a =
+    let e = a.asks.order in
+    let same : a.asks.rest ≡ rest = cc in
+    let one : options ≡ a.options = one_options rest no_options options a.options are (subst (λ x. AreOptions x no_options a.options) same a.asks.given) in
+    let missing : options.script ≡ None = none.no_run (cc) in
+    let there = a.given in
+    cc
 
 -- the command of words with this mode, subject and options
 pub command_behind : (result : Option Command) (program mode subject : List ℕ) (rest : List (List ℕ)) (options : Options) → IsValue subject
@@ -99,6 +117,17 @@ command_behind (Some (Instrument line)) program mode subject rest options v are 
   target = is.2;
   hooks = is.3;
   bound = is.4;
+}
+command_behind (Some (Run s script)) program mode subject rest options v are is = record {
+  options = options;
+  asks = record {
+    program = program;
+    rest = rest;
+    order = let e = is.0 in let f = is.1 in cc;
+    named = subst IsValue (sym is.1) v;
+    given = are;
+  };
+  given = is.2;
 }
 
 -- lines with the same parts
@@ -124,6 +153,17 @@ one_line words a b p q =
     let bound : a.bound ≡ b.bound = p.bound ∙ ap (λ (o : Options). unwrap_or o.bound longest_output) one ∙ sym q.bound in
     same_line a b subject target hooks bound
 
+-- and one subject with one script
+pub one_run : (words : List (List ℕ)) (a b x y : List ℕ) → IsRun words a x → IsRun words b y → (a ≡ b) × (x ≡ y)
+one_run words a b x y p q =
+    let e = p.asks.order in
+    let f = q.asks.order in
+    let rest : p.asks.rest ≡ q.asks.rest = cc in
+    let subject : a ≡ b = cc in
+    let one : p.options ≡ q.options = one_options q.asks.rest no_options p.options q.options (subst (λ o. AreOptions o no_options p.options) rest p.asks.given) q.asks.given in
+    let g : Some x ≡ Some y = sym p.given ∙ ap (λ (o : Options). o.script) one ∙ q.given in
+    (subject, cc)
+
 -- a bound that is given is no more than the most that is written
 abbrev HasBound : Options → Type 0
 HasBound o = unwrap_or o.bound longest_output ≤ longest_output
@@ -132,6 +172,7 @@ added_bound : (name value : List ℕ) (old new : Options) → Adds name value ol
 added_bound name value old new (out_added n e v p) h = subst HasBound (sym p) h
 added_bound name value old new (hooks_added g n e v p) h = subst HasBound (sym p) h
 added_bound name value old new (max_output_added g n e v p) h = subst HasBound (sym p) v.most
+added_bound name value old new (script_added n e v p) h = subst HasBound (sym p) h
 
 options_bound : (words : List (List ℕ)) (old new : Options) → AreOptions words old new → HasBound old → HasBound new
 options_bound [] old new e h = subst HasBound (sym e) h

@@ -36,9 +36,9 @@ valid_fit limits bytes m v e f k = (subst (IsFit limits bytes) (sym e) f, subst 
 
 -- and one that was counted
 pub answers_checked : (words : List (List ℕ)) (old new : ShelfState) (subject text : List ℕ) (m : Module) → IsCheck words subject
-    → IsLoaded old.contents subject wide_file wide m → Unchanged old.contents new.contents → text ≡ ok_text (counts_of m) → Answers words old new text
+    → IsLoaded old.contents subject wide_file wide m → Unchanged old.contents new.contents → text ≡ ok_text (counts_of m) → Answers words old new 0 text
 answers_checked words old new subject text m c is u e =
-    subst (Answers words old new) (sym e) (checked subject m c is u)
+    subst (Answers words old new 0) (sym e) (checked subject m c is u)
 
 -- a valid module that has no output
 pub refuses_unmade : (words : List (List ℕ)) (old new : ShelfState) (line : Line) (m : Module) (status : ℕ) (text : List ℕ) → IsLine words line
@@ -63,10 +63,10 @@ has_output words old line m output text l is made =
 -- and that was written
 pub answers_written : (words : List (List ℕ)) (old new : ShelfState) (line : Line) (m : Module) (output text : List ℕ) → IsLine words line
     → IsLoaded old.contents line.subject narrow_file narrow m → IsOutputMade m line output text
-    → Wrote line.target output old.contents new.contents → Answers words old new text
+    → Wrote line.target output old.contents new.contents → Answers words old new 0 text
 answers_written words old new line m output text l is made w =
     let h = has_output words old line m output text l is made in
-    subst (Answers words old new) (ap (wrote_text (length output)) h.1 ∙ sym made.says) (instrumented line output h.0 w)
+    subst (Answers words old new 0) (ap (wrote_text (length output)) h.1 ∙ sym made.says) (instrumented line output h.0 w)
 
 -- or that could not be
 pub refuses_unwritten : (words : List (List ℕ)) (old new : ShelfState) (line : Line) (m : Module) (output text : List ℕ) → IsLine words line

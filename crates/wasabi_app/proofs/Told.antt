@@ -1,22 +1,25 @@
 -- Where contents are told, what stands there decides the status.
-use Rattle.std.proofs.Common.{◌≡◌, ◌≢◌, ℕ, ◌≤◌, ◌⊎◌, inl, inr, List, [], ◌∷◌, length, refl, sym, ap, subst, arith, Option, Some, None}
+use Rattle.std.proofs.Common.{◌≡◌, ◌≢◌, ℕ, ◌≤◌, ◌⊎◌, inl, inr, List, [], ◌∷◌, length, refl, sym, ap, subst, ◌∙◌, arith, Option, Some, None}
 use Rattle.outside_io.specs.Outside.{Contents, WhereKnown}
 use Rattle.module_ast.specs.declared.module.Limits.{Limits}
 use Rattle.module_ast.specs.declared.module.Module.{Module}
 use Rattle.module_ast.specs.Decoding.{Gram}
 use Rattle.module_ast.specs.Limits.{narrow, wide}
 use Rattle.instrument.specs.Made.{narrow_file}
-use Rattle.wasm_sem.specs.Link.{IsFree}
-use Rattle.wasabi_app.specs.Words.{Line, IsLine, IsCheck, IsRefused, Task, to_check, to_instrument, AsksFor}
-use Rattle.wasabi_app.specs.Files.{IsValidFile, IsNoModule, IsUnfit, IsInvalid, wide_file}
-use Rattle.wasabi_app.specs.Reads.{Want, valid_module, Read, module_read, reads_of, OfModule, IsGood, IsReached, Reads, IsLoaded}
+use Rattle.wasm_sem.specs.declared.Script.{Script}
+use Rattle.wasm_sem.specs.Link.{IsFree, Refusal, link, Links}
+use Rattle.wasabi_app.specs.Words.{Line, IsLine, IsCheck, IsRefused, Task, to_check, to_instrument, to_run, AsksFor}
+use Rattle.wasabi_app.specs.Files.{IsValidFile, IsNoModule, IsUnfit, IsInvalid, IsScript, IsScriptFile, IsNoScript, wide_file}
+use Rattle.wasabi_app.specs.Reads.{Want, valid_module, a_script, Read, module_read, reads_of, OfModule, OfScript, IsWanted, IsGood, IsReached, Reads, IsLoaded}
 use Rattle.wasabi_app.specs.Printing.{ShelfState, shelf_state, PrintState}
 use Rattle.wasabi_app.specs.Ends as ends
-use Rattle.wasabi_app.specs.Ends.{Status, HasOutput, Answers, checked, instrumented, Ends, IsKept, Decides, IsAboveCap, IsFile, IsTaken, IsTooLarge, ChecksAll, Completes}
+use Rattle.wasabi_app.specs.Ends.{Status, HasOutput, IsToRun, ending_status, Answers, checked, instrumented, ran, Ends, IsKept, Decides, DecidesLinking, IsAboveCap, IsFile, IsWrongScript, IsTaken, IsTooLarge, IsUnlinked, ChecksAll, Completes, RunsAll}
 use Rattle.wasabi_app.proofs.Files.{one_module, unfit_not_malformed, fit_not_malformed, fit_not_unfit, valid_not_invalid}
 use Rattle.wasabi_app.specs.Making.{output_length}
-use Rattle.wasabi_app.proofs.OptionWords.{one_line}
-use Rattle.wasabi_app.proofs.Causes.{Why, ends_inverted, check_no_line}
+use Rattle.wasabi_app.specs.Linking.{link_status}
+use Rattle.wasabi_app.proofs.Scripts.{one_script}
+use Rattle.wasabi_app.proofs.OptionWords.{one_line, one_run}
+use Rattle.wasabi_app.proofs.Causes.{Why, ends_inverted, check_no_line, check_no_run, line_no_run}
 
 -- what bytes are for a read of a module, by the status
 pub data Judged (limits : Limits) (bytes : List ℕ) : ℕ → Type 0 where
@@ -43,16 +46,38 @@ judged_once limits bytes _ _ (invalid p) (malformed q) = absurd (fit_not_malform
 judged_once limits bytes _ _ (invalid p) (unfit q) = absurd (fit_not_unfit limits bytes p.0 p.1 q)
 judged_once limits bytes _ _ (invalid p) (invalid q) = refl
 
+-- what they are for a read of a script
+pub data ScriptJudged (bytes : List ℕ) : ℕ → Type 0 where
+  scripted : IsScriptFile bytes → ScriptJudged bytes 0
+  unscripted : IsNoScript bytes → ScriptJudged bytes 10
+
+script_judged_once : (bytes : List ℕ) (a b : ℕ) → ScriptJudged bytes a → ScriptJudged bytes b → a ≡ b
+script_judged_once bytes _ _ (scripted p) (scripted q) = refl
+script_judged_once bytes _ _ (scripted p) (unscripted q) = absurd (q p.0 p.1)
+script_judged_once bytes _ _ (unscripted p) (scripted q) = absurd (p q.0 q.1)
+script_judged_once bytes _ _ (unscripted p) (unscripted q) = refl
+
 -- bytes are so by what they must be
 abbrev pub WantJudged : Want → (bytes : List ℕ) → ℕ → Type 0
-WantJudged want bytes status = OfModule (λ limits b. Judged limits b status) want bytes
+WantJudged (valid_module limits) bytes status = Judged limits bytes status
+WantJudged a_script bytes status = ScriptJudged bytes status
 
 wanted_once : (want : Want) (bytes : List ℕ) (a b : ℕ) → WantJudged want bytes a → WantJudged want bytes b → a ≡ b
 wanted_once (valid_module limits) bytes a b p q = judged_once limits bytes a b p q
+wanted_once a_script bytes a b p q = script_judged_once bytes a b p q
 
 judged_by : (P : Limits → (bytes : List ℕ) → Type 0) (status : ℕ) → ((limits : Limits) (bytes : List ℕ) → P limits bytes → Judged limits bytes status)
     → (want : Want) (bytes : List ℕ) → OfModule P want bytes → WantJudged want bytes status
 judged_by P status f (valid_module limits) bytes p = f limits bytes p
+judged_by P status f a_script bytes p = absurd p
+
+unscripted_judged : (want : Want) (bytes : List ℕ) → OfScript IsNoScript want bytes → WantJudged want bytes 10
+unscripted_judged (valid_module limits) bytes p = absurd p
+unscripted_judged a_script bytes p = unscripted p
+
+wanted_judged : (want : Want) (bytes : List ℕ) → IsWanted want bytes → WantJudged want bytes 0
+wanted_judged (valid_module limits) bytes p = valid p
+wanted_judged a_script bytes p = scripted p
 
 -- what stands under the name of a read, by the status: 0 where it is good
 pub data Found (contents : Contents) (read : Read) : ℕ → Type 0 where
@@ -81,7 +106,7 @@ found_once contents read _ _ (file bytes a p s j) (file other b q t k) =
     wanted_once read.want other a b (subst (λ x. WantJudged read.want x a) e j) k
 
 good_found : (contents : Contents) (read : Read) → IsGood (Some contents) read → Found contents read 0
-good_found contents read (bytes, i, v) = file bytes 0 i.there i.short (judged_by IsValidFile 0 (λ limits b p. valid p) read.want bytes v)
+good_found contents read (bytes, i, v) = file bytes 0 i.there i.short (wanted_judged read.want bytes v)
 
 -- all of these reads are good
 abbrev AreGood : Option Contents → List Read → Type 0
@@ -118,11 +143,26 @@ same_reads words (to_check a) (to_instrument b) p q = absurd (check_no_line word
 same_reads words (to_instrument a) (to_check b) p q = absurd (check_no_line words b a q p)
 same_reads words (to_instrument a) (to_instrument b) p q =
     ap (λ (l : Line). module_read l.subject narrow_file narrow ∷ []) (one_line words a b p q)
+same_reads words (to_check a) (to_run b y) p q = absurd (check_no_run words a b y p q)
+same_reads words (to_run a x) (to_check b) p q = absurd (check_no_run words b a x q p)
+same_reads words (to_instrument a) (to_run b y) p q = absurd (line_no_run words a b y p q)
+same_reads words (to_run a x) (to_instrument b) p q = absurd (line_no_run words b a x q p)
+same_reads words (to_run a x) (to_run b y) p q =
+    let one = one_run words a b x y p q in
+    ap (λ s. reads_of (to_run s x)) one.0 ∙ ap (λ s. reads_of (to_run b s)) one.1
 
 -- the one read of a task
 loaded_good : (held : Option Contents) (name : List ℕ) (cap : ℕ) (limits : Limits) (m : Module) → IsLoaded held name cap limits m
     → AreGood held (module_read name cap limits ∷ [])
 loaded_good held name cap limits m is = ((is.bytes, is.read, (m, is.fit, is.valid)), tt)
+
+-- the two reads of a run
+run_good : {words : List (List ℕ)} (held : Option Contents) (m : Module) (s : Script) (t : IsToRun words held m s)
+    → AreGood held (reads_of (to_run t.subject t.script))
+run_good held m s t =
+    let l = t.loaded in
+    let r = t.scripted in
+    ((l.bytes, l.read, (m, l.fit, l.valid)), ((r.bytes, r.read, (s, r.script)), tt))
 
 -- and its one module
 same_loaded : (words : List (List ℕ)) (contents : Contents) (a b : Line) (m n : Module) → IsLine words a → IsLine words b
@@ -133,6 +173,30 @@ same_loaded words contents a b m n p q is has =
     let h = has.read.there in
     let one : is.bytes ≡ has.bytes = cc in
     one_module has.bytes m n (subst (λ x. Gram x m) one is.fit.spelled) has.fit.spelled
+
+-- and the one module and script of a run
+same_module : (words : List (List ℕ)) (contents : Contents) (m n : Module) (s t : Script) → IsToRun words (Some contents) m s
+    → IsToRun words (Some contents) n t → m ≡ n
+same_module words contents m n s t p q =
+    let same = (one_run words _ _ _ _ p.command q.command).0 in
+    let g : contents q.subject ≡ Some p.loaded.bytes = subst (λ x. contents x ≡ Some p.loaded.bytes) same p.loaded.read.there in
+    let h = q.loaded.read.there in
+    let one : p.loaded.bytes ≡ q.loaded.bytes = cc in
+    one_module q.loaded.bytes m n (subst (λ x. Gram x m) one p.loaded.fit.spelled) q.loaded.fit.spelled
+
+same_script : (words : List (List ℕ)) (contents : Contents) (m n : Module) (s t : Script) → IsToRun words (Some contents) m s
+    → IsToRun words (Some contents) n t → s ≡ t
+same_script words contents m n s t p q =
+    let same = (one_run words _ _ _ _ p.command q.command).1 in
+    let g : contents q.script ≡ Some p.scripted.bytes = subst (λ x. contents x ≡ Some p.scripted.bytes) same p.scripted.read.there in
+    let h = q.scripted.read.there in
+    let one : p.scripted.bytes ≡ q.scripted.bytes = cc in
+    one_script q.scripted.bytes s t (subst (λ x. IsScript x s) one p.scripted.script) q.scripted.script
+
+same_link : (words : List (List ℕ)) (contents : Contents) (m n : Module) (s t : Script) → IsToRun words (Some contents) m s
+    → IsToRun words (Some contents) n t → link m s ≡ link n t
+same_link words contents m n s t p q =
+    ap (λ x. link x s) (same_module words contents m n s t p q) ∙ ap (link n) (same_script words contents m n s t p q)
 
 -- a module that gets its output
 abbrev IsGiven : Line → Module → Type 0
@@ -154,6 +218,10 @@ data Fate (words : List (List ℕ)) (contents : Contents) (status : ℕ) : Type 
       → status ≡ 9 → Fate words contents status
   made : (line : Line) (m : Module) → IsLine words line → IsLoaded (Some contents) line.subject narrow_file narrow m → IsGiven line m
       → (status ≡ 5) ⊎ ((status ≡ 15) ⊎ (status ≡ 0)) → Fate words contents status
+  unlinked : (m : Module) (s : Script) (why : Refusal) → IsToRun words (Some contents) m s → link m s ≡ Some why → status ≡ link_status why
+      → Fate words contents status
+  went : (m : Module) (s : Script) → IsToRun words (Some contents) m s → Links m s → (status ≡ 15) ⊎ (status ≡ ending_status m s)
+      → Fate words contents status
 
 output_loaded : (words : List (List ℕ)) (held : Option Contents) (line : Line) (written : List ℕ) (h : HasOutput words held line written)
     → IsLoaded held line.subject narrow_file narrow h.instrumented.original
@@ -166,16 +234,22 @@ output_given : (words : List (List ℕ)) (held : Option Contents) (line : Line) 
 output_given words held line written h =
     (h.instrumented.accepted.free, subst (λ bytes. length bytes ≤ line.bound) h.instrumented.output h.within)
 
-answer_fate : {words : List (List ℕ)} {new : ShelfState} (contents : Contents) (reads writes : ℕ) (text : List ℕ) (status : ℕ)
-    → Answers words (shelf_state (Some contents) reads writes) new text → (status ≡ 15) ⊎ (status ≡ 0) → Fate words contents status
-answer_fate contents reads writes _ status (checked subject m c is u) e = checked_well subject m c is e
-answer_fate {words = words} contents reads writes _ status (instrumented line written h w) e =
+answer_fate : {words : List (List ℕ)} {new : ShelfState} (contents : Contents) (reads writes whole : ℕ) (text : List ℕ) (status : ℕ)
+    → Answers words (shelf_state (Some contents) reads writes) new whole text → (status ≡ 15) ⊎ (status ≡ whole) → Fate words contents status
+answer_fate contents reads writes _ _ status (checked subject m c is u) e = checked_well subject m c is e
+answer_fate {words = words} contents reads writes _ _ status (instrumented line written h w) e =
     made line h.instrumented.original h.command (output_loaded words (Some contents) line written h) (output_given words (Some contents) line written h) (inr e)
+answer_fate contents reads writes _ _ status (ran m s t l u) e = went m s t l e
+
+unlinked_fate : {words : List (List ℕ)} (contents : Contents) (status : ℕ) → IsUnlinked words (Some contents) status → Fate words contents status
+unlinked_fate contents status (m, s, why, t, e, k) = unlinked m s why t e (sym k)
 
 -- by its status
 fate : (words : List (List ℕ)) (contents : Contents) (reads writes : ℕ) (new : ShelfState) (before after : PrintState) (status : ℕ) → Status status
     → Why words (shelf_state (Some contents) reads writes) new before after status → Fate words contents status
-fate words contents reads writes new before after _ ends.done w = answer_fate contents reads writes w.0 0 w.1 (inr refl)
+fate words contents reads writes new before after _ ends.done w = answer_fate contents reads writes 0 w.0 0 w.1 (inr refl)
+fate words contents reads writes new before after _ ends.trapped w = answer_fate contents reads writes 12 w.0 12 w.1 (inr refl)
+fate words contents reads writes new before after _ ends.unfinished w = answer_fate contents reads writes 13 w.0 13 w.1 (inr refl)
 fate words contents reads writes new before after _ ends.bad_words w = not_asked w
 fate words contents reads writes new before after _ ends.unread (read, s, inl m) = bad read s (none m) (λ k. omega arith)
 fate words contents reads writes new before after _ ends.unread (read, s, inr (long, t)) = bad read s (over (t.0, t.1, t.3)) (λ k. omega arith)
@@ -190,7 +264,11 @@ fate words contents reads writes new before after _ ends.unfit (read, bytes, s, 
 fate words contents reads writes new before after _ ends.invalid (read, bytes, s, i, p) =
     bad read s (file bytes 8 i.there i.short (judged_by IsInvalid 8 (λ limits b q. invalid q) read.want bytes p)) (λ k. omega arith)
 fate words contents reads writes new before after _ ends.no_memory w = faulty (inr refl)
-fate words contents reads writes new before after _ ends.unprinted w = answer_fate contents reads writes w.0.0 15 w.0.1 (inl refl)
+fate words contents reads writes new before after _ ends.unprinted w = answer_fate contents reads writes w.0 w.1 15 w.2 (inl refl)
+fate words contents reads writes new before after _ ends.bad_script (inl (read, bytes, s, i, p)) =
+    bad read s (file bytes 10 i.there i.short (unscripted_judged read.want bytes p)) (λ k. omega arith)
+fate words contents reads writes new before after _ ends.bad_script (inr u) = unlinked_fate contents 10 u
+fate words contents reads writes new before after _ ends.out_of_range u = unlinked_fate contents 11 u
 fate words contents reads writes new before after _ ends.no_output (inl (line, m, l, is, n)) = unmade line m l is (λ g. n g.0) refl
 fate words contents reads writes new before after _ ends.no_output (inr (line, m, l, is, f, n)) =
     unmade line m l is (λ g. omega (arith, n, g.1)) refl
@@ -222,6 +300,10 @@ fate_read words contents read status expected (unmade line m l is t e) s f n =
     absurd (bad_task words contents read expected (to_instrument line) s f n l (loaded_good (Some contents) line.subject narrow_file narrow m is))
 fate_read words contents read status expected (made line m l is t e) s f n =
     absurd (bad_task words contents read expected (to_instrument line) s f n l (loaded_good (Some contents) line.subject narrow_file narrow m is))
+fate_read words contents read status expected (unlinked m k why t l e) s f n =
+    absurd (bad_task words contents read expected (to_run t.subject t.script) s f n t.command (run_good (Some contents) m k t))
+fate_read words contents read status expected (went m k t l e) s f n =
+    absurd (bad_task words contents read expected (to_run t.subject t.script) s f n t.command (run_good (Some contents) m k t))
 
 pub decides : {words : List (List ℕ)} {new : ShelfState} {before after : PrintState} (held : Option Contents) (reads writes status : ℕ)
     → Ends words (shelf_state held reads writes) new before after status → (P : Read → Option (List ℕ) → Type 0) (expected : ℕ) → expected ≢ 0
@@ -238,6 +320,13 @@ decides_file held reads writes status x P expected n f =
     decides held reads writes status x (IsFile P) expected n
     (λ contents read p. file p.0 expected p.1 p.2 (judged_by P expected f read.want p.0 p.3))
 
+-- and those of a script
+pub decides_script : {words : List (List ℕ)} {new : ShelfState} {before after : PrintState} (held : Option Contents) (reads writes status : ℕ)
+    → Ends words (shelf_state held reads writes) new before after status → Decides words held IsWrongScript status 10
+decides_script held reads writes status x =
+    decides held reads writes status x IsWrongScript 10 (λ k. omega arith)
+    (λ contents read p. file p.0 10 p.1 p.2 (unscripted_judged read.want p.0 p.3))
+
 -- a subject without an output
 fate_unmade : (words : List (List ℕ)) (contents : Contents) (line : Line) (m : Module) (status : ℕ) → Fate words contents status → IsLine words line
     → IsLoaded (Some contents) line.subject narrow_file narrow m → ¬ IsGiven line m → IsKept status 9
@@ -248,6 +337,8 @@ fate_unmade words contents line m status (bad read s f z) l is n =
 fate_unmade words contents line m status (checked_well subject k c has e) l is n = absurd (check_no_line words subject line c l)
 fate_unmade words contents line m status (unmade other k p has t e) l is n = inl e
 fate_unmade words contents line m status (made other k p has t e) l is n = absurd (n (same_given words contents other line k m p l has is t))
+fate_unmade words contents line m status (unlinked k s why t e x) l is n = absurd (line_no_run words line t.subject t.script l t.command)
+fate_unmade words contents line m status (went k s t e x) l is n = absurd (line_no_run words line t.subject t.script l t.command)
 
 pub decides_taken : {words : List (List ℕ)} {new : ShelfState} {before after : PrintState} (held : Option Contents) (reads writes status : ℕ)
     → Ends words (shelf_state held reads writes) new before after status → WhereKnown held (λ _. IsTaken words held → IsKept status 9)
@@ -271,6 +362,8 @@ fate_checked words contents subject m status (bad read s f z) c is =
 fate_checked words contents subject m status (checked_well other k d has e) c is = elim e [ inl p ↦ inl p | inr p ↦ inr (inl p) ]
 fate_checked words contents subject m status (unmade line k l has t e) c is = absurd (check_no_line words subject line c l)
 fate_checked words contents subject m status (made line k l has t e) c is = absurd (check_no_line words subject line c l)
+fate_checked words contents subject m status (unlinked k s why t e x) c is = absurd (check_no_run words subject t.subject t.script c t.command)
+fate_checked words contents subject m status (went k s t e x) c is = absurd (check_no_run words subject t.subject t.script c t.command)
 
 pub checks_all : {words : List (List ℕ)} {new : ShelfState} {before after : PrintState} (held : Option Contents) (reads writes status : ℕ)
     → Ends words (shelf_state held reads writes) new before after status → ChecksAll words held status
@@ -289,6 +382,8 @@ fate_given words contents line m status (checked_well subject k c has e) l is n 
 fate_given words contents line m status (unmade other k p has t e) l is n = absurd (t (same_given words contents line other m k l p is has n))
 fate_given words contents line m status (made other k p has t e) l is n =
     elim e [ inl a ↦ inl a | inr a ↦ inr (elim a [ inl b ↦ inl b | inr b ↦ inr (inl b) ]) ]
+fate_given words contents line m status (unlinked k s why t e x) l is n = absurd (line_no_run words line t.subject t.script l t.command)
+fate_given words contents line m status (went k s t e x) l is n = absurd (line_no_run words line t.subject t.script l t.command)
 
 pub completes : {words : List (List ℕ)} {new : ShelfState} {before after : PrintState} (held : Option Contents) (reads writes status : ℕ)
     → Ends words (shelf_state held reads writes) new before after status → Completes words held status
@@ -296,3 +391,53 @@ completes None reads writes status x = tt
 completes {words = words} (Some contents) reads writes status x =
     λ line bytes m l i a n. fate_given words contents line m status (ends_fate contents reads writes status x) l
     (record { bytes = bytes; read = i; fit = record { spelled = a.spelled; within = a.limits }; valid = a.valid }) (a.free, n)
+
+-- a subject and a script that do not link
+fate_unlinked : (words : List (List ℕ)) (contents : Contents) (m : Module) (s : Script) (why : Refusal) (status : ℕ) → Fate words contents status
+    → IsToRun words (Some contents) m s → link m s ≡ Some why → IsKept status (link_status why)
+fate_unlinked words contents m s why status (not_asked r) t e = absurd (r (to_run t.subject t.script) t.command)
+fate_unlinked words contents m s why status (faulty f) t e = inr f
+fate_unlinked words contents m s why status (bad read r f z) t e =
+    absurd (bad_task words contents read status (to_run t.subject t.script) r f z t.command (run_good (Some contents) m s t))
+fate_unlinked words contents m s why status (checked_well subject k c has f) t e =
+    absurd (check_no_run words subject t.subject t.script c t.command)
+fate_unlinked words contents m s why status (unmade line k l has g f) t e = absurd (line_no_run words line t.subject t.script l t.command)
+fate_unlinked words contents m s why status (made line k l has g f) t e = absurd (line_no_run words line t.subject t.script l t.command)
+fate_unlinked words contents m s why status (unlinked n k other u f g) t e =
+    let same : Some other ≡ Some why = sym f ∙ same_link words contents n m k s u t ∙ e in
+    let one : other ≡ why = cc in
+    inl (g ∙ ap link_status one)
+fate_unlinked words contents m s why status (went n k u f g) t e =
+    let same : None ≡ Some why = sym f ∙ same_link words contents n m k s u t ∙ e in
+    cc
+
+pub decides_linking : {words : List (List ℕ)} {new : ShelfState} {before after : PrintState} (held : Option Contents) (reads writes status : ℕ)
+    → Ends words (shelf_state held reads writes) new before after status → DecidesLinking words held status
+decides_linking None reads writes status x = tt
+decides_linking {words = words} (Some contents) reads writes status x =
+    λ expected (m, s, why, t, e, k). subst (IsKept status) k (fate_unlinked words contents m s why status (ends_fate contents reads writes status x) t e)
+
+-- and that do
+fate_run : (words : List (List ℕ)) (contents : Contents) (m : Module) (s : Script) (status : ℕ) → Fate words contents status
+    → IsToRun words (Some contents) m s → Links m s → (status ≡ 15) ⊎ IsKept status (ending_status m s)
+fate_run words contents m s status (not_asked r) t e = absurd (r (to_run t.subject t.script) t.command)
+fate_run words contents m s status (faulty f) t e = inr (inr f)
+fate_run words contents m s status (bad read r f z) t e =
+    absurd (bad_task words contents read status (to_run t.subject t.script) r f z t.command (run_good (Some contents) m s t))
+fate_run words contents m s status (checked_well subject k c has f) t e = absurd (check_no_run words subject t.subject t.script c t.command)
+fate_run words contents m s status (unmade line k l has g f) t e = absurd (line_no_run words line t.subject t.script l t.command)
+fate_run words contents m s status (made line k l has g f) t e = absurd (line_no_run words line t.subject t.script l t.command)
+fate_run words contents m s status (unlinked n k why u f g) t e =
+    let same : Some why ≡ None = sym f ∙ same_link words contents n m k s u t ∙ e in
+    cc
+fate_run words contents m s status (went n k u f g) t e =
+    let same : ending_status n k ≡ ending_status m s =
+    ap (λ x. ending_status x k) (same_module words contents n m k s u t) ∙ ap (ending_status m) (same_script words contents n m k s u t)
+    in
+    elim g [ inl p ↦ inl p | inr p ↦ inr (inl (p ∙ same)) ]
+
+pub runs_all : {words : List (List ℕ)} {new : ShelfState} {before after : PrintState} (held : Option Contents) (reads writes status : ℕ)
+    → Ends words (shelf_state held reads writes) new before after status → RunsAll words held status
+runs_all None reads writes status x = tt
+runs_all {words = words} (Some contents) reads writes status x =
+    λ m s t l. fate_run words contents m s status (ends_fate contents reads writes status x) t l

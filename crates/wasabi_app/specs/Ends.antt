@@ -1,22 +1,27 @@
 -- How a command ends: what stands on the shelf, what is printed, and the status.
-use Rattle.std.specs.Prelude.{◌≡◌, ℕ, ◌<◌, ◌≤◌, ◌⊎◌, List, length, Option, Some, Result, Ok, Err, String, string_bytes}
-use Rattle.std.specs.declared.alloc.Global.{Global}
-use Rattle.outside_io.specs.Outside.{Contents, Rose, WhereKnown, Unchanged, Wrote, WrotePart, IsMissing, IsTooLong}
+use Rattle.std.specs.Prelude.{◌≡◌, ℕ, ◌<◌, ◌≤◌, ◌⊎◌, List, length, Option, Some, Result, Ok, Err, string_bytes}
+use Rattle.outside_io.specs.Outside.{Contents, Rose, WhereKnown, Unchanged, Wrote, WrotePart, IsMissing, IsTooLong, Printed, PrintedPart}
 use Rattle.module_ast.specs.declared.module.Limits.{Limits}
 use Rattle.module_ast.specs.declared.module.Module.{Module}
 use Rattle.module_ast.specs.Limits.{narrow, wide}
 use Rattle.instrument.specs.Made.{narrow_file}
 use Rattle.instrument.specs.Accepted.{IsAccepted, IsInstrumented}
-use Rattle.wasm_sem.specs.Link.{IsFree}
+use Rattle.wasm_sem.specs.declared.Script.{Script}
+use Rattle.wasm_sem.specs.Link as linking
+use Rattle.wasm_sem.specs.Link.{IsFree, link, Links}
+use Rattle.wasm_sem.specs.Answers.{Summary, summary_of}
 use Rattle.wasabi_app.specs.declared.lines.Refusal.{Refusal}
-use Rattle.wasabi_app.specs.Words.{Line, IsLine, IsCheck, IsRefused}
-use Rattle.wasabi_app.specs.Files.{wide_file}
-use Rattle.wasabi_app.specs.Reads.{Read, module_read, IsRead, OfModule, Reads, IsLoaded}
+use Rattle.wasabi_app.specs.declared.lines.Told.{Told}
+use Rattle.wasabi_app.specs.Words.{Line, IsLine, IsCheck, IsRun, IsRefused}
+use Rattle.wasabi_app.specs.Files.{IsNoScript, wide_file}
+use Rattle.wasabi_app.specs.Reads.{Read, module_read, IsRead, OfModule, OfScript, Reads, IsLoaded, IsScripted}
 use Rattle.wasabi_app.specs.Texts.{bad_words_text, taken_text, too_large_text, unwritten_text, no_memory_text, wrote_text, ok_text, counts_of}
+use Rattle.wasabi_app.specs.RunTexts.{run_text, run_status}
 use Rattle.wasabi_app.specs.Refusals.{refusal_status, refusal_text}
 use Rattle.wasabi_app.specs.Printing.{ShelfState, PrintState, Said}
 use Rattle.wasabi_app.specs.Loading.{ReadCause}
 use Rattle.wasabi_app.specs.Making.{hook_count, output_length}
+use Rattle.wasabi_app.specs.Linking.{link_status, link_text}
 
 -- the statuses
 pub data Status : ℕ → Type 0 where
@@ -29,6 +34,10 @@ pub data Status : ℕ → Type 0 where
   unfit : Status 7
   invalid : Status 8
   no_output : Status 9
+  bad_script : Status 10
+  out_of_range : Status 11
+  trapped : Status 12
+  unfinished : Status 13
   no_memory : Status 14
   unprinted : Status 15
 
@@ -50,6 +59,25 @@ abbrev pub IsWrittenPart : List (List ℕ) → (old new : Option Contents) → T
 IsWrittenPart words old new =
     (line : Line) × (written : List ℕ) × HasOutput words old line written × WrotePart line.target written old new
 
+-- the words ask for a run, and the subject's bytes are this valid module, and the script's are this script
+pub record IsToRun (words : List (List ℕ)) (held : Option Contents) (m : Module) (s : Script) : Type 0 where
+  pub subject : List ℕ
+  pub script : List ℕ
+  pub command : IsRun words subject script
+  pub loaded : IsLoaded held subject wide_file wide m
+  pub scripted : IsScripted held script s
+
+-- what stands after the script's steps
+abbrev pub ending_of : Module → Script → Summary
+ending_of m s = summary_of m s s.steps
+
+-- the text of a run, and its status
+abbrev pub ending_text : Module → Script → List ℕ
+ending_text m s = run_text s.calls (ending_of m s)
+
+abbrev pub ending_status : Module → Script → ℕ
+ending_status m s = run_status (ending_of m s)
+
 -- why a command is refused, what stands on the shelf then, and the status and the line
 pub data Cause (words : List (List ℕ)) (old new : ShelfState) : (status : ℕ) → (text : List ℕ) → Type 0 where
   no_command : IsRefused words → Unchanged old.contents new.contents → Cause words old new 2 bad_words_text
@@ -62,25 +90,30 @@ pub data Cause (words : List (List ℕ)) (old new : ShelfState) : (status : ℕ)
       → Cause words old new 9 (too_large_text (output_length m line.hooks))
   unwritten : (line : Line) (written : List ℕ) → HasOutput words old.contents line written → Rose old.writes new.writes
       → WrotePart line.target written old.contents new.contents → Cause words old new 5 (unwritten_text line.target)
+  unlinked : (m : Module) (s : Script) (why : linking.Refusal) → IsToRun words old.contents m s → link m s ≡ Some why
+      → Unchanged old.contents new.contents → Cause words old new (link_status why) (link_text s.calls why)
   memory_ended : Unchanged old.contents new.contents ⊎ IsWrittenPart words old.contents new.contents → Cause words old new 14 no_memory_text
 
--- what a command answers, what stands on the shelf then, and the line
-pub data Answers (words : List (List ℕ)) (old new : ShelfState) : (text : List ℕ) → Type 0 where
+-- what a command answers, what stands on the shelf then, and the status and the text
+pub data Answers (words : List (List ℕ)) (old new : ShelfState) : (status : ℕ) → (text : List ℕ) → Type 0 where
   checked : (subject : List ℕ) (m : Module) → IsCheck words subject → IsLoaded old.contents subject wide_file wide m
-      → Unchanged old.contents new.contents → Answers words old new (ok_text (counts_of m))
+      → Unchanged old.contents new.contents → Answers words old new 0 (ok_text (counts_of m))
   instrumented : (line : Line) (written : List ℕ) (has : HasOutput words old.contents line written)
       → Wrote line.target written old.contents new.contents
-      → Answers words old new (wrote_text (length written) (hook_count has.instrumented.original line.hooks))
+      → Answers words old new 0 (wrote_text (length written) (hook_count has.instrumented.original line.hooks))
+  ran : (m : Module) (s : Script) → IsToRun words old.contents m s → Links m s → Unchanged old.contents new.contents
+      → Answers words old new (ending_status m s) (ending_text m s)
 
 -- the work of a command: its answer, or why it is refused
-abbrev pub ComesTo : List (List ℕ) → (old new : ShelfState) → Result (String Global) Refusal → Type 0
-ComesTo words old new (Ok line) = Answers words old new (string_bytes line)
+abbrev pub ComesTo : List (List ℕ) → (old new : ShelfState) → Result Told Refusal → Type 0
+ComesTo words old new (Ok told) = Answers words old new told.status (string_bytes told.text)
 ComesTo words old new (Err refusal) = Cause words old new (refusal_status refusal) (refusal_text refusal)
 
--- An answer's line is printed, or the status is 15 where the sink's count rose. A refusal's status stands however its
+-- An answer's text is printed, or the status is 15 where the sink's count rose. A refusal's status stands however its
 -- line is printed. Want of memory for a line, or on the way through it, is 14.
 pub data Ends (words : List (List ℕ)) (old new : ShelfState) (before after : PrintState) (status : ℕ) : Type 0 where
-  answered : (text : List ℕ) → Answers words old new text → Said text 0 15 before after status → Ends words old new before after status
+  answered : (whole : ℕ) (text : List ℕ) → Answers words old new whole text → Said text whole 15 before after status
+      → Ends words old new before after status
   refused : (cause : ℕ) (text : List ℕ) → Cause words old new cause text → Said text cause cause before after status
       → Ends words old new before after status
 
@@ -109,6 +142,26 @@ IsTooLarge words held =
     (line : Line) × (m : Module) × IsLine words line × IsLoaded held line.subject narrow_file narrow m × IsFree m
     × (line.bound < output_length m line.hooks)
 
+-- no script has the bytes that were to be one
+abbrev pub IsUnscripted : List (List ℕ) → (held : Option Contents) → Type 0
+IsUnscripted words held =
+    (read : Read) × (bytes : List ℕ) × Reads words held read × IsRead held read bytes × OfScript IsNoScript read.want bytes
+
+-- subject and script don't link, for a cause with this status
+abbrev pub IsUnlinked : List (List ℕ) → (held : Option Contents) → (status : ℕ) → Type 0
+IsUnlinked words held status =
+    (m : Module) × (s : Script) × (why : linking.Refusal) × IsToRun words held m s × (link m s ≡ Some why) × (link_status why ≡ status)
+
+-- they link, and the run of this status was printed whole
+abbrev pub IsRan : List (List ℕ) → (held : Option Contents) → (status : ℕ) → (before after : Option (List ℕ)) → Type 0
+IsRan words held status before after =
+    (m : Module) × (s : Script) × IsToRun words held m s × Links m s × (ending_status m s ≡ status) × Printed (ending_text m s) before after
+
+-- or a prefix
+abbrev pub IsRanPart : List (List ℕ) → (held : Option Contents) → (before after : Option (List ℕ)) → Type 0
+IsRanPart words held before after =
+    (m : Module) × (s : Script) × IsToRun words held m s × Links m s × PrintedPart (ending_text m s) before after
+
 -- Where contents are told, what stands under a name that is read decides, but for faults and want of memory.
 abbrev pub IsKept : (status expected : ℕ) → Type 0
 IsKept status expected = (status ≡ expected) ⊎ ((status ≡ 4) ⊎ (status ≡ 14))
@@ -125,6 +178,10 @@ IsAboveCap read found = (bytes : List ℕ) × (found ≡ Some bytes) × (read.ca
 abbrev pub IsFile : (Limits → (bytes : List ℕ) → Type 0) → Read → (found : Option (List ℕ)) → Type 0
 IsFile P read found = (bytes : List ℕ) × (found ≡ Some bytes) × (length bytes ≤ read.cap) × OfModule P read.want bytes
 
+-- a script is to be read, and no script has the bytes
+abbrev pub IsWrongScript : Read → (found : Option (List ℕ)) → Type 0
+IsWrongScript read found = (bytes : List ℕ) × (found ≡ Some bytes) × (length bytes ≤ read.cap) × OfScript IsNoScript read.want bytes
+
 -- 4, 5 and 15 come only where a count of faults rose, so that without faults the status is 0, or want of memory
 abbrev pub ChecksAll : List (List ℕ) → Option Contents → (status : ℕ) → Type 0
 ChecksAll words held status =
@@ -136,3 +193,12 @@ Completes words held status =
     WhereKnown held (λ _. (line : Line) (bytes : List ℕ) (m : Module) → IsLine words line
     → IsRead held (module_read line.subject narrow_file narrow) bytes → IsAccepted bytes m → output_length m line.hooks ≤ line.bound
     → (status ≡ 5) ⊎ ((status ≡ 15) ⊎ IsKept status 0))
+
+abbrev pub RunsAll : List (List ℕ) → Option Contents → (status : ℕ) → Type 0
+RunsAll words held status =
+    WhereKnown held (λ _. (m : Module) (s : Script) → IsToRun words held m s → Links m s → (status ≡ 15) ⊎ IsKept status (ending_status m s))
+
+-- a script that does not link with the module
+abbrev pub DecidesLinking : List (List ℕ) → Option Contents → (status : ℕ) → Type 0
+DecidesLinking words held status =
+    WhereKnown held (λ _. (expected : ℕ) → IsUnlinked words held expected → IsKept status expected)

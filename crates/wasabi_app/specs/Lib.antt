@@ -1,10 +1,12 @@
 pub mod Words
 pub mod Reading
 pub mod Texts
+pub mod RunTexts
 pub mod Refusals
 pub mod Printing
 pub mod Files
 pub mod Reads
 pub mod Loading
 pub mod Making
+pub mod Linking
 pub mod Ends

@@ -1,5 +1,6 @@
 -- Why a read is refused.
-use Rattle.std.specs.Prelude.{ℕ, List}
+use Rattle.std.specs.Prelude.{◌≡◌, ℕ, List, Err}
+use Rattle.serde_json.specs.Data.{Data}
 use Rattle.outside_io.specs.Outside.{Rose, IsMissing, IsTooLong}
 use Rattle.module_ast.specs.declared.module.Limits.{Limits}
 use Rattle.module_ast.specs.declared.module.Module.{Module}
@@ -7,10 +8,12 @@ use Rattle.module_ast.specs.declared.module.Which.{Which}
 use Rattle.module_ast.specs.Grammar.{IsFault}
 use Rattle.module_ast.specs.Decoding.{FileFloats, FileExceeds}
 use Rattle.module_ast.specs.Validity.{Rule, number_of, IsFirstBroken, IsFirstInvalid}
+use Rattle.json_form.specs.Text.{IsText, IsNoText}
+use Rattle.run_session.specs.Script.{script_form}
 use Rattle.wasabi_app.specs.Printing.{ShelfState}
 use Rattle.wasabi_app.specs.Files.{IsFit}
-use Rattle.wasabi_app.specs.Reads.{Read, IsRead, OfModule}
-use Rattle.wasabi_app.specs.Texts.{missing_text, too_long_text, unread_text, malformed_text, floats_text, limit_text, rule_text, body_text, no_memory_text}
+use Rattle.wasabi_app.specs.Reads.{Want, valid_module, a_script, Read, IsRead}
+use Rattle.wasabi_app.specs.Texts.{missing_text, too_long_text, unread_text, malformed_text, floats_text, limit_text, rule_text, body_text, not_json_text, wrong_script_text, no_memory_text}
 
 -- the bytes are no valid module, by this status and line
 pub data Refutes (name : List ℕ) (limits : Limits) (bytes : List ℕ) : (status : ℕ) → (text : List ℕ) → Type 0 where
@@ -21,11 +24,22 @@ pub data Refutes (name : List ℕ) (limits : Limits) (bytes : List ℕ) : (statu
   invalid_body : (m : Module) (func : ℕ) → IsFit limits bytes m → IsFirstInvalid m func → Refutes name limits bytes 8 (body_text name func)
   no_memory : Refutes name limits bytes 14 no_memory_text
 
+-- the bytes are no script, by this status and line
+pub data RefutesScript (bytes : List ℕ) : (status : ℕ) → (text : List ℕ) → Type 0 where
+  not_json : IsNoText bytes → RefutesScript bytes 10 not_json_text
+  wrong_script : (d : Data) (place : ℕ) → IsText bytes d → script_form d ≡ Err place → RefutesScript bytes 10 (wrong_script_text place)
+  no_memory_for_script : RefutesScript bytes 14 no_memory_text
+
+-- they are not what they must be
+abbrev pub RefutesWant : (name : List ℕ) → Want → (bytes : List ℕ) → (status : ℕ) → (text : List ℕ) → Type 0
+RefutesWant name (valid_module limits) bytes status text = Refutes name limits bytes status text
+RefutesWant name a_script bytes status text = RefutesScript bytes status text
+
 -- nothing is read under the name that is what it must be
 pub data ReadCause (read : Read) (old new : ShelfState) : (status : ℕ) → (text : List ℕ) → Type 0 where
   missing : IsMissing old.contents read.name old.reads new.reads → ReadCause read old new 3 (missing_text read.name)
   too_long : (long : ℕ) → IsTooLong old.contents read.name read.cap long old.reads new.reads → ReadCause read old new 3 (too_long_text read.name long)
   unread : Rose old.reads new.reads → ReadCause read old new 4 (unread_text read.name)
   refuted : (bytes : List ℕ) (status : ℕ) (text : List ℕ) → IsRead old.contents read bytes
-      → OfModule (λ limits b. Refutes read.name limits b status text) read.want bytes → ReadCause read old new status text
+      → RefutesWant read.name read.want bytes status text → ReadCause read old new status text
   unloaded_no_memory : ReadCause read old new 14 no_memory_text

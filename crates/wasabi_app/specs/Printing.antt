@@ -1,4 +1,4 @@
--- The shelf and the sink of a command, and how a line is printed.
+-- The shelf and the sink of a command, and how a text is printed.
 use Rattle.std.specs.Prelude.{ℕ, List, Option}
 use Rattle.outside_io.specs.Outside.{Contents, Rose, Printed, PrintedPart}
 
@@ -19,9 +19,9 @@ pub record PrintState : Type 0 where
 abbrev pub print_state : Option (List ℕ) → (faults : ℕ) → PrintState
 print_state text faults = record { text = text; faults = faults }
 
--- A line was to be printed: the status where it stands whole, the one where a prefix of it does and the count rose, and
+-- A text was to be printed: the status where it stands whole, the one where a prefix of it does and the count rose, and
 -- want of memory.
-pub data Said (line : List ℕ) (whole failed : ℕ) (old new : PrintState) : ℕ → Type 0 where
-  said : Printed line old.text new.text → Said line whole failed old new whole
-  said_part : Rose old.faults new.faults → PrintedPart line old.text new.text → Said line whole failed old new failed
-  said_no_memory : PrintedPart line old.text new.text → Said line whole failed old new 14
+pub data Said (text : List ℕ) (whole failed : ℕ) (old new : PrintState) : ℕ → Type 0 where
+  said : Printed text old.text new.text → Said text whole failed old new whole
+  said_part : Rose old.faults new.faults → PrintedPart text old.text new.text → Said text whole failed old new failed
+  said_no_memory : PrintedPart text old.text new.text → Said text whole failed old new 14

@@ -4,11 +4,11 @@ use Rattle.hook_select.specs.declared.Hooks.{Hooks}
 use Rattle.wasabi_app.specs.declared.words.Line.{Line as ReadLine}
 use Rattle.wasabi_app.specs.declared.words.Options.{Options as ReadOptions}
 use Rattle.wasabi_app.specs.declared.words.Command.{Command}
-use Rattle.wasabi_app.specs.declared.words.Command.TheVariants.{Check, Instrument}
+use Rattle.wasabi_app.specs.declared.words.Command.TheVariants.{Check, Instrument, Run}
 use Rattle.wasabi_app.specs.declared.lines.Counts.{Counts as ReadCounts}
 use Rattle.wasabi_app.specs.Texts.{Counts}
 use Rattle.instrument.specs.Made.{longest_output}
-use Rattle.wasabi_app.specs.Words.{Line, Options, IsList, IsBound, IsLine, IsCheck, Adds, AreOptions, all_hooks}
+use Rattle.wasabi_app.specs.Words.{Line, Options, IsList, IsBound, IsLine, IsCheck, IsRun, Adds, AreOptions, all_hooks}
 
 -- the line that was read, as its texts
 abbrev pub line_of : ReadLine → Line
@@ -16,12 +16,18 @@ line_of line = record { subject = line.subject.now; target = line.target.now; ho
 
 -- so the options
 abbrev pub options_of : ReadOptions → Options
-options_of o = record { target = option_map (λ t. t.now) o.target; hooks = o.hooks; bound = o.bound }
+options_of o = record {
+  target = option_map (λ t. t.now) o.target;
+  hooks = o.hooks;
+  bound = o.bound;
+  script = option_map (λ t. t.now) o.script;
+}
 
 -- the words ask for this command
 abbrev pub IsCommand : List (List ℕ) → Command → Type 0
 IsCommand words (Check subject) = IsCheck words subject.now
 IsCommand words (Instrument line) = IsLine words (line_of line)
+IsCommand words (Run subject script) = IsRun words subject.now script.now
 
 -- the text is no list of groups
 abbrev pub IsNoList : (text : List ℕ) → Type 0
@@ -45,11 +51,13 @@ IsModeOf mode subject options (Check s) = (mode ≡ codes "check") × (s.now ≡
 IsModeOf mode subject options (Instrument line) =
     (mode ≡ codes "instrument") × (line.subject.now ≡ subject) × (options.target ≡ Some line.target.now)
     × (line.hooks ≡ unwrap_or options.hooks all_hooks) × (line.bound ≡ unwrap_or options.bound longest_output)
+IsModeOf mode subject options (Run s script) = (mode ≡ codes "run") × (s.now ≡ subject) × (options.script ≡ Some script.now)
 
 -- this mode with these options is no command
 pub record IsNoMode (mode : List ℕ) (options : Options) : Type 0 where
   pub no_check : mode ≢ codes "check"
   pub no_line : mode ≡ codes "instrument" → options.target ≡ None
+  pub no_run : mode ≡ codes "run" → options.script ≡ None
 
 -- the counts that were made
 abbrev pub counts_in : ReadCounts → Counts

@@ -6,12 +6,14 @@ use Rattle.module_ast.specs.declared.module.Module.{Module}
 use Rattle.module_ast.specs.Limits.{narrow, wide}
 use Rattle.module_ast.specs.Validity.{IsValid}
 use Rattle.instrument.specs.Made.{narrow_file}
-use Rattle.wasabi_app.specs.Words.{Task, to_check, to_instrument, AsksFor}
-use Rattle.wasabi_app.specs.Files.{IsFit, IsValidFile, wide_file}
+use Rattle.wasm_sem.specs.declared.Script.{Script}
+use Rattle.wasabi_app.specs.Words.{Task, to_check, to_instrument, to_run, AsksFor}
+use Rattle.wasabi_app.specs.Files.{IsFit, IsValidFile, IsScript, IsScriptFile, wide_file, script_file}
 
--- what the bytes under a name must be: a valid module within limits
+-- what the bytes under a name must be: a valid module within limits, or a script
 pub data Want : Type 0 where
   valid_module : Limits → Want
+  a_script : Want
 
 -- a name that is read: with at most so many bytes, and what these must be
 pub record Read : Type 0 where
@@ -19,13 +21,20 @@ pub record Read : Type 0 where
   pub cap : ℕ
   pub want : Want
 
+abbrev pub read_as : (name : List ℕ) → (cap : ℕ) → Want → Read
+read_as name cap want = record { name = name; cap = cap; want = want }
+
 abbrev pub module_read : (name : List ℕ) → (cap : ℕ) → Limits → Read
-module_read name cap limits = record { name = name; cap = cap; want = valid_module limits }
+module_read name cap limits = read_as name cap (valid_module limits)
+
+abbrev pub script_read : (name : List ℕ) → Read
+script_read name = read_as name script_file a_script
 
 -- what a task reads, in this order
 abbrev pub reads_of : Task → List Read
 reads_of (to_check subject) = module_read subject wide_file wide ∷ []
 reads_of (to_instrument line) = module_read line.subject narrow_file narrow ∷ []
+reads_of (to_run subject script) = module_read subject wide_file wide ∷ script_read script ∷ []
 
 -- where contents are told, the name has these bytes, which are no more than the cap
 pub record IsRead (held : Option Contents) (read : Read) (bytes : List ℕ) : Type 0 where
@@ -35,10 +44,20 @@ pub record IsRead (held : Option Contents) (read : Read) (bytes : List ℕ) : Ty
 -- this holds of the limits and the bytes of a module
 abbrev pub OfModule : (Limits → (bytes : List ℕ) → Type 0) → Want → (bytes : List ℕ) → Type 0
 OfModule P (valid_module limits) bytes = P limits bytes
+OfModule P a_script bytes = ⊥
+
+-- this holds of the bytes of a script
+abbrev pub OfScript : ((bytes : List ℕ) → Type 0) → Want → (bytes : List ℕ) → Type 0
+OfScript P (valid_module limits) bytes = ⊥
+OfScript P a_script bytes = P bytes
+
+abbrev pub IsWanted : Want → (bytes : List ℕ) → Type 0
+IsWanted (valid_module limits) bytes = IsValidFile limits bytes
+IsWanted a_script bytes = IsScriptFile bytes
 
 -- what was read is what it must be
 abbrev pub IsGood : Option Contents → Read → Type 0
-IsGood held read = (bytes : List ℕ) × IsRead held read bytes × OfModule IsValidFile read.want bytes
+IsGood held read = (bytes : List ℕ) × IsRead held read bytes × IsWanted read.want bytes
 
 -- this one is read: those before it are good
 abbrev pub IsReached : Option Contents → List Read → Read → Type 0
@@ -57,3 +76,9 @@ pub record IsLoaded (held : Option Contents) (name : List ℕ) (cap : ℕ) (limi
   pub read : IsRead held (module_read name cap limits) bytes
   pub fit : IsFit limits bytes m
   pub valid : IsValid m
+
+-- the bytes under the name are this script
+pub record IsScripted (held : Option Contents) (name : List ℕ) (s : Script) : Type 0 where
+  pub bytes : List ℕ
+  pub read : IsRead held (script_read name) bytes
+  pub script : IsScript bytes s

@@ -60,6 +60,27 @@ taken_text name = concat_texts (codes "error 9: " ∷ name ∷ codes " is alread
 abbrev pub too_large_text : (long : ℕ) → List ℕ
 too_large_text long = concat_texts (codes "error 9: the output would be " ∷ decimal long ∷ codes " bytes\n" ∷ [])
 
+abbrev pub not_json_text : List ℕ
+not_json_text = codes "error 10: script is not JSON\n"
+
+abbrev pub wrong_script_text : (place : ℕ) → List ℕ
+wrong_script_text place = concat_texts (codes "error 10: script is wrong at " ∷ decimal place ∷ codes "\n" ∷ [])
+
+abbrev pub no_export_text : (export : List ℕ) → List ℕ
+no_export_text export = concat_texts (codes "error 10: no exported function " ∷ export ∷ codes "\n" ∷ [])
+
+abbrev pub wrong_arguments_text : (call : ℕ) → List ℕ
+wrong_arguments_text call = concat_texts (codes "error 10: call " ∷ decimal call ∷ codes " has wrong arguments\n" ∷ [])
+
+abbrev pub memory_cap_text : (pages : ℕ) → List ℕ
+memory_cap_text pages = concat_texts (codes "error 11: memory needs " ∷ decimal pages ∷ codes " pages\n" ∷ [])
+
+abbrev pub table_cap_text : (slots : ℕ) → List ℕ
+table_cap_text slots = concat_texts (codes "error 11: table needs " ∷ decimal slots ∷ codes " slots\n" ∷ [])
+
+abbrev pub segment_range_text : List ℕ
+segment_range_text = codes "error 11: segment is out of range\n"
+
 -- so many bytes, with so many hooks
 abbrev pub wrote_text : (bytes hooks : ℕ) → List ℕ
 wrote_text bytes hooks = concat_texts (codes "wrote " ∷ decimal bytes ∷ codes " bytes with " ∷ decimal hooks ∷ codes " hooks\n" ∷ [])

@@ -26,14 +26,15 @@ pub record IsBound (text : List ℕ) (bound : ℕ) : Type 0 where
   pub some : 1 ≤ bound
   pub most : bound ≤ longest_output
 
--- what the options say: the target's name, the groups, and how many bytes the output may have
+-- what the options say: the target's name, the groups, how many bytes the output may have, and the script's name
 pub record Options : Type 0 where
   pub target : Option (List ℕ)
   pub hooks : Option Hooks
   pub bound : Option ℕ
+  pub script : Option (List ℕ)
 
 abbrev pub no_options : Options
-no_options = record { target = None; hooks = None; bound = None }
+no_options = record { target = None; hooks = None; bound = None; script = None }
 
 -- an option that was not there before, with its value
 pub data Adds (name value : List ℕ) (old new : Options) : Type 0 where
@@ -42,6 +43,7 @@ pub data Adds (name value : List ℕ) (old new : Options) : Type 0 where
       → new ≡ record old { hooks = Some hooks } → Adds name value old new
   max_output_added : (bound : ℕ) → name ≡ codes "--max-output" → old.bound ≡ None → IsBound value bound
       → new ≡ record old { bound = Some bound } → Adds name value old new
+  script_added : name ≡ codes "--script" → old.script ≡ None → IsValue value → new ≡ record old { script = Some value } → Adds name value old new
 
 -- each option with its value, in any order, and each at most once
 abbrev pub AreOptions : List (List ℕ) → (old new : Options) → Type 0
@@ -80,14 +82,22 @@ pub record IsLine (words : List (List ℕ)) (line : Line) : Type 0 where
   pub hooks : line.hooks ≡ unwrap_or options.hooks all_hooks
   pub bound : line.bound ≡ unwrap_or options.bound longest_output
 
+-- the subject is to be run by the script, whose name is given
+pub record IsRun (words : List (List ℕ)) (subject script : List ℕ) : Type 0 where
+  pub options : Options
+  pub asks : Asks words (codes "run") subject options
+  pub given : options.script ≡ Some script
+
 -- what the words ask for
 pub data Task : Type 0 where
   to_check : (subject : List ℕ) → Task
   to_instrument : Line → Task
+  to_run : (subject script : List ℕ) → Task
 
 abbrev pub AsksFor : List (List ℕ) → Task → Type 0
 AsksFor words (to_check subject) = IsCheck words subject
 AsksFor words (to_instrument line) = IsLine words line
+AsksFor words (to_run subject script) = IsRun words subject script
 
 -- they ask for nothing
 abbrev pub IsRefused : List (List ℕ) → Type 0

@@ -2,14 +2,15 @@
 
 ghost use Rattle.std.specs.Prelude.{◌≡◌, ◌≢◌, ◌≤◌, ◌⊎◌, ℕ, List, None};
 ghost use Rattle.outside_io.specs.Outside.{Rose, Unchanged, WhereKnown};
-ghost use Rattle.wasabi_app.specs.Words.{Line, IsCheck, IsLine, IsRefused, texts};
+ghost use Rattle.wasabi_app.specs.Words.{Line, IsCheck, IsLine, IsRun, IsRefused, texts};
 ghost use Rattle.wasabi_app.specs.Files.{IsNoModule, IsUnfit, IsInvalid};
-ghost use Rattle.wasabi_app.specs.Ends.{ComesTo, Ends, Status, IsDone, IsWritten, IsWrittenPart, IsOf, IsUnread, IsTaken, IsTooLarge, Decides, IsAboveCap, IsFile, IsKept, ChecksAll, Completes};
+ghost use Rattle.wasabi_app.specs.Ends.{ComesTo, Ends, Status, IsDone, IsWritten, IsWrittenPart, IsOf, IsUnread, IsTaken, IsTooLarge, IsUnscripted, IsUnlinked, IsRan, IsRanPart, Decides, DecidesLinking, IsAboveCap, IsFile, IsWrongScript, IsKept, ChecksAll, Completes, RunsAll};
 ghost use Rattle.wasabi_app.specs.Printing.{ShelfState, shelf_state, print_state};
 
 use crate::check_mode::check;
 use crate::instrument_mode::instrument;
-use crate::lines::Refusal;
+use crate::lines::{Refusal, Told};
+use crate::run_mode::run;
 use crate::say::{refuse, say};
 use crate::words::{Command, read_command};
 use outside_io::{Shelf, Sink};
@@ -17,17 +18,22 @@ use std::alloc::Global;
 use std::thread::Threads;
 
 /// Runs a command and answers its status, the first that applies. `wasabi check SUBJECT` prints the counts of a valid
-/// module, `wasabi instrument SUBJECT --out F` writes its output and prints one line; `--hooks LIST` gives the groups, which
-/// are all else, and `--max-output N` how many bytes the output may have, which are 268,435,456 else. `check` takes these
-/// options, with their values, and leaves them aside.
+/// module. `wasabi instrument SUBJECT --out F` writes its output and prints one line; `--hooks LIST` gives the groups, which
+/// are all else, and `--max-output N` how many bytes the output may have, which are 268,435,456 else. `wasabi run SUBJECT
+/// --script F` runs a valid module by a script and prints what the start and each call came to, the pages of the memory
+/// and how many host calls were made; calls of hooks are silent. Each mode takes all options, with their values, and
+/// leaves those of the others aside.
 ///
 /// 2: the words are of no command. 3: the subject is missing, or has more bytes than 268,435,456, and 16,777,216 for
-/// `instrument`. 4: it can't be read. 6: no module has its bytes (5.5.16). 7: it is a module with a floating type or
-/// instruction, or with a quantity above its limit, which is wide for `check` and narrow for `instrument`. 8: it is not
-/// valid (3.4). Of `instrument` alone, 9: it imports from the hooks' module, or its output has more bytes than it may
-/// have, and 5: the output can't be written. 15: the line of the answer can't be printed. Else 0. Want of memory, 14, may
-/// come in place of each. A refusal but 15 prints its line; where the sink fails then, the status is that of the refusal
-/// all the same.
+/// `instrument`; so is the script of `run`, with 16,777,216. 4: one of them can't be read. 6: no module has the subject's
+/// bytes (5.5.16). 7: it is a module with a floating type or instruction, or with a quantity above its limit, which is
+/// narrow for `instrument` and wide else. 8: it is not valid (3.4). Of `instrument` alone, 9: it imports from the hooks'
+/// module, or its output has more bytes than it may have, and 5: the output can't be written. Of `run` alone, 10: the
+/// script is not JSON or not a script, or a call of it names no exported function or has arguments that do not fit; 11:
+/// the memory, the table or a segment is out of range (4.5.4); 12: the run was over within the script's steps, and the
+/// start or a call trapped; 13: it was not over. 15: the text of the answer can't be printed. Else 0. Want of memory, 14,
+/// may come in place of each. A refusal prints its line, but at 15; where the sink fails then, the status is that of the
+/// refusal all the same. The subject is read and checked before the script is read.
 pub fn run_app<R: Threads + Sync, S: Shelf, K: Sink>(
     rt: &R,
     alloc: Global,
@@ -54,10 +60,23 @@ pub fn run_app<R: Threads + Sync, S: Shelf, K: Sink>(
     ensures invalid { result ≡ 8 → IsOf (texts words.now) (S.contents shelf.old) IsInvalid }
     ensures no_output { result ≡ 9 →
         IsTaken (texts words.now) (S.contents shelf.old) ⊎ IsTooLarge (texts words.now) (S.contents shelf.old) }
+    ensures bad_script { result ≡ 10 →
+        IsUnscripted (texts words.now) (S.contents shelf.old) ⊎ IsUnlinked (texts words.now) (S.contents shelf.old) 10 }
+    ensures out_of_range { result ≡ 11 → IsUnlinked (texts words.now) (S.contents shelf.old) 11 }
     ensures write_failed { result ≡ 5 → Rose (S.write_faults shelf.old) (S.write_faults shelf.new) }
     ensures print_failed { result ≡ 15 → Rose (K.faults out.old) (K.faults out.new) }
 
-    // What stands then. A refusal before the write changes nothing, and `check` never does.
+    // What was printed of a run: the text of the specification's run of the subject and the script, whole or in part.
+    ensures ran { (subject script : List ℕ) → IsRun (texts words.now) subject script → result ≡ 0 →
+        IsRan (texts words.now) (S.contents shelf.old) 0 (K.written out.old) (K.written out.new) }
+    ensures trapped { result ≡ 12 →
+        IsRan (texts words.now) (S.contents shelf.old) 12 (K.written out.old) (K.written out.new) }
+    ensures unfinished { result ≡ 13 →
+        IsRan (texts words.now) (S.contents shelf.old) 13 (K.written out.old) (K.written out.new) }
+    ensures ran_part { (subject script : List ℕ) → IsRun (texts words.now) subject script → result ≡ 15 →
+        IsRanPart (texts words.now) (S.contents shelf.old) (K.written out.old) (K.written out.new) }
+
+    // What stands then. A refusal before the write changes nothing, and `check` and `run` never do.
     ensures written { (line : Line) → IsLine (texts words.now) line → IsDone result →
         IsWritten (texts words.now) (S.contents shelf.old) (S.contents shelf.new) }
     ensures part { result ≡ 5 → IsWrittenPart (texts words.now) (S.contents shelf.old) (S.contents shelf.new) }
@@ -67,6 +86,8 @@ pub fn run_app<R: Threads + Sync, S: Shelf, K: Sink>(
     ensures kept { result ≢ 0 → result ≢ 5 → result ≢ 14 → result ≢ 15 →
         Unchanged (S.contents shelf.old) (S.contents shelf.new) }
     ensures check_keeps { (subject : List ℕ) → IsCheck (texts words.now) subject →
+        Unchanged (S.contents shelf.old) (S.contents shelf.new) }
+    ensures run_keeps { (subject script : List ℕ) → IsRun (texts words.now) subject script →
         Unchanged (S.contents shelf.old) (S.contents shelf.new) }
     ensures read_count { S.read_faults shelf.old ≤ S.read_faults shelf.new }
     ensures write_count { S.write_faults shelf.old ≤ S.write_faults shelf.new }
@@ -82,20 +103,23 @@ pub fn run_app<R: Threads + Sync, S: Shelf, K: Sink>(
         (λ _. IsTaken (texts words.now) (S.contents shelf.old) → IsKept result 9) }
     ensures too_large { WhereKnown (S.contents shelf.old)
         (λ _. IsTooLarge (texts words.now) (S.contents shelf.old) → IsKept result 9) }
+    ensures wrong_script { Decides (texts words.now) (S.contents shelf.old) IsWrongScript result 10 }
+    ensures unlinked { DecidesLinking (texts words.now) (S.contents shelf.old) result }
     ensures checks { ChecksAll (texts words.now) (S.contents shelf.old) result }
     ensures complete { Completes (texts words.now) (S.contents shelf.old) result }
+    ensures runs { RunsAll (texts words.now) (S.contents shelf.old) result }
 {
     let ending = answer(rt, alloc, words, shelf);
     tell(alloc, out, ending)
 }
 
-// Does what the words ask for; the line of the answer, or why it is refused.
+// Does what the words ask for; what that tells, or why it is refused.
 fn answer<'w, R: Threads + Sync, S: Shelf>(
     rt: &R,
     alloc: Global,
     words: &'w [String],
     shelf: &mut S,
-) -> Result<String, Refusal<'w>>
+) -> Result<Told, Refusal<'w>>
     ensures ended { ComesTo (texts words.now)
         (shelf_state (S.contents shelf.old) (S.read_faults shelf.old) (S.write_faults shelf.old))
         (shelf_state (S.contents shelf.new) (S.read_faults shelf.new) (S.write_faults shelf.new)) result }
@@ -106,17 +130,18 @@ fn answer<'w, R: Threads + Sync, S: Shelf>(
         None => Err(Refusal::BadWords),
         Some(Command::Check { subject }) => check(rt, alloc, subject, shelf),
         Some(Command::Instrument(line)) => instrument(rt, alloc, &line, shelf),
+        Some(Command::Run { subject, script }) => run(rt, alloc, subject, script, shelf),
     }
 }
 
-// Prints the line of an answer or of a refusal, and answers the status.
-fn tell<K: Sink>(alloc: Global, out: &mut K, ending: Result<String, Refusal<'_>>) -> u8
+// Prints the text of an answer or the line of a refusal, and answers the status.
+fn tell<K: Sink>(alloc: Global, out: &mut K, ending: Result<Told, Refusal<'_>>) -> u8
     ensures ended { (words : List (List ℕ)) (old new : ShelfState) → ComesTo words old new ending.entry
         → Ends words old new (print_state (K.written out.old) (K.faults out.old)) (print_state (K.written out.new) (K.faults out.new)) result }
     ensures print_count { K.faults out.old ≤ K.faults out.new }
 {
     match ending {
-        Ok(line) => say(out, line.as_str(), 0, 15),
+        Ok(Told { status, text }) => say(out, text.as_str(), status, 15),
         Err(refusal) => refuse(alloc, out, &refusal),
     }
 }

@@ -6,7 +6,7 @@ ghost use Rattle.wasabi_app.specs.Printing.{shelf_state};
 ghost use Rattle.wasabi_app.specs.Words.{IsCheck};
 
 use crate::counts::count;
-use crate::lines::Refusal;
+use crate::lines::{Refusal, Told};
 use crate::load::load;
 use module_ast::module::Limits;
 use outside_io::Shelf;
@@ -22,7 +22,7 @@ pub(crate) fn check<'w, R: Threads + Sync, S: Shelf>(
     alloc: Global,
     subject: &'w str,
     shelf: &mut S,
-) -> Result<String, Refusal<'w>>
+) -> Result<Told, Refusal<'w>>
     ensures ended { (words : List (List ℕ)) → IsCheck words subject.now → ComesTo words
         (shelf_state (S.contents shelf.old) (S.read_faults shelf.old) (S.write_faults shelf.old))
         (shelf_state (S.contents shelf.new) (S.read_faults shelf.new) (S.write_faults shelf.new)) result }
@@ -31,7 +31,7 @@ pub(crate) fn check<'w, R: Threads + Sync, S: Shelf>(
 {
     let valid = load(rt, alloc, subject, LONGEST_SUBJECT, &Limits::wide(), shelf)?;
     match count(valid.module()).line(alloc) {
-        Ok(line) => Ok(line),
+        Ok(text) => Ok(Told { status: 0, text }),
         Err(_) => Err(Refusal::NoMemory),
     }
 }

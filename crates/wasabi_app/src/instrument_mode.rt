@@ -12,7 +12,7 @@ ghost use Rattle.wasabi_app.specs.Reading.{line_of};
 ghost use Rattle.wasabi_app.specs.Refusals.{refusal_status, refusal_text};
 ghost use Rattle.wasabi_app.specs.Words.{IsLine};
 
-use crate::lines::{Refusal, wrote_line};
+use crate::lines::{Refusal, Told, wrote_line};
 use crate::load::load;
 use crate::words::Line;
 use instrument::{InstrumentFault, Made};
@@ -33,7 +33,7 @@ pub(crate) fn instrument<'w, R: Threads + Sync, S: Shelf>(
     alloc: Global,
     line: &Line<'w>,
     shelf: &mut S,
-) -> Result<String, Refusal<'w>>
+) -> Result<Told, Refusal<'w>>
     requires bound { line.now.bound ≤ longest_output }
     ensures ended { (words : List (List ℕ)) → IsLine words (line_of line.now) → ComesTo words
         (shelf_state (S.contents shelf.old) (S.read_faults shelf.old) (S.write_faults shelf.old))
@@ -51,7 +51,7 @@ pub(crate) fn instrument<'w, R: Threads + Sync, S: Shelf>(
     )?;
     let Answer { output, text } = make(rt, alloc, line, &valid)?;
     match shelf.write(line.target, output.as_slice()) {
-        Ok(()) => Ok(text),
+        Ok(()) => Ok(Told { status: 0, text }),
         Err(WriteFault::Failed) => Err(Refusal::Unwritten { name: line.target }),
         Err(WriteFault::NoMemory) => Err(Refusal::NoMemory),
     }

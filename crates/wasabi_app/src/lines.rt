@@ -4,11 +4,20 @@ ghost use Rattle.std.specs.Prelude.{◌≡◌, IfOk, IfSome, Some, string_bytes}
 ghost use Rattle.wasabi_app.specs.Texts.{wrote_text, ok_text, which_name, no_memory_text};
 ghost use Rattle.wasabi_app.specs.Refusals.{refusal_status, refusal_text};
 
+use crate::script_lines::ScriptRefusal;
 use module_ast::module::Which;
 use std::alloc::{AllocError, Global};
 
-/// Why a command is refused: bad words, a fault of the outside, what a name's bytes are, or what their output would be.
-#[derive(Clone, Copy)]
+/// What a command tells, and the status of the program where that is printed.
+#[derive(Drop)]
+pub(crate) struct Told {
+    pub(crate) status: u8,
+    pub(crate) text: String,
+}
+
+/// Why a command is refused: bad words, a fault of the outside, what a name's bytes are, what their output would be, or
+/// the script.
+#[derive(Drop)]
 pub(crate) enum Refusal<'w> {
     BadWords,
     Missing {
@@ -51,6 +60,7 @@ pub(crate) enum Refusal<'w> {
     TooLarge {
         length: u64,
     },
+    Script(ScriptRefusal),
     NoMemory,
 }
 
@@ -68,6 +78,7 @@ impl Refusal<'_> {
             Refusal::Floats { .. } | Refusal::OverLimit { .. } => 7,
             Refusal::BrokenRule { .. } | Refusal::InvalidBody { .. } => 8,
             Refusal::HookModuleTaken { .. } | Refusal::TooLarge { .. } => 9,
+            Refusal::Script(why) => why.status(),
             Refusal::NoMemory => 14,
         }
     }
@@ -76,7 +87,7 @@ impl Refusal<'_> {
     pub(crate) fn line(&self, alloc: Global) -> Result<String, AllocError>
         ensures { IfOk result (λ line. string_bytes line ≡ refusal_text self.now) }
     {
-        match *self {
+        match self {
             Refusal::BadWords => String::from_str(alloc, "error 2: bad words\n"),
             Refusal::Missing { name } => format!(in alloc; "error 3: {name} is missing\n"),
             Refusal::TooLong { name, length } => format!(in alloc;
@@ -91,7 +102,7 @@ impl Refusal<'_> {
                 "error 7: {name} uses floats in section {section}\n"
             ),
             Refusal::OverLimit { name, which, value } => {
-                let which = name_of(which);
+                let which = name_of(*which);
                 format!(in alloc; "error 7: {name} is over the limit of {which}: {value}\n")
             }
             Refusal::BrokenRule { name, rule } => format!(in alloc;
@@ -106,6 +117,7 @@ impl Refusal<'_> {
             Refusal::TooLarge { length } => format!(in alloc;
                 "error 9: the output would be {length} bytes\n"
             ),
+            Refusal::Script(why) => why.line(alloc),
             Refusal::NoMemory => String::from_str(alloc, NO_MEMORY),
         }
     }

@@ -1,21 +1,28 @@
-// Valid modules, read from a shelf.
+// Valid modules and scripts, read from a shelf.
 
 ghost use Rattle.std.specs.Prelude.{◌≡◌, ◌≤◌, IfOk, IfErr, length};
 ghost use Rattle.outside_io.specs.Outside.{Unchanged};
 ghost use Rattle.module_ast.specs.Validity.{IsValid};
-ghost use Rattle.wasabi_app.specs.Files.{IsFit, wide_file};
-ghost use Rattle.wasabi_app.specs.Loading.{Refutes, ReadCause};
+ghost use Rattle.wasm_sem.specs.Link.{IsScriptInRange};
+ghost use Rattle.wasabi_app.specs.Files.{IsFit, IsScript, wide_file};
+ghost use Rattle.wasabi_app.specs.Loading.{Refutes, RefutesScript, ReadCause};
 ghost use Rattle.wasabi_app.specs.Printing.{shelf_state};
-ghost use Rattle.wasabi_app.specs.Reads.{IsLoaded, module_read};
+ghost use Rattle.wasabi_app.specs.Reads.{IsLoaded, IsRead, IsScripted, Want, read_as, module_read, script_read};
 ghost use Rattle.wasabi_app.specs.Refusals.{refusal_status, refusal_text};
 
 use crate::lines::Refusal;
+use crate::script_lines::ScriptRefusal;
 use module_ast::module::{Limits, Module};
 use outside_io::{ReadFault, Shelf};
+use run_session::{ScriptFault, read_script};
 use std::alloc::Global;
 use std::thread::Threads;
 use wasm_decode::{DecodeFault, decode};
+use wasm_sem::Script;
 use wasm_valid::{Invalid, ValidModule, validate};
+
+// How many bytes a script may have.
+const LONGEST_SCRIPT: u64 = 16_777_216;
 
 /// The valid module that stands under a name, of at most `cap` bytes, within these limits. No name is changed.
 pub(crate) fn load<'w, R: Threads + Sync, S: Shelf>(
@@ -36,12 +43,66 @@ pub(crate) fn load<'w, R: Threads + Sync, S: Shelf>(
     ensures read_count { S.read_faults shelf.old ≤ S.read_faults shelf.new }
     ensures write_count { S.write_faults shelf.new ≡ S.write_faults shelf.old }
 {
+    let bytes = read(alloc, name, cap, shelf)?;
+    valid_module(rt, alloc, name, bytes.as_slice(), limits)
+}
+
+/// The script that stands under a name, of at most 16,777,216 bytes. No name is changed.
+pub(crate) fn load_script<'w, S: Shelf>(
+    alloc: Global,
+    name: &'w str,
+    shelf: &mut S,
+) -> Result<Script, Refusal<'w>>
+    ensures ok { IfOk result (λ s. IsScripted (S.contents shelf.old) name.now s) }
+    ensures range { IfOk result IsScriptInRange }
+    ensures refused { IfErr result (λ r. ReadCause (script_read name.now)
+        (shelf_state (S.contents shelf.old) (S.read_faults shelf.old) (S.write_faults shelf.old))
+        (shelf_state (S.contents shelf.new) (S.read_faults shelf.new) (S.write_faults shelf.new)) (refusal_status r) (refusal_text r)) }
+    ensures kept { Unchanged (S.contents shelf.old) (S.contents shelf.new) }
+    ensures read_count { S.read_faults shelf.old ≤ S.read_faults shelf.new }
+    ensures write_count { S.write_faults shelf.new ≡ S.write_faults shelf.old }
+{
+    let bytes = read(alloc, name, LONGEST_SCRIPT, shelf)?;
+    script_of(alloc, bytes.as_slice())
+}
+
+// The bytes that stand under a name, at most `cap` of them.
+fn read<'w, S: Shelf>(
+    alloc: Global,
+    name: &'w str,
+    cap: u64,
+    shelf: &mut S,
+) -> Result<Vec<u8>, Refusal<'w>>
+    ensures ok { (want : Want) → IfOk result (λ bytes. IsRead (S.contents shelf.old) (read_as name.now cap want) bytes.items) }
+    ensures refused { (want : Want) → IfErr result (λ r. ReadCause (read_as name.now cap want)
+        (shelf_state (S.contents shelf.old) (S.read_faults shelf.old) (S.write_faults shelf.old))
+        (shelf_state (S.contents shelf.new) (S.read_faults shelf.new) (S.write_faults shelf.new)) (refusal_status r) (refusal_text r)) }
+    ensures kept { Unchanged (S.contents shelf.old) (S.contents shelf.new) }
+    ensures read_count { S.read_faults shelf.old ≤ S.read_faults shelf.new }
+    ensures write_count { S.write_faults shelf.new ≡ S.write_faults shelf.old }
+{
     match shelf.read(alloc, name, cap) {
-        Ok(bytes) => valid_module(rt, alloc, name, bytes.as_slice(), limits),
+        Ok(bytes) => Ok(bytes),
         Err(ReadFault::Missing) => Err(Refusal::Missing { name }),
         Err(ReadFault::TooLong { length }) => Err(Refusal::TooLong { name, length }),
         Err(ReadFault::Failed) => Err(Refusal::Unread { name }),
         Err(ReadFault::NoMemory) => Err(Refusal::NoMemory),
+    }
+}
+
+// The script with these bytes.
+fn script_of<'w>(alloc: Global, bytes: &[u8]) -> Result<Script, Refusal<'w>>
+    ensures ok { IfOk result (λ s. IsScript bytes.now s) }
+    ensures range { IfOk result IsScriptInRange }
+    ensures refused { IfErr result (λ r. RefutesScript bytes.now (refusal_status r) (refusal_text r)) }
+{
+    match read_script(alloc, bytes) {
+        Ok(script) => Ok(script),
+        Err(ScriptFault::NotJson) => Err(Refusal::Script(ScriptRefusal::NotJson)),
+        Err(ScriptFault::NotScript { place }) => Err(Refusal::Script(ScriptRefusal::Wrong {
+            place,
+        })),
+        Err(ScriptFault::NoMemory) => Err(Refusal::NoMemory),
     }
 }
 

@@ -1,4 +1,4 @@
-// Printing a line.
+// Printing a text.
 
 ghost use Rattle.std.specs.Prelude.{◌≤◌, ◌⊎◌};
 ghost use Rattle.wasabi_app.specs.Texts.{no_memory_text};
@@ -9,13 +9,13 @@ use crate::lines::{NO_MEMORY, Refusal};
 use outside_io::{Sink, SinkFault};
 use std::alloc::Global;
 
-/// Prints a line and answers a status: `whole` where it stands whole, `failed` where the sink failed, and 14 where memory
+/// Prints a text and answers a status: `whole` where it stands whole, `failed` where the sink failed, and 14 where memory
 /// ended on the way.
-pub(crate) fn say<K: Sink>(out: &mut K, line: &str, whole: u8, failed: u8) -> u8
-    ensures said { Said line.now whole failed (print_state (K.written out.old) (K.faults out.old)) (print_state (K.written out.new) (K.faults out.new)) result }
+pub(crate) fn say<K: Sink>(out: &mut K, text: &str, whole: u8, failed: u8) -> u8
+    ensures said { Said text.now whole failed (print_state (K.written out.old) (K.faults out.old)) (print_state (K.written out.new) (K.faults out.new)) result }
     ensures print_count { K.faults out.old ≤ K.faults out.new }
 {
-    match out.put(line.as_bytes()) {
+    match out.put(text.as_bytes()) {
         Ok(()) => whole,
         Err(SinkFault::Failed) => failed,
         Err(SinkFault::NoMemory) => 14,

@@ -7,7 +7,7 @@ use std::test;
 use std::thread::Threads;
 
 // One function `f` of one nop.
-const ONE_NOP: [u8; 32] = [
+pub(crate) const ONE_NOP: [u8; 32] = [
     0x00, 0x61, 0x73, 0x6D, 0x01, 0x00, 0x00, 0x00, // header
     0x01, 0x04, 0x01, 0x60, 0x00, 0x00, // types
     0x03, 0x02, 0x01, 0x00, // functions
@@ -143,7 +143,7 @@ const NONE: &str = "instrument a.wasm --hooks none --out b.wasm";
 const CHECK: &str = "check a.wasm";
 
 // The list of the calls that fail.
-fn fails_of(alloc: Global, fail: Option<Fail>) -> Result<Vec<Fail>, AllocError> {
+pub(crate) fn fails_of(alloc: Global, fail: Option<Fail>) -> Result<Vec<Fail>, AllocError> {
     let mut fails = Vec::new(alloc);
     if let Some(fail) = fail {
         fails.push(fail)?;
@@ -152,7 +152,7 @@ fn fails_of(alloc: Global, fail: Option<Fail>) -> Result<Vec<Fail>, AllocError> 
 }
 
 // The status of the command with these words behind the program's name.
-fn status_of<R: Threads + Sync>(
+pub(crate) fn status_of<R: Threads + Sync>(
     rt: &R,
     alloc: Global,
     words: &str,

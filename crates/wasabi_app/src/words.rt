@@ -21,6 +21,7 @@ pub(crate) struct Line<'w> {
 pub(crate) enum Command<'w> {
     Check { subject: &'w str },
     Instrument(Line<'w>),
+    Run { subject: &'w str, script: &'w str },
 }
 
 // What the options say.
@@ -29,6 +30,7 @@ struct Options<'w> {
     target: Option<&'w str>,
     hooks: Option<Hooks>,
     bound: Option<u64>,
+    script: Option<&'w str>,
 }
 
 // The most bytes that an output may have.
@@ -89,6 +91,12 @@ fn with_option<'w>(options: &Options<'w>, name: &str, value: &'w str) -> Option<
             ..*options
         });
     }
+    if name == "--script" && options.script.is_none() && is_value(value) {
+        return Some(Options {
+            script: Some(value),
+            ..*options
+        });
+    }
     None
 }
 
@@ -122,25 +130,28 @@ pub(crate) fn read_command(words: &[String]) -> Option<Command<'_>>
         target: None,
         hooks: None,
         bound: None,
+        script: None,
     };
     let options = read_options(&none, rest)?;
     command_of(mode.as_str(), subject, &options)
 }
 
-// The command of this mode; none where there is no such mode, or the target that it needs is missing.
+// The command of this mode; none where there is no such mode, or an option that it needs is missing.
 fn command_of<'w>(mode: &str, subject: &'w str, options: &Options<'w>) -> Option<Command<'w>>
     ensures { MatchOption result (IsNoMode mode.now (options_of options.now)) (IsModeOf mode.now subject.now (options_of options.now)) }
 {
-    if mode == "check" {
-        return Some(Command::Check { subject });
+    match mode {
+        "check" => Some(Command::Check { subject }),
+        "instrument" => Some(Command::Instrument(Line {
+            subject,
+            target: options.target?,
+            hooks: options.hooks.unwrap_or(Hooks::all()),
+            bound: options.bound.unwrap_or(LONGEST_OUTPUT),
+        })),
+        "run" => Some(Command::Run {
+            subject,
+            script: options.script?,
+        }),
+        _ => None,
     }
-    if mode != "instrument" {
-        return None;
-    }
-    Some(Command::Instrument(Line {
-        subject,
-        target: options.target?,
-        hooks: options.hooks.unwrap_or(Hooks::all()),
-        bound: options.bound.unwrap_or(LONGEST_OUTPUT),
-    }))
 }

@@ -17,3 +17,7 @@ returns-in-None-clause-ended g c = no_command c.in-None.ensures (unchanged_same 
 pub returns-in-Some-Check-clause-ended : goal.returns-in-Some-Check-clause-ended
 returns-in-Some-Check-clause-ended g c =
     c.check.ensures.ended (texts c.args.words.now) (rw c.in-Some-Check.field-0-is at c.in-Some-Check.ensures)
+
+pub returns-in-Some-Run-clause-ended : goal.returns-in-Some-Run-clause-ended
+returns-in-Some-Run-clause-ended g c =
+    c.run.ensures.ended (texts c.args.words.now) (rw c.in-Some-Run.field-0-is at c.in-Some-Run.ensures)

@@ -2,8 +2,8 @@
 use Rattle.std.proofs.Common.{◌≡◌, None, arith}
 use Rattle.wasabi_app.specs.Files.{IsNoModule, IsUnfit, IsInvalid}
 use Rattle.wasabi_app.specs.Ends.{IsAboveCap}
-use Rattle.wasabi_app.proofs.Causes.{ends_inverted, why_of, any_shelf, check_keeps, is_written, is_kept}
-use Rattle.wasabi_app.proofs.Told.{none, over, malformed, unfit, invalid, decides, decides_file, decides_taken, decides_too_large, checks_all, completes}
+use Rattle.wasabi_app.proofs.Causes.{ends_inverted, why_of, any_shelf, check_keeps, run_keeps, is_written, is_kept, is_ran, is_ran_part, is_trapped, is_unfinished}
+use Rattle.wasabi_app.proofs.Told.{none, over, malformed, unfit, invalid, decides, decides_file, decides_taken, decides_too_large, decides_script, decides_linking, checks_all, completes, runs_all}
 use Rattle.wasabi_app.proofs.app.run_app.Goals as goal
 
 pub returns-clause-ended : goal.returns-clause-ended
@@ -40,7 +40,25 @@ pub returns-clause-write_failed : goal.returns-clause-write_failed
 returns-clause-write_failed g c = λ e. (why_of _ 5 (c.tell.ensures.ended _ _ _ c.answer-ending.ensures.ended) e).0
 
 pub returns-clause-print_failed : goal.returns-clause-print_failed
-returns-clause-print_failed g c = λ e. (why_of _ 15 (c.tell.ensures.ended _ _ _ c.answer-ending.ensures.ended) e).1
+returns-clause-print_failed g c = λ e. (why_of _ 15 (c.tell.ensures.ended _ _ _ c.answer-ending.ensures.ended) e).3
+
+pub returns-clause-bad_script : goal.returns-clause-bad_script
+returns-clause-bad_script g c = why_of _ 10 (c.tell.ensures.ended _ _ _ c.answer-ending.ensures.ended)
+
+pub returns-clause-out_of_range : goal.returns-clause-out_of_range
+returns-clause-out_of_range g c = why_of _ 11 (c.tell.ensures.ended _ _ _ c.answer-ending.ensures.ended)
+
+pub returns-clause-ran : goal.returns-clause-ran
+returns-clause-ran g c = is_ran _ (c.tell.ensures.ended _ _ _ c.answer-ending.ensures.ended)
+
+pub returns-clause-trapped : goal.returns-clause-trapped
+returns-clause-trapped g c = is_trapped _ (c.tell.ensures.ended _ _ _ c.answer-ending.ensures.ended)
+
+pub returns-clause-unfinished : goal.returns-clause-unfinished
+returns-clause-unfinished g c = is_unfinished _ (c.tell.ensures.ended _ _ _ c.answer-ending.ensures.ended)
+
+pub returns-clause-ran_part : goal.returns-clause-ran_part
+returns-clause-ran_part g c = is_ran_part _ (c.tell.ensures.ended _ _ _ c.answer-ending.ensures.ended)
 
 pub returns-clause-written : goal.returns-clause-written
 returns-clause-written g c = is_written _ (c.tell.ensures.ended _ _ _ c.answer-ending.ensures.ended)
@@ -56,6 +74,9 @@ returns-clause-kept g c = λ done write memory print. is_kept _ (c.tell.ensures.
 
 pub returns-clause-check_keeps : goal.returns-clause-check_keeps
 returns-clause-check_keeps g c = check_keeps _ (c.tell.ensures.ended _ _ _ c.answer-ending.ensures.ended)
+
+pub returns-clause-run_keeps : goal.returns-clause-run_keeps
+returns-clause-run_keeps g c = run_keeps _ (c.tell.ensures.ended _ _ _ c.answer-ending.ensures.ended)
 
 pub returns-clause-missing : goal.returns-clause-missing
 returns-clause-missing g c = decides _ _ _ _ (c.tell.ensures.ended _ _ _ c.answer-ending.ensures.ended) (λ read found. found ≡ None) 3 (λ k. omega arith) (λ contents read p. none p)
@@ -83,3 +104,12 @@ returns-clause-checks g c = checks_all _ _ _ _ (c.tell.ensures.ended _ _ _ c.ans
 
 pub returns-clause-complete : goal.returns-clause-complete
 returns-clause-complete g c = completes _ _ _ _ (c.tell.ensures.ended _ _ _ c.answer-ending.ensures.ended)
+
+pub returns-clause-wrong_script : goal.returns-clause-wrong_script
+returns-clause-wrong_script g c = decides_script _ _ _ _ (c.tell.ensures.ended _ _ _ c.answer-ending.ensures.ended)
+
+pub returns-clause-unlinked : goal.returns-clause-unlinked
+returns-clause-unlinked g c = decides_linking _ _ _ _ (c.tell.ensures.ended _ _ _ c.answer-ending.ensures.ended)
+
+pub returns-clause-runs : goal.returns-clause-runs
+returns-clause-runs g c = runs_all _ _ _ _ (c.tell.ensures.ended _ _ _ c.answer-ending.ensures.ended)

@@ -6,7 +6,7 @@ use Rattle.wasabi_app.proofs.app.tell.Goals as goal
 
 pub returns-in-Ok-clause-ended : goal.returns-in-Ok-clause-ended
 returns-in-Ok-clause-ended g c = λ words old new w.
-    answered _ (subst (ComesTo words old new) c.in-Ok.is w) (rw c.as_str.ensures.value at c.say.ensures.said)
+    answered _ _ (subst (ComesTo words old new) c.in-Ok.is w) (rw c.as_str.ensures.value at c.say.ensures.said)
 
 pub returns-in-Err-clause-ended : goal.returns-in-Err-clause-ended
 returns-in-Err-clause-ended g c = λ words old new w. ends_refused _ _ _ (subst (ComesTo words old new) c.in-Err.is w) c.refuse.ensures.said

@@ -1,30 +1,27 @@
--- What the shelf answered, or what the bytes are.
-use Rattle.std.proofs.Common.{◌≤◌, length, ap, arith, rules}
-use Rattle.std.proofs.lemmas.Result.{IfErr-weaker}
-use Rattle.wasabi_app.specs.Loading.{missing, too_long, unread, refuted, unloaded_no_memory}
+-- What was read, or why nothing was.
+use Rattle.std.proofs.Common.{length, ap, arith}
+use Rattle.std.proofs.lemmas.Result.{IfErr-weaker, err_from_is_err_and}
+use Rattle.wasabi_app.specs.Loading.{refuted}
+use Rattle.wasabi_app.specs.Reads.{valid_module}
 use Rattle.wasabi_app.proofs.Outputs.{loaded_by}
 use Rattle.wasabi_app.proofs.load.load.Goals as goal
 
-pub returns-in-Ok-clause-ok : goal.returns-in-Ok-clause-ok
-returns-in-Ok-clause-ok g c =
-    let short : length c.in-Ok.bytes.items ≤ c.args.cap = omega (arith, ap length c.as_slice.ensures.value, c.as_slice.ensures.len, c.in-Ok.ensures.within) in
-    loaded_by c.valid_module.result _ _ _ _ c.in-Ok.bytes.items (record { there = c.in-Ok.ensures.given; short = short })
+pub returns-in_err-bytes-clause-refused : goal.returns-in_err-bytes-clause-refused
+returns-in_err-bytes-clause-refused g c =
+    let p = err_from_is_err_and c.from_residual.result c.from_residual.ensures.1 in
+    rw (p.1, p.2) (c.in_err-bytes.ensures.refused (valid_module c.args.limits.now))
+
+pub valid_module-requires-clause-short : goal.valid_module-requires-clause-short
+valid_module-requires-clause-short g c =
+    let i = c.in_ok-bytes.ensures.ok (valid_module c.args.limits.now) in
+    λ _ _. omega (arith, i.short, c.requires.short, ap length c.as_slice.ensures.value)
+
+pub returns-clause-ok : goal.returns-clause-ok
+returns-clause-ok g c =
+    loaded_by c.valid_module.result _ _ _ _ c.in_ok-bytes.bytes.items (c.in_ok-bytes.ensures.ok (valid_module c.args.limits.now))
     (rw c.as_slice.ensures.value at c.valid_module.ensures.ok)
 
-pub returns-in-Ok-clause-refused : goal.returns-in-Ok-clause-refused
-returns-in-Ok-clause-refused g c =
-    let short : length c.in-Ok.bytes.items ≤ c.args.cap = omega (arith, ap length c.as_slice.ensures.value, c.as_slice.ensures.len, c.in-Ok.ensures.within) in
-    IfErr-weaker _ _ _ (λ r k. refuted c.in-Ok.bytes.items _ _ (record { there = c.in-Ok.ensures.given; short = short }) k)
+pub returns-clause-refused : goal.returns-clause-refused
+returns-clause-refused g c =
+    IfErr-weaker _ _ _ (λ r k. refuted c.in_ok-bytes.bytes.items _ _ (c.in_ok-bytes.ensures.ok (valid_module c.args.limits.now)) k)
     (rw c.as_slice.ensures.value at c.valid_module.ensures.refused)
-
-pub returns-in-Err-Missing-clause-refused : goal.returns-in-Err-Missing-clause-refused
-returns-in-Err-Missing-clause-refused g c = missing (search rules)
-
-pub returns-in-Err-TooLong-clause-refused : goal.returns-in-Err-TooLong-clause-refused
-returns-in-Err-TooLong-clause-refused g c = too_long _ (search rules)
-
-pub returns-in-Err-Failed-clause-refused : goal.returns-in-Err-Failed-clause-refused
-returns-in-Err-Failed-clause-refused g c = unread (search rules)
-
-pub returns-in-Err-NoMemory-clause-refused : goal.returns-in-Err-NoMemory-clause-refused
-returns-in-Err-NoMemory-clause-refused g c = unloaded_no_memory
