@@ -148,10 +148,10 @@ list_sound =
     (first_sound _ _ (types_sound (codes "call_post_") CallPost (λ ts. refl) (λ ts. refl))
     (first_sound _ _ (types_sound (codes "return_") Return (λ ts. refl) (λ ts. refl)) none_sound))))
 
-named_sound : (name : List ℕ) (key : HookKey) → key_named name ≡ Some key → IsNamed name key
+pub named_sound : (name : List ℕ) (key : HookKey) → key_named name ≡ Some key → IsNamed name key
 named_sound = first_sound _ _ fixed_sound (first_sound _ _ letter_sound list_sound)
 
-read_is : (name : List ℕ) (o : Option HookKey) → o ≡ key_named name → IsKeyOf name o
+pub read_is : (name : List ℕ) (o : Option HookKey) → o ≡ key_named name → IsKeyOf name o
 read_is name None e = λ key proper same. none_some key (e ∙ ap key_named (sym same) ∙ reads_back key proper)
 read_is name (Some key) e = named_sound name key (sym e)
 

@@ -11,8 +11,8 @@ mod types;
 ghost use Rattle.std.specs.Prelude.{◌≡◌};
 ghost use Rattle.hook_mono.specs.Keys.{is_plain};
 
-pub use crate::names::name_of;
-pub use crate::read::key_of;
+pub use crate::names::{name_of, with_letters};
+pub use crate::read::{key_of, letter_types};
 pub use crate::table::HookTable;
 pub use crate::types::type_of;
 use hook_select::GroupName;

@@ -52,8 +52,8 @@ fn joined(alloc: Global, head: &str, tail: &str) -> Result<String, NoMemory>
     Ok(text)
 }
 
-// A text, and then the letter of each type.
-fn with_letters(alloc: Global, head: &str, types: &[ValType]) -> Result<String, NoMemory>
+/// A text, and then a letter for each type: i for `i32`, and l for `i64`. An `Err` comes where there is no memory.
+pub fn with_letters(alloc: Global, head: &str, types: &[ValType]) -> Result<String, NoMemory>
     ensures { IfOk result (λ text. string_bytes text ≡ head.now ++ letters types.now) }
 {
     let mut text = String::from_str(alloc, head)?;

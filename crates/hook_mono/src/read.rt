@@ -336,8 +336,9 @@ fn one_type(letters: &[u8]) -> Option<ValType>
     }
 }
 
-// The type of each letter.
-fn letter_types(alloc: Global, letters: &[u8]) -> Result<Option<Seq<ValType>>, NoMemory>
+/// The types of a text of the letters i, for `i32`, and l, for `i64`; none where there is another letter. An `Err` comes where
+/// there is no memory.
+pub fn letter_types(alloc: Global, letters: &[u8]) -> Result<Option<Seq<ValType>>, NoMemory>
     ensures { IfOk result (λ types. types ≡ letter_types letters.now) }
 {
     let mut types = Vec::with_capacity(alloc, letters.len())?;

@@ -6,7 +6,7 @@ mod read;
 
 ghost use Rattle.std.specs.Prelude.{◌≡◌, true, false};
 
-pub use crate::read::{UnknownGroup, read_list};
+pub use crate::read::{UnknownGroup, group_named, read_list};
 use module_ast::module::Loc;
 use module_ast::ops::{LoadOp, StoreOp, VarOp};
 use wasm_num::{BlockKind, NumOp, Value, Values};
@@ -36,6 +36,40 @@ pub enum GroupName {
     MemoryGrow,
     Call,
     Return,
+}
+
+impl GroupName {
+    ghost use Rattle.hook_select.specs.Groups.{group_name};
+
+    /// Its name.
+    pub fn name(&self) -> &'static str
+        ensures { result.now ≡ group_name self.now }
+    {
+        match self {
+            GroupName::Start => "start",
+            GroupName::Nop => "nop",
+            GroupName::Unreachable => "unreachable",
+            GroupName::If => "if",
+            GroupName::Br => "br",
+            GroupName::BrIf => "br_if",
+            GroupName::BrTable => "br_table",
+            GroupName::Begin => "begin",
+            GroupName::End => "end",
+            GroupName::Const => "const",
+            GroupName::Unary => "unary",
+            GroupName::Binary => "binary",
+            GroupName::Drop => "drop",
+            GroupName::Select => "select",
+            GroupName::Local => "local",
+            GroupName::Global => "global",
+            GroupName::Load => "load",
+            GroupName::Store => "store",
+            GroupName::MemorySize => "memory_size",
+            GroupName::MemoryGrow => "memory_grow",
+            GroupName::Call => "call",
+            GroupName::Return => "return",
+        }
+    }
 }
 
 /// What one step of a run shows. `Stray` is a hook call that the information does not explain.

@@ -7,8 +7,8 @@ ghost use Rattle.hook_select.specs.Groups.{group_named, pieces, more_pieces, lis
 
 use crate::{GroupName, Hooks};
 
-// The group of that name, if there is one.
-fn group_named(name: &str) -> Option<GroupName>
+/// The group of that name, if there is one.
+pub fn group_named(name: &str) -> Option<GroupName>
     ensures { result ≡ group_named name.now }
 {
     match name {

@@ -9,15 +9,15 @@ use module_ast::name::Name;
 use module_ast::seq::Seq;
 use std::alloc::{AllocError, Global};
 
-// A part that is copied with all that it holds.
-pub(crate) trait Part: Sized + Drop {
-    // It once more. An `Err` comes where there is no memory.
+/// A part of a module that is copied with all that it holds.
+pub trait Part: Sized + Drop {
+    /// It once more. An `Err` comes where there is no memory.
     fn copy(&self, alloc: Global) -> Result<Self, AllocError>
         ensures { IfOk result (λ copy. copy ≡ self.now) };
 }
 
-// These parts once more.
-pub(crate) fn copy_parts<T: Part>(alloc: Global, parts: &Seq<T>) -> Result<Seq<T>, AllocError>
+/// These parts once more. An `Err` comes where there is no memory.
+pub fn copy_parts<T: Part>(alloc: Global, parts: &Seq<T>) -> Result<Seq<T>, AllocError>
     ensures { IfOk result (λ copies. copies ≡ parts.now) }
 {
     let items = parts.as_slice();
@@ -28,8 +28,8 @@ pub(crate) fn copy_parts<T: Part>(alloc: Global, parts: &Seq<T>) -> Result<Seq<T
     Ok(Seq::from_vec(copies))
 }
 
-// These values once more.
-pub(crate) fn copy_list<T: Copy>(alloc: Global, list: &Seq<T>) -> Result<Seq<T>, AllocError>
+/// These values once more. An `Err` comes where there is no memory.
+pub fn copy_list<T: Copy>(alloc: Global, list: &Seq<T>) -> Result<Seq<T>, AllocError>
     ensures { IfOk result (λ copy. copy ≡ list.now) }
 {
     let items = Vec::from_slice(alloc, list.as_slice())?;

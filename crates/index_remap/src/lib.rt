@@ -10,6 +10,8 @@ mod tests;
 
 ghost use Rattle.std.specs.Prelude.{◌≡◌, ◌+◌, ◌^◌, ◌<◌};
 
+pub use crate::copies::{Part, copy_list, copy_parts};
+
 /// An index below `imports` stays, any other rises by `added`.
 #[derive(Clone, Copy, Debug, PartialEq, Eq)]
 pub struct Remap {

@@ -3,3 +3,10 @@ pub mod Form
 pub mod Belongs
 pub mod Read
 pub mod Items
+pub mod Halves
+pub mod Gathered
+pub mod Json
+pub mod Checks
+pub mod Shape
+pub mod Faults
+pub mod Following

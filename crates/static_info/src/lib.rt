@@ -3,7 +3,24 @@
 
 ghost use Rattle.std.specs.Prelude.{◌≡◌, ◌^◌, ◌<◌, length};
 
-use branch_resolve::Block;
+mod blocks;
+mod checks;
+mod forms;
+mod gather;
+mod groups;
+mod keys;
+pub mod laws;
+mod owner;
+mod parsing;
+#[cfg(test)]
+mod tests;
+mod written;
+
+pub use crate::blocks::Blocks;
+pub use crate::gather::info_of;
+pub use crate::owner::belongs;
+pub use crate::parsing::{InfoFault, from_json};
+pub use crate::written::to_json;
 use hook_mono::HookKey;
 use hook_select::Hooks;
 use index_remap::Remap;
@@ -24,7 +41,7 @@ pub struct FuncInfo {
     pub params: Seq<ValType>,
     pub results: Seq<ValType>,
     pub defined: bool,
-    pub blocks: Seq<Block>,
+    pub blocks: Blocks,
     pub tables: Seq<TableInfo>,
 }
 

@@ -14,9 +14,11 @@ use Rattle.run_store.specs.Held.{Held}
 use Rattle.wasm_sem.specs.declared.HookCall.{HookCall}
 use Rattle.wasm_sem.specs.declared.Script.{Script}
 use Rattle.wasm_sem.specs.Answers.{hook_in}
+use Rattle.wasm_sem.specs.Events.{TraceItem, event, entry, host_call, hook_call, shown_items}
 use Rattle.wasm_sem.specs.Link.{Callee, host, hook, own, callees_of, is_hook_function, some_hook, Instance, instance}
 use Rattle.wasm_sem.specs.Machine.{Frame, Env, Configuration, configuration, pop_values, run_of}
 use Rattle.wasm_sem.specs.Trace.{told_invoke, told_code, told_items, items_by, items}
+use Rattle.wasm_sem.proofs.AllChosen.{HaveGroups, step_has}
 use Rattle.wasm_sem.proofs.Runs.{pop_push}
 use Rattle.wasm_run.specs.Below.{IsBelow}
 use Rattle.wasm_run.specs.Calls.{IsNoCall, NextIsNoCall}
@@ -27,11 +29,18 @@ use Rattle.wasm_run.specs.Resolved.{callee_for}
 use Rattle.wasm_run.specs.declared.functions.Function.{Function}
 use Rattle.wasm_run.specs.declared.functions.Function.TheVariants as functions
 use Rattle.wasm_run.specs.Running.{Innermost, IsRunning}
-use Rattle.wasm_run.proofs.Shown.{step_none}
 use Rattle.wasm_run.proofs.Entering.{parts}
 use Rattle.wasm_run.proofs.Invoking.{index_dropped, index_there, Invoker, invoker}
 
 -- ---- modules without hooks
+
+-- events, entries and host calls are no calls of hooks
+none_in : (is : List TraceItem) → HaveGroups is → hook_in is ≡ None
+none_in [] h = refl
+none_in (event e ∷ is) h = none_in is h.1
+none_in (entry c ∷ is) h = none_in is h
+none_in (host_call f vs rs ws ∷ is) h = none_in is h
+none_in (hook_call c ∷ is) h = absurd h
 
 -- so what is told of a step is what a module with hooks tells, where that is none
 pub hook_told : (inst : Instance) (c : Configuration) (h : Option HookCall) → hook_in (told_items inst c) ≡ h → (inst.hooked ≡ false → h ≡ None) → h ≡ hook_in (items inst c)
@@ -39,7 +48,7 @@ hook_told inst c h told bare = go inst.hooked refl
   where
     go : (b : Bool) → inst.hooked ≡ b → h ≡ hook_in (items_by b inst c)
     go true e = sym told
-    go false e = bare e ∙ sym (step_none inst c)
+    go false e = bare e ∙ sym (none_in (shown_items inst c) (step_has inst c))
 
 -- a function that is a hook
 pub hook_there : (cs : List Callee) (f : ℕ) (c : Callee) → slice_get cs f ≡ Some c → is_hook_function c ≡ true → some_hook cs ≡ true

@@ -15,7 +15,6 @@ pub mod Moments
 pub mod Invoking
 pub mod Targets
 pub mod Begun
-pub mod Shown
 pub mod Hooks
 pub mod Entered
 pub mod NextCalls

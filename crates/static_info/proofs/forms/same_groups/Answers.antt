@@ -1,0 +1,26 @@
+use Rattle.std.proofs.Common.{◌≡◌, List, [], ◌∷◌, ◌&&◌, ◌==◌, refl, ap₂, ◌∙◌}
+use denote.Enum.Declared.{tag_of}
+use lib.Pointwise.{pointwise}
+use Rattle.hook_select.specs.declared.GroupName.{GroupName}
+use Rattle.hook_select.specs.declared.GroupName.TheVariants as groups
+use Rattle.hook_select.specs.contracts.GroupName.{the_type}
+use Rattle.hook_select.specs.contracts.GroupNamePartialEq.TheImpl as eq
+use Rattle.hook_select.specs.Groups.{group_eq, group_number}
+use Rattle.static_info.specs.Shape.{same_groups}
+use Rattle.static_info.proofs.forms.same_groups.Goals as goal
+
+group_tag : (g : GroupName) → tag_of the_type g ≡ group_number g
+group_tag groups.Start = refl
+group_tag g = refl
+
+same_group : (g h : GroupName) → eq.eq-value.it g h ≡ group_eq g h
+same_group g h = ap₂ (λ a b. a == b) (group_tag g) (group_tag h)
+
+each_same : (gs hs : List GroupName) → pointwise eq.eq-value.it gs hs ≡ same_groups gs hs
+each_same [] [] = refl
+each_same [] (h ∷ hs) = refl
+each_same (g ∷ gs) [] = refl
+each_same (g ∷ gs) (h ∷ hs) = ap₂ (λ x y. x && y) (same_group g h) (each_same gs hs)
+
+pub returns : goal.returns
+returns c = c.eq.ensures ∙ each_same c.args.left.now c.args.right.now

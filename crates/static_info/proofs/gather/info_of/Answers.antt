@@ -1,0 +1,15 @@
+use Rattle.std.proofs.Common.{sym, ap, subst, ◌∙◌}
+use Rattle.std.proofs.lemmas.Result.{IfOk-weaker}
+use Rattle.module_ast.specs.declared.module.Module.{Module}
+use Rattle.static_info.specs.declared.Info.{Info}
+use Rattle.static_info.specs.Form.{IsWellFormed}
+use Rattle.static_info.specs.Info.{info_of}
+use Rattle.static_info.proofs.Formed.{infos_have_form}
+use Rattle.static_info.proofs.gather.info_of.Goals as goal
+
+pub returns-clause-formed : goal.returns-clause-formed
+returns-clause-formed c =
+    let m = c.args.m.now in
+    IfOk-weaker c.module_info.result _ IsWellFormed
+    (λ info is. subst (λ (i : Info). IsWellFormed i) (sym (is ∙ ap (λ (n : Module). info_of n c.args.hooks) c.module.ensures.module)) (infos_have_form m c.args.hooks c.module.ensures.valid c.module.ensures.whole))
+    c.module_info.ensures

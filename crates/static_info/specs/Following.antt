@@ -1,0 +1,12 @@
+-- The function imports of a module, one after another.
+use Rattle.std.specs.Prelude.{◌≡◌, ℕ, zero, suc, List, [], ◌∷◌}
+use Rattle.module_ast.specs.declared.module.Module.{Module}
+use Rattle.hook_mono.specs.declared.HookKey.{HookKey}
+use Rattle.static_info.specs.Belongs.{FuncImport, IsOwn, IsHook}
+
+-- so many functions of other modules follow, and then these hooks, and no more
+abbrev pub HooksFollow : Module → (own : ℕ) → List HookKey → List FuncImport → Type 0
+HooksFollow m own hooks [] = (own ≡ 0) × (hooks ≡ [])
+HooksFollow m (suc own) hooks (f ∷ fs) = IsOwn f × HooksFollow m own hooks fs
+HooksFollow m zero [] (f ∷ fs) = ⊥
+HooksFollow m zero (key ∷ hooks) (f ∷ fs) = IsHook m f key × HooksFollow m zero hooks fs
