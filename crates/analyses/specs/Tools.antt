@@ -1,0 +1,30 @@
+-- The states that analyses are in.
+use Rattle.std.specs.Prelude.{ℕ, zero, suc, ◌+◌, List, [], ◌∷◌, length}
+use Rattle.hook_select.specs.declared.Event.{Event}
+use Rattle.analyses.specs.declared.Kind.{Kind}
+use Rattle.analyses.specs.declared.Row.{Row}
+use Rattle.analyses.specs.Book.{book, rows_after}
+
+-- what it counts, how many events it has taken, and its book
+pub record ToolState : Type 0 where
+  pub counts : Kind
+  pub so_many : ℕ
+  pub book : List Row
+
+-- that of an analysis that has taken no event
+abbrev pub fresh_tool : Kind → ToolState
+fresh_tool kind = record { counts = kind; so_many = 0; book = [] }
+
+-- that of one that has taken these events, and no other
+abbrev pub tool_with : Kind → List Event → ToolState
+tool_with kind es = record { counts = kind; so_many = length es; book = book kind es }
+
+-- with an event more
+abbrev pub state_after : ToolState → Event → ToolState
+state_after s e = record { counts = s.counts; so_many = s.so_many + 1; book = rows_after s.counts s.book e }
+
+-- those of a list of analyses, where the one at a place takes an event
+abbrev pub given_to : ℕ → Event → List ToolState → List ToolState
+given_to place e [] = []
+given_to zero e (s ∷ ss) = state_after s e ∷ ss
+given_to (suc place) e (s ∷ ss) = s ∷ given_to place e ss

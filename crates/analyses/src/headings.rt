@@ -1,0 +1,169 @@
+// What events are counted under.
+
+ghost use Rattle.std.specs.Prelude.{◌≡◌, ◌^◌, ◌<◌, option_map};
+ghost use Rattle.hook_select.specs.Kinds.{kind_number};
+ghost use Rattle.module_ast.specs.Opcodes.{load_opcode, store_opcode};
+ghost use Rattle.analyses.specs.Book.{taken_number, callee_number, block_key, branch_key, call_graph_key, memory_key, counted_key, address_of, key_at, call_key};
+ghost use Rattle.analyses.specs.Headings.{key_of_heading};
+
+use crate::Kind;
+use crate::ledger::Heading;
+use hook_select::Event;
+use module_ast::module::Loc;
+use module_ast::ops::{LoadOp, StoreOp};
+use wasm_num::BlockKind;
+
+// None where an event is not counted.
+pub fn heading_of(kind: Kind, event: &Event) -> Option<Heading>
+    ensures { option_map key_of_heading result ≡ counted_key kind event.now }
+{
+    match kind {
+        Kind::Blocks => block_heading(event),
+        Kind::Branches => branch_heading(event),
+        Kind::Calls => call_heading(event),
+        Kind::Memory => memory_heading(event),
+    }
+}
+
+// The effective address of a load or store, which is below 2^33, and 0 of other events. (Standard, 4.4.4)
+pub fn address_of(event: &Event) -> u64
+    ensures { result ≡ address_of event.now }
+{
+    match event {
+        Event::Load {
+            offset,
+            address,
+            ..
+        }
+        | Event::Store {
+            offset,
+            address,
+            ..
+        } => u64::from(*address) + u64::from(*offset),
+        _ => 0,
+    }
+}
+
+// A heading at a location.
+fn heading_at(loc: Loc, tag: u8, other: u64) -> Heading
+    ensures { key_of_heading result ≡ key_at loc tag other }
+{
+    Heading {
+        func: loc.func,
+        instr: loc.instr,
+        tag,
+        other,
+    }
+}
+
+// A begin, by the kind of block.
+fn block_heading(event: &Event) -> Option<Heading>
+    ensures { option_map key_of_heading result ≡ block_key event.now }
+{
+    match event {
+        Event::Begin { loc, kind } => Some(heading_at(*loc, block_number(*kind), 0)),
+        _ => None,
+    }
+}
+
+// A branch, by its instruction and its choice.
+fn branch_heading(event: &Event) -> Option<Heading>
+    ensures { option_map key_of_heading result ≡ branch_key event.now }
+{
+    match event {
+        Event::If { loc, cond } => Some(heading_at(*loc, 0, taken_number(*cond))),
+        Event::Br { loc, label, .. } => Some(heading_at(*loc, 1, u64::from(*label))),
+        Event::BrIf { loc, cond, .. } => Some(heading_at(*loc, 2, taken_number(*cond))),
+        Event::BrTable { loc, label, .. } => Some(heading_at(*loc, 3, u64::from(*label))),
+        _ => None,
+    }
+}
+
+// A call, by the function that calls, wherever it stands there, and the callee.
+fn call_heading(event: &Event) -> Option<Heading>
+    ensures { option_map key_of_heading result ≡ call_graph_key event.now }
+{
+    match event {
+        Event::CallPre { loc, callee, .. } => Some(heading_of_call(*loc, Some(*callee))),
+        Event::IndirectPre { loc, callee, .. } => Some(heading_of_call(*loc, *callee)),
+        _ => None,
+    }
+}
+
+// A load or store, by its opcode.
+fn memory_heading(event: &Event) -> Option<Heading>
+    ensures { option_map key_of_heading result ≡ memory_key event.now }
+{
+    match event {
+        Event::Load { loc, op, .. } => Some(heading_at(*loc, load_byte(*op), 0)),
+        Event::Store { loc, op, .. } => Some(heading_at(*loc, store_byte(*op), 0)),
+        _ => None,
+    }
+}
+
+// The heading of a call; no callee where the table has none.
+fn heading_of_call(loc: Loc, callee: Option<u32>) -> Heading
+    ensures { key_of_heading result ≡ call_key loc callee }
+{
+    Heading {
+        func: loc.func,
+        instr: -1,
+        tag: 0,
+        other: callee.map_or(0, |f| u64::from(f) + 1),
+    }
+}
+
+// 1 where the condition is not zero.
+fn taken_number(cond: u32) -> u64
+    ensures { result ≡ taken_number cond }
+{
+    u64::from(cond != 0)
+}
+
+// The number of a kind of block.
+fn block_number(kind: BlockKind) -> u8
+    ensures { result ≡ kind_number kind }
+{
+    match kind {
+        BlockKind::Function => 0,
+        BlockKind::Block => 1,
+        BlockKind::Loop => 2,
+        BlockKind::If => 3,
+        BlockKind::Else => 4,
+    }
+}
+
+// The opcode of a load. (Standard, 5.4.4)
+fn load_byte(op: LoadOp) -> u8
+    ensures { result ≡ load_opcode op }
+{
+    match op {
+        LoadOp::I32Load => 0x28,
+        LoadOp::I64Load => 0x29,
+        LoadOp::I32Load8S => 0x2C,
+        LoadOp::I32Load8U => 0x2D,
+        LoadOp::I32Load16S => 0x2E,
+        LoadOp::I32Load16U => 0x2F,
+        LoadOp::I64Load8S => 0x30,
+        LoadOp::I64Load8U => 0x31,
+        LoadOp::I64Load16S => 0x32,
+        LoadOp::I64Load16U => 0x33,
+        LoadOp::I64Load32S => 0x34,
+        LoadOp::I64Load32U => 0x35,
+    }
+}
+
+// The opcode of a store. (Standard, 5.4.4)
+fn store_byte(op: StoreOp) -> u8
+    ensures { result ≡ store_opcode op }
+{
+    match op {
+        StoreOp::I32Store => 0x36,
+        StoreOp::I64Store => 0x37,
+        StoreOp::I32Store8 => 0x3A,
+        StoreOp::I32Store16 => 0x3B,
+        StoreOp::I64Store8 => 0x3C,
+        StoreOp::I64Store16 => 0x3D,
+        StoreOp::I64Store32 => 0x3E,
+    }
+}

@@ -1,0 +1,168 @@
+// The rows of one analysis, kept in order.
+
+ghost use Rattle.std.specs.Prelude.{◌≡◌, ◌+◌, ◌^◌, ◌<◌, ℕ, [], IfOk, OnOk, OnErr};
+ghost use Rattle.analyses.specs.Book.{with_event};
+ghost use Rattle.analyses.specs.Tools.{ToolState, fresh_tool, state_after};
+ghost use Rattle.analyses.specs.Headings.{key_of_heading, row_of_entry, book_of_entries, first_tally, counted_tally, CountsUpTo};
+
+use crate::headings::{address_of, heading_of};
+use crate::{Kind, Row};
+use hook_select::Event;
+use std::alloc::Global;
+use std::collections::BTreeMap;
+use std::marker::Model;
+use wasm_num::NoMemory;
+
+// What a row is about.
+#[derive(Clone, Copy, Debug, PartialEq, Eq, PartialOrd, Ord)]
+pub struct Heading {
+    pub func: u32,
+    pub instr: i32,
+    pub tag: u8,
+    pub other: u64,
+}
+
+// How often it came, and for memory the least and the greatest address.
+#[derive(Clone, Copy, Debug)]
+pub struct Tally {
+    pub count: u64,
+    pub least: u64,
+    pub greatest: u64,
+}
+
+impl Tally {
+    // Of the first event under a heading.
+    fn first(kind: Kind, address: u64) -> Tally
+        ensures { result ≡ first_tally kind address }
+    {
+        let address = if kind == Kind::Memory { address } else { 0 };
+        Tally {
+            count: 1,
+            least: address,
+            greatest: address,
+        }
+    }
+
+    // With an event more.
+    fn counted(&self, kind: Kind, address: u64) -> Tally
+        requires { self.now.count + 1 < 2 ^ 64 }
+        ensures { result ≡ counted_tally kind address self.now }
+    {
+        let count = self.count + 1;
+        match kind {
+            Kind::Memory => Tally {
+                count,
+                least: self.least.min(address),
+                greatest: self.greatest.max(address),
+            },
+            _ => Tally { count, ..*self },
+        }
+    }
+}
+
+// The row of an entry.
+fn row(heading: &Heading, tally: &Tally) -> Row
+    ensures { result ≡ row_of_entry (heading.now, tally.now) }
+{
+    Row {
+        func: heading.func,
+        instr: heading.instr,
+        tag: heading.tag,
+        other: heading.other,
+        count: tally.count,
+        least: tally.least,
+        greatest: tally.greatest,
+    }
+}
+
+// Counts an event under a heading. `Err` comes where there is no memory for a new row, and changes nothing.
+fn count_under(
+    rows: &mut BTreeMap<Heading, Tally>,
+    kind: Kind,
+    heading: Heading,
+    address: u64,
+) -> Result<(), NoMemory>
+    requires { (n : ℕ) × (n + 1 < 2 ^ 64) × CountsUpTo n rows.old.entries }
+    ensures counted { OnOk result (book_of_entries rows.new.entries
+        ≡ with_event kind (key_of_heading heading) address (book_of_entries rows.old.entries)) }
+    ensures bounded { (n : ℕ) → CountsUpTo n rows.old.entries → CountsUpTo (n + 1) rows.new.entries }
+    ensures kept { OnErr result (rows.new.entries ≡ rows.old.entries) }
+{
+    let tally = match rows.get(&heading) {
+        Some(before) => before.counted(kind, address),
+        None => Tally::first(kind, address),
+    };
+    rows.insert(heading, tally)?;
+    Ok(())
+}
+
+// The book of one kind of events, with a row for each heading.
+#[derive(Drop)]
+pub struct Ledger {
+    alloc: Global,
+    kind: Kind,
+    taken: u64,
+    rows: BTreeMap<Heading, Tally>,
+}
+
+impl Model for Ledger {
+    ghost use Rattle.analyses.specs.Tools.{ToolState};
+    ghost use Rattle.analyses.specs.Headings.{book_of_entries, CountsUpTo};
+
+    ghost Value = { ToolState };
+
+    ghost view = { λ l. record { counts = l.kind; so_many = l.taken; book = book_of_entries l.rows.entries } };
+
+    ghost invariant = { λ l. CountsUpTo l.taken l.rows.entries };
+}
+
+impl Ledger {
+    // That of a kind, with no row.
+    pub fn new(alloc: Global, kind: Kind) -> Self
+        ensures { result ≡ fresh_tool kind }
+    {
+        Ledger {
+            alloc,
+            kind,
+            taken: 0,
+            rows: BTreeMap::new(alloc),
+        }
+    }
+
+    // Its kind.
+    pub fn kind(&self) -> Kind
+        ensures { result ≡ self.now.counts }
+    {
+        self.kind
+    }
+
+    // How many events it has taken.
+    pub fn taken(&self) -> u64
+        ensures { result ≡ self.now.so_many }
+    {
+        self.taken
+    }
+
+    // Takes an event more; where memory ends, all is as before.
+    pub fn take(&mut self, event: &Event) -> Result<(), NoMemory>
+        requires { self.old.so_many + 1 < 2 ^ 64 }
+        ensures taken { OnOk result (self.new ≡ state_after self.old event.now) }
+        ensures kept { OnErr result (self.new ≡ self.old) }
+    {
+        if let Some(heading) = heading_of(self.kind, event) {
+            count_under(&mut self.rows, self.kind, heading, address_of(event))?;
+        }
+        self.taken += 1;
+        Ok(())
+    }
+
+    // Its rows in order.
+    pub fn rows(&self) -> Result<Vec<Row>, NoMemory>
+        ensures { IfOk result (λ rows. rows.items ≡ self.now.book) }
+    {
+        self.rows
+            .iter()
+            .map(|(heading, tally)| row(heading, tally))
+            .collect(self.alloc)
+    }
+}

@@ -1,0 +1,12 @@
+// The text of a report, written to a sink line by line.
+#![tactic(auto)]
+
+mod lines;
+mod words;
+mod write;
+
+pub use lines::events_line;
+pub use write::{ReportFault, write_report};
+
+#[cfg(test)]
+mod tests;
