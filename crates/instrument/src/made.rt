@@ -5,10 +5,9 @@ ghost use Rattle.module_ast.specs.Canonical.{module_bytes};
 ghost use Rattle.module_ast.specs.Decoding.{Gram};
 ghost use Rattle.module_ast.specs.Limits.{narrow};
 ghost use Rattle.module_ast.specs.Profile.{IsWithin};
-ghost use Rattle.hook_mono.specs.Needed.{needed_keys};
 ghost use Rattle.wasm_sem.specs.Link.{IsFree};
 ghost use Rattle.instrument.specs.Output.{output_bytes};
-ghost use Rattle.instrument.specs.Made.{narrow_file, longest_output};
+ghost use Rattle.instrument.specs.Made.{IsMade, narrow_file, longest_output};
 ghost use Rattle.instrument.specs.Accepted.{IsInstrumented};
 ghost use Rattle.instrument.specs.declared.made.InstrumentFault.TheVariants.{HookModuleTaken, TooLarge, NoMemory};
 
@@ -16,16 +15,17 @@ use crate::free::is_free;
 use crate::plan::Plan;
 use hook_select::Hooks;
 use rewrite::Rewriter;
+use static_info::Info;
 use std::alloc::{AllocError, Global};
 use std::thread::Threads;
 use wasm_encode::EncodeFault;
 use wasm_valid::ValidModule;
 
-/// A module with hooks: its canonical bytes, and how many hooks it imports.
+/// A module with hooks: its canonical bytes, and the information that its hook calls are read with.
 #[derive(Debug, Drop)]
 pub struct Made {
     pub bytes: Vec<u8>,
-    pub hooks: u32,
+    pub info: Info,
 }
 
 /// Why a module gets no hooks.
@@ -48,8 +48,8 @@ impl From<AllocError> for InstrumentFault {
 }
 
 /// The module with the hooks of the selected groups, each of its bodies by the rewriter. For every file of the module, its
-/// bytes are a valid module that under every script does what the original does, and whose hook calls read as the original's
-/// events of these groups.
+/// bytes are a valid module that under every script does what the original does, and whose hook calls, read with the
+/// information, are the original's events of these groups.
 ///
 /// `HookModuleTaken` comes where an import of any kind names the hooks' module, else `TooLarge` where there are more than
 /// `max` bytes, before any body is rewritten, and `NoMemory` where memory ends on the way. The bytes do not depend on the
@@ -68,8 +68,7 @@ pub fn instrument<R: Threads + Sync, W: Rewriter>(
     requires some { 1 ≤ _jobs }
     requires few { _jobs ≤ 64 }
     requires most { max ≤ longest_output }
-    ensures output { IfOk result (λ made. made.bytes.items ≡ output_bytes m.now hooks) }
-    ensures hooks { IfOk result (λ made. made.hooks ≡ length (needed_keys m.now hooks)) }
+    ensures made { IfOk result (λ made. IsMade m.now hooks made.bytes.items made.info) }
     ensures fits { IfOk result (λ made. length made.bytes.items ≤ max) }
     ensures instrumented { IfOk result (λ made. (file : List ℕ) → Gram file m.now → length file ≤ narrow_file → IsInstrumented file hooks made.bytes.items) }
     ensures free { OnOk result (IsFree m.now) }
@@ -84,7 +83,7 @@ pub fn instrument<R: Threads + Sync, W: Rewriter>(
     match plan.write(alloc, rewriter, max) {
         Ok(bytes) => Ok(Made {
             bytes,
-            hooks: plan.hook_count(),
+            info: plan.info(alloc)?,
         }),
         Err(EncodeFault::TooLarge { length }) => Err(InstrumentFault::TooLarge { length }),
         Err(EncodeFault::NoMemory) => Err(InstrumentFault::NoMemory),

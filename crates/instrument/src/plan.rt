@@ -6,8 +6,10 @@ ghost use Rattle.module_ast.specs.Limits.{narrow};
 ghost use Rattle.module_ast.specs.Profile.{IsWithin};
 ghost use Rattle.hook_mono.specs.Keys.{with_keys};
 ghost use Rattle.hook_mono.specs.Needed.{needed_keys};
+ghost use Rattle.static_info.specs.Form.{IsWellFormed};
+ghost use Rattle.static_info.specs.Info.{info_of};
 ghost use Rattle.instrument.specs.Made.{narrow_file};
-ghost use Rattle.instrument.specs.Plan.{plan_keys, new_bodies, body_length};
+ghost use Rattle.instrument.specs.Plan.{new_bodies, body_length};
 
 use hook_mono::{HookKey, HookTable};
 use hook_select::Hooks;
@@ -15,6 +17,7 @@ use index_remap::Remap;
 use module_ast::module::Body;
 use module_ast::spaces::Counts;
 use rewrite::{Rewriter, needs_of, size_of};
+use static_info::{Info, info_of};
 use std::alloc::Global;
 use std::marker::Model;
 use wasm_num::NoMemory;
@@ -61,11 +64,12 @@ impl<'m> Plan<'m> {
         })
     }
 
-    /// How many hooks it gets.
-    pub(crate) fn hook_count(&self) -> u32
-        ensures { result ≡ length (plan_keys self.now) }
+    /// The information that calls of its hooks are read with. An `Err` comes where there is no memory.
+    pub(crate) fn info(&self, alloc: Global) -> Result<Info, NoMemory>
+        ensures is { IfOk result (λ info. info ≡ info_of self.now.module self.now.hooks) }
+        ensures formed { IfOk result IsWellFormed }
     {
-        self.table.len()
+        info_of(alloc, self.module, self.hooks, &self.table)
     }
 
     /// How many bodies it has.

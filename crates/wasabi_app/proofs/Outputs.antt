@@ -1,18 +1,19 @@
 -- What came of a module that was loaded, and of its output, as it was made and written.
-use Rattle.std.proofs.Common.{◌≡◌, ℕ, List, refl, inl, inr, sym, ap, subst, ◌∙◌, length, Option, Result, Ok, Err, IfOk}
-use Rattle.outside_io.specs.Outside.{Contents, Rose, Unchanged, Wrote, WrotePart}
+use Rattle.std.proofs.Common.{◌≡◌, ◌≢◌, ℕ, List, refl, inl, inr, sym, ap, subst, ◌∙◌, length, Option, Some, None, Result, Ok, Err, IfOk}
+use Rattle.outside_io.specs.Outside.{Contents, Unchanged, Wrote}
 use Rattle.module_ast.specs.declared.module.Module.{Module}
 use Rattle.module_ast.specs.declared.module.Limits.{Limits}
 use Rattle.module_ast.specs.Validity.{IsValid}
 use Rattle.module_ast.specs.Limits.{narrow, wide}
 use Rattle.instrument.specs.Made.{narrow_file}
 use Rattle.wasabi_app.specs.Words.{Line, IsLine, IsCheck, to_check, to_instrument}
-use Rattle.wasabi_app.specs.Texts.{wrote_text, no_memory_text, unwritten_text, ok_text, counts_of}
+use Rattle.wasabi_app.specs.Texts.{wrote_text, ok_text, counts_of}
 use Rattle.wasabi_app.specs.Printing.{ShelfState}
 use Rattle.wasabi_app.specs.Files.{IsFit, wide_file}
 use Rattle.wasabi_app.specs.Reads.{module_read, IsRead, Reads, IsLoaded}
-use Rattle.wasabi_app.specs.Making.{hook_count, IsOutputMade, OutputCause, taken, large, unmade_no_memory}
-use Rattle.wasabi_app.specs.Ends.{HasOutput, Cause, hooks_taken, too_large, unwritten, memory_ended, Answers, checked, instrumented}
+use Rattle.wasabi_app.specs.Making.{hook_count, information_text, IsOutputMade, OutputCause, taken, large, unmade_no_memory}
+use Rattle.wasabi_app.specs.Writing.{WroteMore, WroteBoth, PutCause, WriteCause, output_unwritten, info_unwritten}
+use Rattle.wasabi_app.specs.Ends.{HasOutput, told_text, Cause, hooks_taken, too_large, unwritten, memory_ended, Answers, checked, instrumented}
 use Rattle.wasabi_app.proofs.Files.{one_module}
 
 -- the first read of a command
@@ -50,34 +51,50 @@ refuses_unmade words old new line m _ _ l is u unmade_no_memory =
     memory_ended (inl u)
 
 -- an output that was made
-pub has_output : (words : List (List ℕ)) (old : ShelfState) (line : Line) (m : Module) (output text : List ℕ) → IsLine words line
-    → IsLoaded old.contents line.subject narrow_file narrow m → IsOutputMade m line output text
-    → (has : HasOutput words old.contents line output) × (hook_count has.instrumented.original line.hooks ≡ hook_count m line.hooks)
-has_output words old line m output text l is made =
+has_output : (words : List (List ℕ)) (old : ShelfState) (line : Line) (m : Module) (output info text : List ℕ) → IsLine words line
+    → IsLoaded old.contents line.subject narrow_file narrow m → IsOutputMade m line output info text
+    → (has : HasOutput words old.contents line output) × (has.instrumented.original ≡ m)
+has_output words old line m output info text l is made =
     let i = made.made.instrumented is.bytes is.fit.spelled is.read.short in
-    let same : i.original ≡ m = one_module is.bytes i.original m i.accepted.spelled is.fit.spelled in (
-      record { bytes = is.bytes; command = l; subject = is.read; instrumented = i; within = made.made.within },
-      ap (λ x. hook_count x line.hooks) same,
-    )
+    let same : i.original ≡ m = one_module is.bytes i.original m i.accepted.spelled is.fit.spelled in
+    (record { bytes = is.bytes; command = l; subject = is.read; instrumented = i; within = made.made.within }, same)
+
+-- its information is written where it has a name alone
+more_told : (name : Option (List ℕ)) (info text : List ℕ) (old new : Option Contents) → (name ≢ None → info ≡ text) → WroteMore name info old new
+    → WroteMore name text old new
+more_told None info text old new same w = w
+more_told (Some n) info text old new same w = subst (λ t. Wrote n t old new) (same (λ e. cc)) w
+
+both_told : (line : Line) (output info text : List ℕ) (old new : Option Contents) → (line.info ≢ None → info ≡ text) → WroteBoth line output info old new
+    → WroteBoth line output text old new
+both_told line output info text old new same (mid, w, more) = (mid, w, more_told line.info info text mid new same more)
+
+cause_told : (line : Line) (output info text : List ℕ) (old new : ShelfState) (status : ℕ) (told : List ℕ) → (line.info ≢ None → info ≡ text)
+    → WriteCause line output info old new status told → WriteCause line output text old new status told
+cause_told line output info text old new status told same (output_unwritten p) = output_unwritten p
+cause_told line output info text old new status told same (info_unwritten name mid e w few p) =
+    info_unwritten name mid e w few
+    (subst (λ t. PutCause name t mid new status told) (same (λ n. let k = sym e ∙ n in cc)) p)
+
+-- the text that was made is that of the module whose output it is
+same_text : {words : List (List ℕ)} {held : Option Contents} {line : Line} {written : List ℕ} (has : HasOutput words held line written) (m : Module)
+    (info : List ℕ) → has.instrumented.original ≡ m → (line.info ≢ None → info ≡ information_text m line.hooks) → line.info ≢ None
+    → info ≡ told_text has
+same_text {line = line} has m info same made given = made given ∙ ap (λ x. information_text x line.hooks) (sym same)
 
 -- and that was written
-pub answers_written : (words : List (List ℕ)) (old new : ShelfState) (line : Line) (m : Module) (output text : List ℕ) → IsLine words line
-    → IsLoaded old.contents line.subject narrow_file narrow m → IsOutputMade m line output text
-    → Wrote line.target output old.contents new.contents → Answers words old new 0 text
-answers_written words old new line m output text l is made w =
-    let h = has_output words old line m output text l is made in
-    subst (Answers words old new 0) (ap (wrote_text (length output)) h.1 ∙ sym made.says) (instrumented line output h.0 w)
+pub answers_written : (words : List (List ℕ)) (old new : ShelfState) (line : Line) (m : Module) (output info text : List ℕ) → IsLine words line
+    → IsLoaded old.contents line.subject narrow_file narrow m → IsOutputMade m line output info text
+    → WroteBoth line output info old.contents new.contents → Answers words old new 0 text
+answers_written words old new line m output info text l is made w =
+    let h = has_output words old line m output info text l is made in
+    subst (Answers words old new 0) (ap (λ x. wrote_text (length output) (hook_count x line.hooks)) h.1 ∙ sym made.says)
+    (instrumented line output h.0 (both_told line output info (told_text h.0) old.contents new.contents (same_text h.0 m info h.1 made.informs) w))
 
 -- or that could not be
-pub refuses_unwritten : (words : List (List ℕ)) (old new : ShelfState) (line : Line) (m : Module) (output text : List ℕ) → IsLine words line
-    → IsLoaded old.contents line.subject narrow_file narrow m → IsOutputMade m line output text → Rose old.writes new.writes
-    → WrotePart line.target output old.contents new.contents → Cause words old new 5 (unwritten_text line.target)
-refuses_unwritten words old new line m output text l is made r w =
-    unwritten line output (has_output words old line m output text l is made).0 r w
-
--- or for which there was no memory then
-pub refuses_written : (words : List (List ℕ)) (old new : ShelfState) (line : Line) (m : Module) (output text : List ℕ) → IsLine words line
-    → IsLoaded old.contents line.subject narrow_file narrow m → IsOutputMade m line output text
-    → WrotePart line.target output old.contents new.contents → Cause words old new 14 no_memory_text
-refuses_written words old new line m output text l is made w =
-    memory_ended (inr (line, output, (has_output words old line m output text l is made).0, w))
+pub refuses_unwritten : (words : List (List ℕ)) (old new : ShelfState) (line : Line) (m : Module) (output info text : List ℕ) (status : ℕ) (told : List ℕ)
+    → IsLine words line → IsLoaded old.contents line.subject narrow_file narrow m → IsOutputMade m line output info text
+    → WriteCause line output info old new status told → Cause words old new status told
+refuses_unwritten words old new line m output info text status told l is made w =
+    let h = has_output words old line m output info text l is made in
+    unwritten line output status told h.0 (cause_told line output info (told_text h.0) old new status told (same_text h.0 m info h.1 made.informs) w)

@@ -9,7 +9,7 @@ use Rattle.wasabi_app.specs.Files.{IsScript, IsNoScript}
 use Rattle.wasabi_app.specs.Reads.{script_read, IsRead, IsScripted}
 
 -- a text has one value
-one_value : (bytes : List ℕ) (d e : Data) → IsText bytes d → IsText bytes e → d ≡ e
+pub one_value : (bytes : List ℕ) (d e : Data) → IsText bytes d → IsText bytes e → d ≡ e
 one_value bytes d e p q =
     let same : Some d ≡ Some e = sym p.read ∙ q.read in
     cc

@@ -1,6 +1,6 @@
 -- How a command ends: what stands on the shelf, what is printed, and the status.
-use Rattle.std.specs.Prelude.{◌≡◌, ℕ, ◌<◌, ◌≤◌, ◌⊎◌, List, length, Option, Some, Result, Ok, Err, string_bytes}
-use Rattle.outside_io.specs.Outside.{Contents, Rose, WhereKnown, Unchanged, Wrote, WrotePart, IsMissing, IsTooLong, Printed, PrintedPart}
+use Rattle.std.specs.Prelude.{◌≡◌, ℕ, ◌<◌, ◌≤◌, ◌⊎◌, List, ◌++◌, length, flat_map, filter, Option, Some, None, Result, Ok, Err, string_bytes}
+use Rattle.outside_io.specs.Outside.{Contents, Rose, WhereKnown, Unchanged, IsMissing, IsTooLong, Printed, PrintedPart}
 use Rattle.module_ast.specs.declared.module.Limits.{Limits}
 use Rattle.module_ast.specs.declared.module.Module.{Module}
 use Rattle.module_ast.specs.Limits.{narrow, wide}
@@ -12,16 +12,26 @@ use Rattle.wasm_sem.specs.Link.{IsFree, link, Links}
 use Rattle.wasm_sem.specs.Answers.{Summary, summary_of}
 use Rattle.wasabi_app.specs.declared.lines.Refusal.{Refusal}
 use Rattle.wasabi_app.specs.declared.lines.Told.{Told}
-use Rattle.wasabi_app.specs.Words.{Line, IsLine, IsCheck, IsRun, IsRefused}
+use Rattle.static_info.specs.declared.Info.{Info}
+use Rattle.analyses.specs.Tools.{ToolState}
+use Rattle.report.specs.Text.{report_text, events_text}
+use Rattle.wasabi_app.specs.declared.kinds.Kinds.{Kinds}
+use Rattle.wasabi_app.specs.declared.feeding.Tally.{Tally}
+use Rattle.wasabi_app.specs.declared.lines.Reports.{Reports}
+use Rattle.wasabi_app.specs.Kinds.{has_kind}
+use Rattle.wasabi_app.specs.Reporting.{events_told, reports_text}
+use Rattle.wasabi_app.specs.Feeding.{fed, AreFedPart}
+use Rattle.wasabi_app.specs.Words.{Line, ReportLine, IsLine, IsCheck, IsRun, IsReport, IsRefused}
 use Rattle.wasabi_app.specs.Files.{IsNoScript, wide_file}
-use Rattle.wasabi_app.specs.Reads.{Read, module_read, IsRead, OfModule, OfScript, Reads, IsLoaded, IsScripted}
-use Rattle.wasabi_app.specs.Texts.{bad_words_text, taken_text, too_large_text, unwritten_text, no_memory_text, wrote_text, ok_text, counts_of}
+use Rattle.wasabi_app.specs.Reads.{Read, module_read, IsRead, OfModule, OfScript, OfInfo, Reads, IsLoaded, IsScripted, IsInformed, IsNoInfo}
+use Rattle.wasabi_app.specs.Texts.{bad_words_text, taken_text, too_large_text, no_memory_text, wrote_text, ok_text, counts_of}
 use Rattle.wasabi_app.specs.RunTexts.{run_text, run_status}
 use Rattle.wasabi_app.specs.Refusals.{refusal_status, refusal_text}
 use Rattle.wasabi_app.specs.Printing.{ShelfState, PrintState, Said}
 use Rattle.wasabi_app.specs.Loading.{ReadCause}
-use Rattle.wasabi_app.specs.Making.{hook_count, output_length}
+use Rattle.wasabi_app.specs.Making.{hook_count, output_length, information_text}
 use Rattle.wasabi_app.specs.Linking.{link_status, link_text}
+use Rattle.wasabi_app.specs.Writing.{WroteBoth, WroteBothPart, WriteCause}
 
 -- the statuses
 pub data Status : ℕ → Type 0 where
@@ -40,6 +50,7 @@ pub data Status : ℕ → Type 0 where
   unfinished : Status 13
   no_memory : Status 14
   unprinted : Status 15
+  bad_info : Status 16
 
 -- the words ask for an output, and the subject's bytes are an accepted module whose output this is, no longer than the bound
 pub record HasOutput (words : List (List ℕ)) (held : Option Contents) (line : Line) (written : List ℕ) : Type 0 where
@@ -49,15 +60,19 @@ pub record HasOutput (words : List (List ℕ)) (held : Option Contents) (line : 
   pub instrumented : IsInstrumented bytes line.hooks written
   pub within : length written ≤ line.bound
 
--- the output stands under the target's name, and all else is as before
+-- the text of the information on the module whose output it is
+abbrev pub told_text : {words : List (List ℕ)} {held : Option Contents} {line : Line} {written : List ℕ} → HasOutput words held line written → List ℕ
+told_text {line = line} has = information_text has.instrumented.original line.hooks
+
+-- the output stands under the target's name, and the information under its own where it has one; all else is as before
 abbrev pub IsWritten : List (List ℕ) → (old new : Option Contents) → Type 0
 IsWritten words old new =
-    (line : Line) × (written : List ℕ) × HasOutput words old line written × Wrote line.target written old new
+    (line : Line) × (written : List ℕ) × (has : HasOutput words old line written) × WroteBoth line written (told_text has) old new
 
--- the target's name is as before or has a prefix of the output, and all else is as before
+-- the same in part: first of the output, then of the information
 abbrev pub IsWrittenPart : List (List ℕ) → (old new : Option Contents) → Type 0
 IsWrittenPart words old new =
-    (line : Line) × (written : List ℕ) × HasOutput words old line written × WrotePart line.target written old new
+    (line : Line) × (written : List ℕ) × (has : HasOutput words old line written) × WroteBothPart line written (told_text has) old new
 
 -- the words ask for a run, and the subject's bytes are this valid module, and the script's are this script
 pub record IsToRun (words : List (List ℕ)) (held : Option Contents) (m : Module) (s : Script) : Type 0 where
@@ -66,6 +81,19 @@ pub record IsToRun (words : List (List ℕ)) (held : Option Contents) (m : Modul
   pub command : IsRun words subject script
   pub loaded : IsLoaded held subject wide_file wide m
   pub scripted : IsScripted held script s
+
+-- the words ask for reports, and the subject's bytes are this valid module, the information's this information, which belongs
+-- to it, and the script's this script
+pub record IsToReport (words : List (List ℕ)) (held : Option Contents) (line : ReportLine) (m : Module) (info : Info) (s : Script) : Type 0 where
+  pub command : IsReport words line
+  pub loaded : IsLoaded held line.subject wide_file wide m
+  pub informed : IsInformed held line.info line.subject m info
+  pub scripted : IsScripted held line.script s
+
+-- this module is to be played by this script
+pub data IsToPlay (words : List (List ℕ)) (held : Option Contents) (m : Module) (s : Script) : Type 0 where
+  run_alone : IsToRun words held m s → IsToPlay words held m s
+  run_for_reports : (line : ReportLine) (info : Info) → IsToReport words held line m info s → IsToPlay words held m s
 
 -- what stands after the script's steps
 abbrev pub ending_of : Module → Script → Summary
@@ -78,6 +106,10 @@ ending_text m s = run_text s.calls (ending_of m s)
 abbrev pub ending_status : Module → Script → ℕ
 ending_status m s = run_status (ending_of m s)
 
+-- the text of a run with its reports
+abbrev pub reported_text : Kinds → Info → Module → Script → List ℕ
+reported_text kinds info m s = ending_text m s ++ reports_text kinds (events_told info m s s.steps)
+
 -- why a command is refused, what stands on the shelf then, and the status and the line
 pub data Cause (words : List (List ℕ)) (old new : ShelfState) : (status : ℕ) → (text : List ℕ) → Type 0 where
   no_command : IsRefused words → Unchanged old.contents new.contents → Cause words old new 2 bad_words_text
@@ -88,9 +120,9 @@ pub data Cause (words : List (List ℕ)) (old new : ShelfState) : (status : ℕ)
   too_large : (line : Line) (m : Module) → IsLine words line → IsLoaded old.contents line.subject narrow_file narrow m → IsFree m
       → line.bound < output_length m line.hooks → Unchanged old.contents new.contents
       → Cause words old new 9 (too_large_text (output_length m line.hooks))
-  unwritten : (line : Line) (written : List ℕ) → HasOutput words old.contents line written → Rose old.writes new.writes
-      → WrotePart line.target written old.contents new.contents → Cause words old new 5 (unwritten_text line.target)
-  unlinked : (m : Module) (s : Script) (why : linking.Refusal) → IsToRun words old.contents m s → link m s ≡ Some why
+  unwritten : (line : Line) (written : List ℕ) (status : ℕ) (text : List ℕ) (has : HasOutput words old.contents line written)
+      → WriteCause line written (told_text has) old new status text → Cause words old new status text
+  unlinked : (m : Module) (s : Script) (why : linking.Refusal) → IsToPlay words old.contents m s → link m s ≡ Some why
       → Unchanged old.contents new.contents → Cause words old new (link_status why) (link_text s.calls why)
   memory_ended : Unchanged old.contents new.contents ⊎ IsWrittenPart words old.contents new.contents → Cause words old new 14 no_memory_text
 
@@ -99,15 +131,51 @@ pub data Answers (words : List (List ℕ)) (old new : ShelfState) : (status : �
   checked : (subject : List ℕ) (m : Module) → IsCheck words subject → IsLoaded old.contents subject wide_file wide m
       → Unchanged old.contents new.contents → Answers words old new 0 (ok_text (counts_of m))
   instrumented : (line : Line) (written : List ℕ) (has : HasOutput words old.contents line written)
-      → Wrote line.target written old.contents new.contents
+      → WroteBoth line written (told_text has) old.contents new.contents
       → Answers words old new 0 (wrote_text (length written) (hook_count has.instrumented.original line.hooks))
   ran : (m : Module) (s : Script) → IsToRun words old.contents m s → Links m s → Unchanged old.contents new.contents
       → Answers words old new (ending_status m s) (ending_text m s)
+  reported : (line : ReportLine) (m : Module) (info : Info) (s : Script) → IsToReport words old.contents line m info s → Links m s
+      → Unchanged old.contents new.contents → Answers words old new (ending_status m s) (reported_text line.kinds info m s)
+
+-- the run was over or its steps were made, whether its text was printed or not
+abbrev pub IsShown : (status : ℕ) → Type 0
+IsShown status = (status ≡ 0) ⊎ ((status ≡ 12) ⊎ ((status ≡ 13) ⊎ (status ≡ 15)))
+
+-- the reports of picked analyses, and the number of events
+abbrev pub tool_report : ToolState → List ℕ
+tool_report tool = report_text tool.counts tool.book
+
+abbrev pub tools_text : Kinds → List ToolState → Tally → List ℕ
+tools_text kinds tools tally =
+    flat_map tool_report (filter (λ (t : ToolState). has_kind kinds t.counts) tools) ++ events_text tally.events tally.strays
+
+-- all that is told: a text, and the reports that are wanted behind it
+abbrev pub told_with : List ToolState → (text : List ℕ) → Option Reports → List ℕ
+told_with tools text None = text
+told_with tools text (Some wanted) = text ++ tools_text wanted.kinds tools wanted.tally
 
 -- the work of a command: its answer, or why it is refused
-abbrev pub ComesTo : List (List ℕ) → (old new : ShelfState) → Result Told Refusal → Type 0
-ComesTo words old new (Ok told) = Answers words old new told.status (string_bytes told.text)
-ComesTo words old new (Err refusal) = Cause words old new (refusal_status refusal) (refusal_text refusal)
+abbrev pub ComesTo : List (List ℕ) → (old new : ShelfState) → List ToolState → Result Told Refusal → Type 0
+ComesTo words old new tools (Ok told) = Answers words old new told.status (told_with tools (string_bytes told.text) told.reports)
+ComesTo words old new tools (Err refusal) = Cause words old new (refusal_status refusal) (refusal_text refusal)
+
+-- the picked analyses have taken all events of the run
+abbrev pub TookAll : List (List ℕ) → (held : Option Contents) → (old new : List ToolState) → Type 0
+TookAll words held old new =
+    (line : ReportLine) × (m : Module) × (info : Info) × (s : Script) × IsToReport words held line m info s × Links m s
+    × (new ≡ fed line.kinds (events_told info m s s.steps) old)
+
+-- or some of them, each from the first on
+abbrev pub TookPart : List (List ℕ) → (held : Option Contents) → (old new : List ToolState) → Type 0
+TookPart words held old new =
+    (line : ReportLine) × (m : Module) × (info : Info) × (s : Script) × IsToReport words held line m info s × Links m s
+    × AreFedPart line.kinds (events_told info m s s.steps) old new
+
+-- what they have taken by then: all, where the run is told of; else nothing, or some where memory ended
+abbrev pub TakesBy : List (List ℕ) → (held : Option Contents) → (old new : List ToolState) → Result Told Refusal → Type 0
+TakesBy words held old new (Ok told) = TookAll words held old new ⊎ ((new ≡ old) × ((line : ReportLine) → IsReport words line → ⊥))
+TakesBy words held old new (Err refusal) = (new ≡ old) ⊎ (TookPart words held old new × (refusal_status refusal ≡ 14))
 
 -- An answer's text is printed, or the status is 15 where the sink's count rose. A refusal's status stands however its
 -- line is printed. Want of memory for a line, or on the way through it, is 14.
@@ -147,10 +215,15 @@ abbrev pub IsUnscripted : List (List ℕ) → (held : Option Contents) → Type 
 IsUnscripted words held =
     (read : Read) × (bytes : List ℕ) × Reads words held read × IsRead held read bytes × OfScript IsNoScript read.want bytes
 
+-- the bytes that were to be information are none, or that of another module
+abbrev pub IsUninformed : List (List ℕ) → (held : Option Contents) → Type 0
+IsUninformed words held =
+    (read : Read) × (bytes : List ℕ) × Reads words held read × IsRead held read bytes × OfInfo (IsNoInfo held) read.want bytes
+
 -- subject and script don't link, for a cause with this status
 abbrev pub IsUnlinked : List (List ℕ) → (held : Option Contents) → (status : ℕ) → Type 0
 IsUnlinked words held status =
-    (m : Module) × (s : Script) × (why : linking.Refusal) × IsToRun words held m s × (link m s ≡ Some why) × (link_status why ≡ status)
+    (m : Module) × (s : Script) × (why : linking.Refusal) × IsToPlay words held m s × (link m s ≡ Some why) × (link_status why ≡ status)
 
 -- they link, and the run of this status was printed whole
 abbrev pub IsRan : List (List ℕ) → (held : Option Contents) → (status : ℕ) → (before after : Option (List ℕ)) → Type 0
@@ -161,6 +234,18 @@ IsRan words held status before after =
 abbrev pub IsRanPart : List (List ℕ) → (held : Option Contents) → (before after : Option (List ℕ)) → Type 0
 IsRanPart words held before after =
     (m : Module) × (s : Script) × IsToRun words held m s × Links m s × PrintedPart (ending_text m s) before after
+
+-- they link, and the run of this status was printed whole with the reports of its events
+abbrev pub IsReported : List (List ℕ) → (held : Option Contents) → (status : ℕ) → (before after : Option (List ℕ)) → Type 0
+IsReported words held status before after =
+    (line : ReportLine) × (m : Module) × (info : Info) × (s : Script) × IsToReport words held line m info s × Links m s
+    × (ending_status m s ≡ status) × Printed (reported_text line.kinds info m s) before after
+
+-- or a prefix
+abbrev pub IsReportedPart : List (List ℕ) → (held : Option Contents) → (before after : Option (List ℕ)) → Type 0
+IsReportedPart words held before after =
+    (line : ReportLine) × (m : Module) × (info : Info) × (s : Script) × IsToReport words held line m info s × Links m s
+    × PrintedPart (reported_text line.kinds info m s) before after
 
 -- Where contents are told, what stands under a name that is read decides, but for faults and want of memory.
 abbrev pub IsKept : (status expected : ℕ) → Type 0
@@ -182,6 +267,15 @@ IsFile P read found = (bytes : List ℕ) × (found ≡ Some bytes) × (length by
 abbrev pub IsWrongScript : Read → (found : Option (List ℕ)) → Type 0
 IsWrongScript read found = (bytes : List ℕ) × (found ≡ Some bytes) × (length bytes ≤ read.cap) × OfScript IsNoScript read.want bytes
 
+-- information is to be read, and the bytes are none, or that of another module
+abbrev pub IsWrongInfo : Contents → Read → (found : Option (List ℕ)) → Type 0
+IsWrongInfo contents read found =
+    (bytes : List ℕ) × (found ≡ Some bytes) × (length bytes ≤ read.cap) × OfInfo (IsNoInfo (Some contents)) read.want bytes
+
+abbrev pub DecidesInfo : List (List ℕ) → Option Contents → (status : ℕ) → Type 0
+DecidesInfo words held status =
+    WhereKnown held (λ contents. (read : Read) → Reads words held read → IsWrongInfo contents read (contents read.name) → IsKept status 16)
+
 -- 4, 5 and 15 come only where a count of faults rose, so that without faults the status is 0, or want of memory
 abbrev pub ChecksAll : List (List ℕ) → Option Contents → (status : ℕ) → Type 0
 ChecksAll words held status =
@@ -197,6 +291,11 @@ Completes words held status =
 abbrev pub RunsAll : List (List ℕ) → Option Contents → (status : ℕ) → Type 0
 RunsAll words held status =
     WhereKnown held (λ _. (m : Module) (s : Script) → IsToRun words held m s → Links m s → (status ≡ 15) ⊎ IsKept status (ending_status m s))
+
+abbrev pub ReportsAll : List (List ℕ) → Option Contents → (status : ℕ) → Type 0
+ReportsAll words held status =
+    WhereKnown held (λ _. (line : ReportLine) (m : Module) (info : Info) (s : Script) → IsToReport words held line m info s → Links m s
+    → (status ≡ 15) ⊎ IsKept status (ending_status m s))
 
 -- a script that does not link with the module
 abbrev pub DecidesLinking : List (List ℕ) → Option Contents → (status : ℕ) → Type 0

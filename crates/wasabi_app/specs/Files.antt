@@ -54,3 +54,7 @@ IsNoScript bytes = (s : Script) → IsScript bytes s → ⊥
 
 abbrev pub IsScriptFile : (bytes : List ℕ) → Type 0
 IsScriptFile bytes = (s : Script) × IsScript bytes s
+
+-- the greatest information that is read, in bytes
+abbrev pub info_file : ℕ
+info_file = 268435456

@@ -1,12 +1,17 @@
+pub mod Kinds
 pub mod Words
 pub mod Reading
 pub mod Texts
 pub mod RunTexts
 pub mod Refusals
 pub mod Printing
+pub mod Writing
 pub mod Files
 pub mod Reads
 pub mod Loading
 pub mod Making
 pub mod Linking
+pub mod Reporting
+pub mod Feeding
 pub mod Ends
+pub mod Composing

@@ -1,7 +1,7 @@
 -- Why a read is refused.
-use Rattle.std.specs.Prelude.{◌≡◌, ℕ, List, Err}
+use Rattle.std.specs.Prelude.{◌≡◌, ℕ, List, Option, Err}
 use Rattle.serde_json.specs.Data.{Data}
-use Rattle.outside_io.specs.Outside.{Rose, IsMissing, IsTooLong}
+use Rattle.outside_io.specs.Outside.{Contents, Rose, IsMissing, IsTooLong}
 use Rattle.module_ast.specs.declared.module.Limits.{Limits}
 use Rattle.module_ast.specs.declared.module.Module.{Module}
 use Rattle.module_ast.specs.declared.module.Which.{Which}
@@ -11,9 +11,13 @@ use Rattle.module_ast.specs.Validity.{Rule, number_of, IsFirstBroken, IsFirstInv
 use Rattle.json_form.specs.Text.{IsText, IsNoText}
 use Rattle.run_session.specs.Script.{script_form}
 use Rattle.wasabi_app.specs.Printing.{ShelfState}
-use Rattle.wasabi_app.specs.Files.{IsFit}
-use Rattle.wasabi_app.specs.Reads.{Want, valid_module, a_script, Read, IsRead}
-use Rattle.wasabi_app.specs.Texts.{missing_text, too_long_text, unread_text, malformed_text, floats_text, limit_text, rule_text, body_text, not_json_text, wrong_script_text, no_memory_text}
+use Rattle.module_ast.specs.Limits.{wide}
+use Rattle.static_info.specs.declared.Info.{Info}
+use Rattle.static_info.specs.Json.{HoldInfo, HoldNoInfo}
+use Rattle.static_info.specs.Belongs.{Belongs}
+use Rattle.wasabi_app.specs.Files.{IsFit, wide_file}
+use Rattle.wasabi_app.specs.Reads.{Want, valid_module, a_script, an_info, Read, IsRead, IsLoaded}
+use Rattle.wasabi_app.specs.Texts.{missing_text, too_long_text, unread_text, malformed_text, floats_text, limit_text, rule_text, body_text, not_json_text, wrong_script_text, info_not_json_text, not_info_text, foreign_text, no_memory_text}
 
 -- the bytes are no valid module, by this status and line
 pub data Refutes (name : List ℕ) (limits : Limits) (bytes : List ℕ) : (status : ℕ) → (text : List ℕ) → Type 0 where
@@ -30,10 +34,19 @@ pub data RefutesScript (bytes : List ℕ) : (status : ℕ) → (text : List ℕ)
   wrong_script : (d : Data) (place : ℕ) → IsText bytes d → script_form d ≡ Err place → RefutesScript bytes 10 (wrong_script_text place)
   no_memory_for_script : RefutesScript bytes 14 no_memory_text
 
+-- the bytes are no information on the module under the subject's name, by this status and line
+pub data RefutesInfo (held : Option Contents) (subject bytes : List ℕ) : (status : ℕ) → (text : List ℕ) → Type 0 where
+  info_not_json : IsNoText bytes → RefutesInfo held subject bytes 16 info_not_json_text
+  not_info : HoldNoInfo bytes → RefutesInfo held subject bytes 16 not_info_text
+  foreign : (info : Info) (m : Module) → HoldInfo bytes info → IsLoaded held subject wide_file wide m → ¬ Belongs info m
+      → RefutesInfo held subject bytes 16 foreign_text
+  no_memory_for_info : RefutesInfo held subject bytes 14 no_memory_text
+
 -- they are not what they must be
-abbrev pub RefutesWant : (name : List ℕ) → Want → (bytes : List ℕ) → (status : ℕ) → (text : List ℕ) → Type 0
-RefutesWant name (valid_module limits) bytes status text = Refutes name limits bytes status text
-RefutesWant name a_script bytes status text = RefutesScript bytes status text
+abbrev pub RefutesWant : Option Contents → (name : List ℕ) → Want → (bytes : List ℕ) → (status : ℕ) → (text : List ℕ) → Type 0
+RefutesWant held name (valid_module limits) bytes status text = Refutes name limits bytes status text
+RefutesWant held name a_script bytes status text = RefutesScript bytes status text
+RefutesWant held name (an_info subject) bytes status text = RefutesInfo held subject bytes status text
 
 -- nothing is read under the name that is what it must be
 pub data ReadCause (read : Read) (old new : ShelfState) : (status : ℕ) → (text : List ℕ) → Type 0 where
@@ -41,5 +54,5 @@ pub data ReadCause (read : Read) (old new : ShelfState) : (status : ℕ) → (te
   too_long : (long : ℕ) → IsTooLong old.contents read.name read.cap long old.reads new.reads → ReadCause read old new 3 (too_long_text read.name long)
   unread : Rose old.reads new.reads → ReadCause read old new 4 (unread_text read.name)
   refuted : (bytes : List ℕ) (status : ℕ) (text : List ℕ) → IsRead old.contents read bytes
-      → RefutesWant read.name read.want bytes status text → ReadCause read old new status text
+      → RefutesWant old.contents read.name read.want bytes status text → ReadCause read old new status text
   unloaded_no_memory : ReadCause read old new 14 no_memory_text

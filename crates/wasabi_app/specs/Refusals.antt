@@ -2,9 +2,11 @@
 use Rattle.std.specs.Prelude.{ℕ, List}
 use Rattle.wasabi_app.specs.declared.script_lines.ScriptRefusal.{ScriptRefusal}
 use Rattle.wasabi_app.specs.declared.script_lines.ScriptRefusal.TheVariants.{NotJson, Wrong, NoExport, WrongArguments, MemoryCap, TableCap, SegmentRange}
+use Rattle.wasabi_app.specs.declared.info_lines.InfoRefusal.{InfoRefusal}
+use Rattle.wasabi_app.specs.declared.info_lines.InfoRefusal.TheVariants.{NotJson as NotJsonInfo, NotInfo, Foreign}
 use Rattle.wasabi_app.specs.declared.lines.Refusal.{Refusal}
-use Rattle.wasabi_app.specs.declared.lines.Refusal.TheVariants.{BadWords, Missing, TooLong, Unread, Unwritten, Malformed, Floats, OverLimit, BrokenRule, InvalidBody, HookModuleTaken, TooLarge, Script, NoMemory}
-use Rattle.wasabi_app.specs.Texts.{bad_words_text, missing_text, too_long_text, unread_text, unwritten_text, malformed_text, floats_text, limit_text, rule_text, body_text, taken_text, too_large_text, not_json_text, wrong_script_text, no_export_text, wrong_arguments_text, memory_cap_text, table_cap_text, segment_range_text, no_memory_text}
+use Rattle.wasabi_app.specs.declared.lines.Refusal.TheVariants.{BadWords, Missing, TooLong, Unread, Unwritten, Malformed, Floats, OverLimit, BrokenRule, InvalidBody, HookModuleTaken, TooLarge, Script, Information, NoMemory}
+use Rattle.wasabi_app.specs.Texts.{bad_words_text, missing_text, too_long_text, unread_text, unwritten_text, malformed_text, floats_text, limit_text, rule_text, body_text, taken_text, too_large_text, not_json_text, wrong_script_text, no_export_text, wrong_arguments_text, memory_cap_text, table_cap_text, segment_range_text, info_not_json_text, not_info_text, foreign_text, no_memory_text}
 
 abbrev pub script_status : ScriptRefusal → ℕ
 script_status NotJson = 10
@@ -24,6 +26,11 @@ script_text (MemoryCap pages) = memory_cap_text pages
 script_text (TableCap slots) = table_cap_text slots
 script_text SegmentRange = segment_range_text
 
+abbrev pub info_refusal_text : InfoRefusal → List ℕ
+info_refusal_text NotJsonInfo = info_not_json_text
+info_refusal_text NotInfo = not_info_text
+info_refusal_text Foreign = foreign_text
+
 abbrev pub refusal_status : Refusal → ℕ
 refusal_status BadWords = 2
 refusal_status (Missing _) = 3
@@ -38,6 +45,7 @@ refusal_status (InvalidBody _ _) = 8
 refusal_status (HookModuleTaken _) = 9
 refusal_status (TooLarge _) = 9
 refusal_status (Script why) = script_status why
+refusal_status (Information why) = 16
 refusal_status NoMemory = 14
 
 abbrev pub refusal_text : Refusal → List ℕ
@@ -54,4 +62,5 @@ refusal_text (InvalidBody name func) = body_text name.now func
 refusal_text (HookModuleTaken name) = taken_text name.now
 refusal_text (TooLarge long) = too_large_text long
 refusal_text (Script why) = script_text why
+refusal_text (Information why) = info_refusal_text why
 refusal_text NoMemory = no_memory_text

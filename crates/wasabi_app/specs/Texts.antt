@@ -54,6 +54,15 @@ body_text name func = concat_texts (codes "error 8: " ∷ name ∷ codes " has a
 abbrev pub no_memory_text : List ℕ
 no_memory_text = codes "error 14: out of memory\n"
 
+abbrev pub info_not_json_text : List ℕ
+info_not_json_text = codes "error 16: information is not JSON\n"
+
+abbrev pub not_info_text : List ℕ
+not_info_text = codes "error 16: information is not information\n"
+
+abbrev pub foreign_text : List ℕ
+foreign_text = codes "error 16: information does not belong to the module\n"
+
 abbrev pub taken_text : (name : List ℕ) → List ℕ
 taken_text name = concat_texts (codes "error 9: " ∷ name ∷ codes " is already instrumented\n" ∷ [])
 

@@ -4,9 +4,15 @@
 mod app;
 mod check_mode;
 mod counts;
+mod feeding;
+mod info_lines;
 mod instrument_mode;
+mod kinds;
+pub mod laws;
 mod lines;
 mod load;
+mod report_mode;
+mod report_text;
 mod run_mode;
 mod run_text;
 mod say;
@@ -14,9 +20,13 @@ mod script_lines;
 mod words;
 
 pub use app::run_app;
+pub use feeding::{Tally, feed};
+pub use kinds::Kinds;
 
 #[cfg(test)]
 mod needs_tests;
+#[cfg(test)]
+mod report_tests;
 #[cfg(test)]
 mod rewrite_tests;
 #[cfg(test)]

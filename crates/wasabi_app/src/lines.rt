@@ -4,19 +4,31 @@ ghost use Rattle.std.specs.Prelude.{◌≡◌, IfOk, IfSome, Some, string_bytes}
 ghost use Rattle.wasabi_app.specs.Texts.{wrote_text, ok_text, which_name, no_memory_text};
 ghost use Rattle.wasabi_app.specs.Refusals.{refusal_status, refusal_text};
 
+use crate::feeding::Tally;
+use crate::info_lines::InfoRefusal;
+use crate::kinds::Kinds;
 use crate::script_lines::ScriptRefusal;
 use module_ast::module::Which;
 use std::alloc::{AllocError, Global};
 
-/// What a command tells, and the status of the program where that is printed.
+/// What a command tells, and the status of the program where that is printed: a text, and behind it the reports that are
+/// wanted.
 #[derive(Drop)]
 pub(crate) struct Told {
     pub(crate) status: u8,
     pub(crate) text: String,
+    pub(crate) reports: Option<Reports>,
 }
 
-/// Why a command is refused: bad words, a fault of the outside, what a name's bytes are, what their output would be, or
-/// the script.
+/// Which reports are wanted, and how many events there were.
+#[derive(Clone, Copy)]
+pub(crate) struct Reports {
+    pub(crate) kinds: Kinds,
+    pub(crate) tally: Tally,
+}
+
+/// Why a command is refused: bad words, a fault of the outside, what a name's bytes are, what their output would be, the
+/// script, or the information.
 #[derive(Drop)]
 pub(crate) enum Refusal<'w> {
     BadWords,
@@ -61,6 +73,7 @@ pub(crate) enum Refusal<'w> {
         length: u64,
     },
     Script(ScriptRefusal),
+    Information(InfoRefusal),
     NoMemory,
 }
 
@@ -79,6 +92,7 @@ impl Refusal<'_> {
             Refusal::BrokenRule { .. } | Refusal::InvalidBody { .. } => 8,
             Refusal::HookModuleTaken { .. } | Refusal::TooLarge { .. } => 9,
             Refusal::Script(why) => why.status(),
+            Refusal::Information(_) => 16,
             Refusal::NoMemory => 14,
         }
     }
@@ -118,6 +132,7 @@ impl Refusal<'_> {
                 "error 9: the output would be {length} bytes\n"
             ),
             Refusal::Script(why) => why.line(alloc),
+            Refusal::Information(why) => String::from_str(alloc, why.line()),
             Refusal::NoMemory => String::from_str(alloc, NO_MEMORY),
         }
     }
@@ -140,7 +155,7 @@ fn name_of(which: Which) -> &'static str
 }
 
 /// The line of an output of so many bytes with so many hooks.
-pub(crate) fn wrote_line(alloc: Global, bytes: usize, hooks: u32) -> Result<String, AllocError>
+pub(crate) fn wrote_line(alloc: Global, bytes: usize, hooks: usize) -> Result<String, AllocError>
     ensures { IfOk result (λ line. string_bytes line ≡ wrote_text bytes hooks) }
 {
     format!(in alloc; "wrote {bytes} bytes with {hooks} hooks\n")

@@ -1,20 +1,25 @@
-// Valid modules and scripts, read from a shelf.
+// Valid modules, scripts and information, read from a shelf.
 
-ghost use Rattle.std.specs.Prelude.{◌≡◌, ◌≤◌, IfOk, IfErr, length};
-ghost use Rattle.outside_io.specs.Outside.{Unchanged};
+ghost use Rattle.std.specs.Prelude.{◌≡◌, ◌≤◌, ℕ, List, Option, IfOk, IfErr, length};
+ghost use Rattle.outside_io.specs.Outside.{Contents, Unchanged};
+ghost use Rattle.module_ast.specs.Limits.{wide};
+ghost use Rattle.static_info.specs.Form.{IsWellFormed};
+ghost use Rattle.static_info.specs.Json.{HoldInfo};
 ghost use Rattle.module_ast.specs.Validity.{IsValid};
 ghost use Rattle.wasm_sem.specs.Link.{IsScriptInRange};
 ghost use Rattle.wasabi_app.specs.Files.{IsFit, IsScript, wide_file};
-ghost use Rattle.wasabi_app.specs.Loading.{Refutes, RefutesScript, ReadCause};
+ghost use Rattle.wasabi_app.specs.Loading.{Refutes, RefutesInfo, RefutesScript, ReadCause};
 ghost use Rattle.wasabi_app.specs.Printing.{shelf_state};
-ghost use Rattle.wasabi_app.specs.Reads.{IsLoaded, IsRead, IsScripted, Want, read_as, module_read, script_read};
+ghost use Rattle.wasabi_app.specs.Reads.{IsInformed, IsLoaded, IsRead, IsScripted, Want, read_as, info_read, module_read, script_read};
 ghost use Rattle.wasabi_app.specs.Refusals.{refusal_status, refusal_text};
 
+use crate::info_lines::InfoRefusal;
 use crate::lines::Refusal;
 use crate::script_lines::ScriptRefusal;
 use module_ast::module::{Limits, Module};
 use outside_io::{ReadFault, Shelf};
 use run_session::{ScriptFault, read_script};
+use static_info::{Info, InfoFault, belongs, from_json};
 use std::alloc::Global;
 use std::thread::Threads;
 use wasm_decode::{DecodeFault, decode};
@@ -23,6 +28,9 @@ use wasm_valid::{Invalid, ValidModule, validate};
 
 // How many bytes a script may have.
 const LONGEST_SCRIPT: u64 = 16_777_216;
+
+// How many bytes information may have.
+const LONGEST_INFORMATION: u64 = 268_435_456;
 
 /// The valid module that stands under a name, of at most `cap` bytes, within these limits. No name is changed.
 pub(crate) fn load<'w, R: Threads + Sync, S: Shelf>(
@@ -66,6 +74,32 @@ pub(crate) fn load_script<'w, S: Shelf>(
     script_of(alloc, bytes.as_slice())
 }
 
+/// The information under a name, which belongs to a valid module. No name is changed.
+pub(crate) fn load_info<'w, S: Shelf>(
+    alloc: Global,
+    name: &'w str,
+    m: &ValidModule,
+    shelf: &mut S,
+) -> Result<Info, Refusal<'w>>
+    ensures ok { (subject : List ℕ) → IfOk result (λ info. IsInformed (S.contents shelf.old) name.now subject m.now info) }
+    ensures formed { IfOk result IsWellFormed }
+    ensures refused { (subject : List ℕ) → IsLoaded (S.contents shelf.old) subject wide_file wide m.now
+        → IfErr result (λ r. ReadCause (info_read name.now subject)
+        (shelf_state (S.contents shelf.old) (S.read_faults shelf.old) (S.write_faults shelf.old))
+        (shelf_state (S.contents shelf.new) (S.read_faults shelf.new) (S.write_faults shelf.new)) (refusal_status r) (refusal_text r)) }
+    ensures kept { Unchanged (S.contents shelf.old) (S.contents shelf.new) }
+    ensures read_count { S.read_faults shelf.old ≤ S.read_faults shelf.new }
+    ensures write_count { S.write_faults shelf.new ≡ S.write_faults shelf.old }
+{
+    let bytes = read(alloc, name, LONGEST_INFORMATION, shelf)?;
+    let info = info_of(alloc, bytes.as_slice())?;
+    match belongs(alloc, &info, m.module()) {
+        Ok(true) => Ok(info),
+        Ok(false) => Err(Refusal::Information(InfoRefusal::Foreign)),
+        Err(_) => Err(Refusal::NoMemory),
+    }
+}
+
 // The bytes that stand under a name, at most `cap` of them.
 fn read<'w, S: Shelf>(
     alloc: Global,
@@ -103,6 +137,20 @@ fn script_of<'w>(alloc: Global, bytes: &[u8]) -> Result<Script, Refusal<'w>>
             place,
         })),
         Err(ScriptFault::NoMemory) => Err(Refusal::NoMemory),
+    }
+}
+
+// The information with these bytes.
+fn info_of<'w>(alloc: Global, bytes: &[u8]) -> Result<Info, Refusal<'w>>
+    ensures ok { IfOk result (λ info. HoldInfo bytes.now info) }
+    ensures refused { (held : Option Contents) (subject : List ℕ)
+        → IfErr result (λ r. RefutesInfo held subject bytes.now (refusal_status r) (refusal_text r)) }
+{
+    match from_json(alloc, bytes) {
+        Ok(info) => Ok(info),
+        Err(InfoFault::NotJson) => Err(Refusal::Information(InfoRefusal::NotJson)),
+        Err(InfoFault::NotInfo) => Err(Refusal::Information(InfoRefusal::NotInfo)),
+        Err(InfoFault::NoMemory) => Err(Refusal::NoMemory),
     }
 }
 

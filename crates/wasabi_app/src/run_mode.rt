@@ -6,13 +6,14 @@ ghost use Rattle.wasm_sem.specs.Link.{IsScriptInRange, Links, link};
 ghost use Rattle.wasm_sem.specs.Typed.{IsComplete};
 ghost use Rattle.run_session.specs.Linking.{TellsRefusal};
 ghost use Rattle.run_session.specs.Sessions.{told_outcome};
+ghost use Rattle.analyses.specs.Tools.{ToolState};
 ghost use Rattle.wasabi_app.specs.Ends.{ComesTo};
 ghost use Rattle.wasabi_app.specs.Linking.{IsTold};
 ghost use Rattle.wasabi_app.specs.Printing.{shelf_state};
 ghost use Rattle.wasabi_app.specs.RunTexts.{run_status, run_text};
 ghost use Rattle.wasabi_app.specs.Words.{IsRun};
 
-use crate::lines::{Refusal, Told};
+use crate::lines::{Refusal, Reports, Told};
 use crate::load::{load, load_script};
 use crate::run_text::{run_text, status_of};
 use crate::script_lines::ScriptRefusal;
@@ -37,16 +38,16 @@ pub(crate) fn run<'w, R: Threads + Sync, S: Shelf>(
     script: &'w str,
     shelf: &mut S,
 ) -> Result<Told, Refusal<'w>>
-    ensures ended { (words : List (List ℕ)) → IsRun words subject.now script.now → ComesTo words
+    ensures ended { (words : List (List ℕ)) (tools : List ToolState) → IsRun words subject.now script.now → ComesTo words
         (shelf_state (S.contents shelf.old) (S.read_faults shelf.old) (S.write_faults shelf.old))
-        (shelf_state (S.contents shelf.new) (S.read_faults shelf.new) (S.write_faults shelf.new)) result }
+        (shelf_state (S.contents shelf.new) (S.read_faults shelf.new) (S.write_faults shelf.new)) tools result }
     ensures read_count { S.read_faults shelf.old ≤ S.read_faults shelf.new }
     ensures write_count { S.write_faults shelf.old ≤ S.write_faults shelf.new }
 {
     let valid = load(rt, alloc, subject, LONGEST_SUBJECT, &Limits::wide(), shelf)?;
     let script = load_script(alloc, script, shelf)?;
     match play(alloc, &valid, &script) {
-        Ok(outcome) => told(alloc, &script, &outcome),
+        Ok(outcome) => told(alloc, &script, &outcome, None),
         Err(fault) => Err(unlinked(script, fault)),
     }
 }
@@ -75,30 +76,37 @@ fn finish(mut session: Session<'_>) -> Result<Outcome, NoMemory>
     session.finish()
 }
 
-// Whether no step was made, since the run is over or the script's steps were made.
-fn is_over(turn: &Turn) -> bool
+/// Whether no step was made, since the run is over or the script's steps were made.
+pub(crate) fn is_over(turn: &Turn) -> bool
     ensures { Decides result (turn.now ≡ Turn.Over) }
 {
     matches!(turn, Turn::Over)
 }
 
-// What is told of a run.
-fn told<'w>(alloc: Global, script: &Script, outcome: &Outcome) -> Result<Told, Refusal<'w>>
+/// What is told of a run, with these reports behind it.
+pub(crate) fn told<'w>(
+    alloc: Global,
+    script: &Script,
+    outcome: &Outcome,
+    reports: Option<Reports>,
+) -> Result<Told, Refusal<'w>>
     ensures status { IfOk result (λ t. t.status ≡ run_status (told_outcome outcome.now)) }
     ensures text { IfOk result (λ t. string_bytes t.text ≡ run_text script.now.calls (told_outcome outcome.now)) }
+    ensures reports { IfOk result (λ t. t.reports ≡ reports) }
     ensures no_memory { IfErr result (λ r. r ≡ Refusal.NoMemory) }
 {
     match run_text(alloc, script.calls.as_slice(), outcome) {
         Ok(text) => Ok(Told {
             status: status_of(outcome),
             text,
+            reports,
         }),
         Err(_) => Err(Refusal::NoMemory),
     }
 }
 
-// Why a module and a script are not run.
-fn unlinked<'w>(script: Script, fault: LinkFault) -> Refusal<'w>
+/// Why a module and a script are not run.
+pub(crate) fn unlinked<'w>(script: Script, fault: LinkFault) -> Refusal<'w>
     requires { (call : ℕ) → fault ≡ LinkFault.NoExport call → call < length script.calls }
     ensures { IsTold script.calls fault result }
 {

@@ -1,6 +1,7 @@
 // Commands over one subject, from the words to what stands under the target's name and what is printed.
 
 use crate::run_app;
+use analyses::{Analysis, Blocks, Branches, CallGraph, MemoryUse};
 use outside_io::{Fail, MemoryShelf, MemorySink};
 use std::alloc::{AllocError, Global};
 use std::test;
@@ -151,7 +152,7 @@ pub(crate) fn fails_of(alloc: Global, fail: Option<Fail>) -> Result<Vec<Fail>, A
     Ok(fails)
 }
 
-// The status of the command with these words behind the program's name.
+// The status of the command with these words behind the program's name, and with four fresh analyses.
 pub(crate) fn status_of<R: Threads + Sync>(
     rt: &R,
     alloc: Global,
@@ -164,7 +165,12 @@ pub(crate) fn status_of<R: Threads + Sync>(
     for word in words.split_whitespace() {
         owned.push(String::from_str(alloc, word)?)?;
     }
-    Ok(run_app(rt, alloc, &owned, shelf, sink))
+    let mut tools: Vec<Box<dyn Analysis>> = Vec::new(alloc);
+    tools.push(Box::new(alloc, Blocks::new(alloc))?)?;
+    tools.push(Box::new(alloc, Branches::new(alloc))?)?;
+    tools.push(Box::new(alloc, CallGraph::new(alloc))?)?;
+    tools.push(Box::new(alloc, MemoryUse::new(alloc))?)?;
+    Ok(run_app(rt, alloc, &owned, shelf, sink, &mut tools))
 }
 
 #[test]

@@ -1,19 +1,31 @@
 // The words of a command.
 
-ghost use Rattle.std.specs.Prelude.{◌≡◌, ◌↔◌, ◌≤◌, [], ◌∷◌, IsTrue, IfSome, MatchOption};
+ghost use Rattle.std.specs.Prelude.{◌≡◌, ◌↔◌, ◌≤◌, [], ◌∷◌, Some, option_map, IsTrue, IfSome, MatchOption};
 ghost use Rattle.wasabi_app.specs.Words.{Adds, AreOptions, IsBound, IsList, IsLine, IsRefused, IsValue, no_options, texts};
-ghost use Rattle.wasabi_app.specs.Reading.{AddsNone, AreNoOptions, IsCommand, IsModeOf, IsNoBound, IsNoList, IsNoMode, options_of};
+ghost use Rattle.wasabi_app.specs.Reading.{AddsNone, AreNoOptions, IsCommand, IsLineOf, IsModeOf, IsNoBound, IsNoLine, IsNoList, IsNoMode, IsNoReport, IsReportOf, line_of, options_of, report_line_of};
 
+use crate::kinds::{Kinds, read_kinds};
 use hook_select::{Hooks, read_list};
 
 /// What a command of the mode `instrument` asks for: the subject is instrumented for these groups, and written under the
-/// target's name where the output has no more bytes than the bound.
+/// target's name where the output has no more bytes than the bound; and the information under its name, where it has one.
 #[derive(Clone, Copy)]
 pub(crate) struct Line<'w> {
     pub(crate) subject: &'w str,
     pub(crate) target: &'w str,
+    pub(crate) info: Option<&'w str>,
     pub(crate) hooks: Hooks,
     pub(crate) bound: u64,
+}
+
+/// What a command of the mode `report` asks for: the subject is run by the script, and its hook calls are read with the
+/// information, for these kinds of reports.
+#[derive(Clone, Copy)]
+pub(crate) struct ReportLine<'w> {
+    pub(crate) subject: &'w str,
+    pub(crate) info: &'w str,
+    pub(crate) script: &'w str,
+    pub(crate) kinds: Kinds,
 }
 
 /// What a command asks for.
@@ -22,15 +34,18 @@ pub(crate) enum Command<'w> {
     Check { subject: &'w str },
     Instrument(Line<'w>),
     Run { subject: &'w str, script: &'w str },
+    Report(ReportLine<'w>),
 }
 
 // What the options say.
 #[derive(Clone, Copy)]
 struct Options<'w> {
     target: Option<&'w str>,
+    info: Option<&'w str>,
     hooks: Option<Hooks>,
     bound: Option<u64>,
     script: Option<&'w str>,
+    kinds: Option<Kinds>,
 }
 
 // The most bytes that an output may have.
@@ -44,6 +59,13 @@ fn is_value(text: &str) -> bool
         [] => false,
         [first, ..] => *first != b'-',
     }
+}
+
+// The name that a text is; none where it is empty or begins with `-`.
+fn read_name(text: &str) -> Option<&str>
+    ensures { MatchOption result (¬ IsValue text.now) (λ name. (name.now ≡ text.now) × IsValue text.now) }
+{
+    if is_value(text) { Some(text) } else { None }
 }
 
 // The set of groups that a list names; none where it is no list.
@@ -71,33 +93,33 @@ fn with_option<'w>(options: &Options<'w>, name: &str, value: &'w str) -> Option<
     ensures { MatchOption result (AddsNone name.now value.now (options_of options.now))
         (λ added. Adds name.now value.now (options_of options.now) (options_of added)) }
 {
-    if name == "--out" && options.target.is_none() && is_value(value) {
-        return Some(Options {
-            target: Some(value),
+    match name {
+        "--out" if options.target.is_none() => Some(Options {
+            target: Some(read_name(value)?),
             ..*options
-        });
-    }
-    if name == "--hooks" && options.hooks.is_none() {
-        let hooks = read_hooks(value)?;
-        return Some(Options {
-            hooks: Some(hooks),
+        }),
+        "--info" if options.info.is_none() => Some(Options {
+            info: Some(read_name(value)?),
             ..*options
-        });
-    }
-    if name == "--max-output" && options.bound.is_none() {
-        let bound = read_bound(value)?;
-        return Some(Options {
-            bound: Some(bound),
+        }),
+        "--hooks" if options.hooks.is_none() => Some(Options {
+            hooks: Some(read_hooks(value)?),
             ..*options
-        });
-    }
-    if name == "--script" && options.script.is_none() && is_value(value) {
-        return Some(Options {
-            script: Some(value),
+        }),
+        "--max-output" if options.bound.is_none() => Some(Options {
+            bound: Some(read_bound(value)?),
             ..*options
-        });
+        }),
+        "--reports" if options.kinds.is_none() => Some(Options {
+            kinds: Some(read_kinds(value)?),
+            ..*options
+        }),
+        "--script" if options.script.is_none() => Some(Options {
+            script: Some(read_name(value)?),
+            ..*options
+        }),
+        _ => None,
     }
-    None
 }
 
 // What these options and those before them say; none where they are none.
@@ -128,9 +150,11 @@ pub(crate) fn read_command(words: &[String]) -> Option<Command<'_>>
     }
     let none = Options {
         target: None,
+        info: None,
         hooks: None,
         bound: None,
         script: None,
+        kinds: None,
     };
     let options = read_options(&none, rest)?;
     command_of(mode.as_str(), subject, &options)
@@ -142,16 +166,51 @@ fn command_of<'w>(mode: &str, subject: &'w str, options: &Options<'w>) -> Option
 {
     match mode {
         "check" => Some(Command::Check { subject }),
-        "instrument" => Some(Command::Instrument(Line {
-            subject,
-            target: options.target?,
-            hooks: options.hooks.unwrap_or(Hooks::all()),
-            bound: options.bound.unwrap_or(LONGEST_OUTPUT),
-        })),
+        "instrument" => Some(Command::Instrument(output_line(subject, options)?)),
         "run" => Some(Command::Run {
             subject,
             script: options.script?,
         }),
+        "report" => Some(Command::Report(report_line(subject, options)?)),
         _ => None,
+    }
+}
+
+// The line of this subject; none where the target is missing, or the information would be written over it.
+fn output_line<'w>(subject: &'w str, options: &Options<'w>) -> Option<Line<'w>>
+    ensures { MatchOption result (IsNoLine (options_of options.now)) (λ line. IsLineOf subject.now (options_of options.now) (line_of line)) }
+{
+    let target = options.target?;
+    if is_name(options.info, target) {
+        return None;
+    }
+    Some(Line {
+        subject,
+        target,
+        info: options.info,
+        hooks: options.hooks.unwrap_or(Hooks::all()),
+        bound: options.bound.unwrap_or(LONGEST_OUTPUT),
+    })
+}
+
+// The line of this subject for reports; none where the information or the script is missing.
+fn report_line<'w>(subject: &'w str, options: &Options<'w>) -> Option<ReportLine<'w>>
+    ensures { MatchOption result (IsNoReport (options_of options.now)) (λ line. IsReportOf subject.now (options_of options.now) (report_line_of line)) }
+{
+    Some(ReportLine {
+        subject,
+        info: options.info?,
+        script: options.script?,
+        kinds: options.kinds.unwrap_or(Kinds::all()),
+    })
+}
+
+// Whether this name is given.
+fn is_name(given: Option<&str>, name: &str) -> bool
+    ensures { IsTrue result ↔ (option_map (λ t. t.now) given.entry ≡ Some name.now) }
+{
+    match given {
+        Some(given) => given == name,
+        None => false,
     }
 }

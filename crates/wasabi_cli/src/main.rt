@@ -3,10 +3,13 @@
 
 ghost use Rattle.std.specs.Prelude.{◌≡◌, ◌≢◌};
 
-use outside_io::{HostShelf, HostSink};
+use analyses::{Analysis, Blocks, Branches, CallGraph, MemoryUse};
+use outside_io::{HostShelf, HostSink, Shelf, Sink};
+use std::alloc::{AllocError, Global};
 use std::env;
 use std::io::ErrorKind;
 use std::process::ExitCode;
+use std::thread::Threads;
 use wasabi_app::run_app;
 
 fn main(rt: HostRuntime) -> ExitCode {
@@ -19,8 +22,24 @@ fn main(rt: HostRuntime) -> ExitCode {
     };
     let mut shelf = HostShelf::new(&rt);
     let mut sink = HostSink::new(&rt);
-    let status = run_app(&rt, rt.alloc(), &words, &mut shelf, &mut sink);
-    ExitCode::from(status)
+    let status = run_with_analyses(&rt, rt.alloc(), &words, &mut shelf, &mut sink);
+    ExitCode::from(status.unwrap_or(14))
+}
+
+// The status of a command with four fresh analyses; an `Err` comes where there is no memory for them.
+fn run_with_analyses<R: Threads + Sync, S: Shelf, K: Sink>(
+    rt: &R,
+    alloc: Global,
+    words: &[String],
+    shelf: &mut S,
+    out: &mut K,
+) -> Result<u8, AllocError> {
+    let mut tools: Vec<Box<dyn Analysis>> = Vec::new(alloc);
+    tools.push(Box::new(alloc, Blocks::new(alloc))?)?;
+    tools.push(Box::new(alloc, Branches::new(alloc))?)?;
+    tools.push(Box::new(alloc, CallGraph::new(alloc))?)?;
+    tools.push(Box::new(alloc, MemoryUse::new(alloc))?)?;
+    Ok(run_app(rt, alloc, words, shelf, out, &mut tools))
 }
 
 // The status where the words can't be read: 14 for want of memory, else 2.

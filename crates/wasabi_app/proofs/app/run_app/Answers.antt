@@ -2,8 +2,9 @@
 use Rattle.std.proofs.Common.{◌≡◌, None, arith}
 use Rattle.wasabi_app.specs.Files.{IsNoModule, IsUnfit, IsInvalid}
 use Rattle.wasabi_app.specs.Ends.{IsAboveCap}
-use Rattle.wasabi_app.proofs.Causes.{ends_inverted, why_of, any_shelf, check_keeps, run_keeps, is_written, is_kept, is_ran, is_ran_part, is_trapped, is_unfinished}
-use Rattle.wasabi_app.proofs.Told.{none, over, malformed, unfit, invalid, decides, decides_file, decides_taken, decides_too_large, decides_script, decides_linking, checks_all, completes, runs_all}
+use Rattle.wasabi_app.proofs.Causes.{ends_inverted, why_of, any_shelf, check_keeps, run_keeps, report_keeps, is_written, is_kept, is_ran, is_ran_part, is_reported, is_reported_part, is_trapped, is_unfinished}
+use Rattle.wasabi_app.proofs.Told.{none, over, malformed, unfit, invalid, decides, decides_file, decides_taken, decides_too_large, decides_script, decides_info, decides_linking, checks_all, completes, runs_all, reports_all}
+use Rattle.wasabi_app.proofs.Taken.{told_by, took_all, took_part, took_none, others_none}
 use Rattle.wasabi_app.proofs.app.run_app.Goals as goal
 
 pub returns-clause-ended : goal.returns-clause-ended
@@ -113,3 +114,33 @@ returns-clause-unlinked g c = decides_linking _ _ _ _ (c.tell.ensures.ended _ _ 
 
 pub returns-clause-runs : goal.returns-clause-runs
 returns-clause-runs g c = runs_all _ _ _ _ (c.tell.ensures.ended _ _ _ c.answer-ending.ensures.ended)
+
+pub returns-clause-bad_info : goal.returns-clause-bad_info
+returns-clause-bad_info g c = why_of _ 16 (c.tell.ensures.ended _ _ _ c.answer-ending.ensures.ended)
+
+pub returns-clause-reported : goal.returns-clause-reported
+returns-clause-reported g c = is_reported _ (c.tell.ensures.ended _ _ _ c.answer-ending.ensures.ended)
+
+pub returns-clause-reported_part : goal.returns-clause-reported_part
+returns-clause-reported_part g c = is_reported_part _ (c.tell.ensures.ended _ _ _ c.answer-ending.ensures.ended)
+
+pub returns-clause-report_keeps : goal.returns-clause-report_keeps
+returns-clause-report_keeps g c = report_keeps _ (c.tell.ensures.ended _ _ _ c.answer-ending.ensures.ended)
+
+pub returns-clause-wrong_info : goal.returns-clause-wrong_info
+returns-clause-wrong_info g c = decides_info _ _ _ _ (c.tell.ensures.ended _ _ _ c.answer-ending.ensures.ended)
+
+pub returns-clause-reports : goal.returns-clause-reports
+returns-clause-reports g c = reports_all _ _ _ _ (c.tell.ensures.ended _ _ _ c.answer-ending.ensures.ended)
+
+pub returns-clause-took : goal.returns-clause-took
+returns-clause-took g c = took_all _ _ _ _ _ _ (told_by _ _ c.tell.ensures.answered c.tell.ensures.refused) c.answer-ending.ensures.took
+
+pub returns-clause-took_part : goal.returns-clause-took_part
+returns-clause-took_part g c = λ _. took_part _ _ _ _ _ c.answer-ending.ensures.took
+
+pub returns-clause-took_none : goal.returns-clause-took_none
+returns-clause-took_none g c = took_none _ _ _ _ _ _ _ (told_by _ _ c.tell.ensures.answered c.tell.ensures.refused) c.answer-ending.ensures.ended c.answer-ending.ensures.took
+
+pub returns-clause-others_take_none : goal.returns-clause-others_take_none
+returns-clause-others_take_none g c = others_none _ _ _ _ _ c.answer-ending.ensures.took

@@ -9,7 +9,7 @@ use Rattle.module_ast.proofs.Wholes.{read_whole}
 use Rattle.wasabi_app.proofs.check_mode.check.Goals as goal
 
 pub returns-in_err-valid-clause-ended : goal.returns-in_err-valid-clause-ended
-returns-in_err-valid-clause-ended g c = λ words k.
+returns-in_err-valid-clause-ended g c = λ words tools k.
     let p = err_from_is_err_and c.from_residual.result c.from_residual.ensures.1 in
     rw (p.1, p.2) (unloaded _ _ _ (check_reads k) (rw c.wide.ensures at c.in_err-valid.ensures.refused) c.in_err-valid.ensures.kept)
 
@@ -19,9 +19,9 @@ count-requires g c =
     subst IsWhole (sym c.module.ensures.module) (read_whole wide is.bytes c.in_ok-valid.valid is.read.short (omega arith) is.fit.spelled is.fit.within)
 
 pub returns-in-Ok-clause-ended : goal.returns-in-Ok-clause-ended
-returns-in-Ok-clause-ended g c = λ words k.
+returns-in-Ok-clause-ended g c = λ words tools k.
     answers_checked words _ _ c.args.subject.now _ c.in_ok-valid.valid k (rw c.wide.ensures at c.in_ok-valid.ensures.ok) c.load.ensures.kept
     (c.in-Ok.ensures ∙ ap ok_text (c.count.ensures ∙ ap counts_of c.module.ensures.module))
 
 pub returns-clause-ended : goal.returns-clause-ended
-returns-clause-ended g c = λ words k. memory_ended (inl c.load.ensures.kept)
+returns-clause-ended g c = λ words tools k. memory_ended (inl c.load.ensures.kept)

@@ -1,15 +1,15 @@
 -- A subject that is not loaded, that has no output, or whose output was to be written.
-use Rattle.std.proofs.Common.{rules}
+use Rattle.std.proofs.Common.{arith}
 use Rattle.std.proofs.lemmas.Result.{err_from_is_err_and}
 use Rattle.wasabi_app.specs.Reading.{line_of}
 use Rattle.wasabi_app.specs.Ends.{unloaded}
-use Rattle.wasabi_app.proofs.Contents.{wrote_after, part_after}
+use Rattle.wasabi_app.proofs.Contents.{both_after, write_cause_after}
 use Rattle.wasabi_app.proofs.Files.{canonical_short}
-use Rattle.wasabi_app.proofs.Outputs.{line_reads, refuses_unmade, answers_written, refuses_unwritten, refuses_written}
+use Rattle.wasabi_app.proofs.Outputs.{line_reads, refuses_unmade, answers_written, refuses_unwritten}
 use Rattle.wasabi_app.proofs.instrument_mode.instrument.Goals as goal
 
 pub returns-in_err-valid-clause-ended : goal.returns-in_err-valid-clause-ended
-returns-in_err-valid-clause-ended g c = λ words k.
+returns-in_err-valid-clause-ended g c = λ words tools k.
     let p = err_from_is_err_and c.from_residual.result c.from_residual.ensures.1 in
     rw (p.1, p.2) (unloaded _ _ _ (line_reads k) (rw c.narrow.ensures at c.in_err-valid.ensures.refused) c.in_err-valid.ensures.kept)
 
@@ -22,25 +22,21 @@ make-requires-clause-short g c =
     λ _ _. canonical_short is.bytes c.in_ok-valid.valid is.read.short is.fit.spelled
 
 pub returns-in_err-output-clause-ended : goal.returns-in_err-output-clause-ended
-returns-in_err-output-clause-ended g c = λ words k.
+returns-in_err-output-clause-ended g c = λ words tools k.
     let p = err_from_is_err_and c.from_residual-in_err-output.result c.from_residual-in_err-output.ensures.1 in
     rw (p.1, p.2) (refuses_unmade words _ _ (line_of c.args.line.now) c.in_ok-valid.valid _ _ k (rw c.narrow.ensures at c.in_ok-valid.ensures.ok) c.load.ensures.kept
     c.in_err-output.ensures.refused)
 
-pub returns-in-Ok-clause-ended : goal.returns-in-Ok-clause-ended
-returns-in-Ok-clause-ended g c = λ words k.
-    answers_written words _ _ (line_of c.args.line.now) c.in_ok-valid.valid _ _ k (rw c.narrow.ensures at c.in_ok-valid.ensures.ok)
+pub returns-in_err-write-clause-ended : goal.returns-in_err-write-clause-ended
+returns-in_err-write-clause-ended g c = λ words tools k.
+    let p = err_from_is_err_and c.from_residual-in_err-write.result c.from_residual-in_err-write.ensures.1 in
+    rw (p.1, p.2) (refuses_unwritten words _ _ (line_of c.args.line.now) c.in_ok-valid.valid _ _ _ _ _ k (rw c.narrow.ensures at c.in_ok-valid.ensures.ok)
     c.in_ok-output.ensures.ok
-    (wrote_after _ _ _ _ _ c.load.ensures.kept (rw c.as_slice.ensures.value at c.in-Ok.ensures.written))
-
-pub returns-in-Err-Failed-clause-ended : goal.returns-in-Err-Failed-clause-ended
-returns-in-Err-Failed-clause-ended g c = λ words k.
-    refuses_unwritten words _ _ (line_of c.args.line.now) c.in_ok-valid.valid _ _ k (rw c.narrow.ensures at c.in_ok-valid.ensures.ok)
-    c.in_ok-output.ensures.ok (rw (← c.load.ensures.write_count) (search rules))
-    (part_after _ _ _ _ _ c.load.ensures.kept (rw c.as_slice.ensures.value at c.in-Err-Failed.ensures.part))
+    (write_cause_after _ _ _ _ _ _ _ _ c.load.ensures.kept (omega (arith, c.load.ensures.write_count))
+    (rw (c.as_slice.ensures.value, c.as_slice-2.ensures.value) at c.in_err-write.ensures.refused)))
 
 pub returns-clause-ended : goal.returns-clause-ended
-returns-clause-ended g c = λ words k.
-    refuses_written words _ _ (line_of c.args.line.now) c.in_ok-valid.valid _ _ k (rw c.narrow.ensures at c.in_ok-valid.ensures.ok)
+returns-clause-ended g c = λ words tools k.
+    answers_written words _ _ (line_of c.args.line.now) c.in_ok-valid.valid _ _ _ k (rw c.narrow.ensures at c.in_ok-valid.ensures.ok)
     c.in_ok-output.ensures.ok
-    (part_after _ _ _ _ _ c.load.ensures.kept (rw c.as_slice.ensures.value at c.in-Err-NoMemory.ensures.part))
+    (both_after (line_of c.args.line.now) _ _ _ _ _ c.load.ensures.kept (rw (c.as_slice.ensures.value, c.as_slice-2.ensures.value) at c.in_ok-write.ensures.written))

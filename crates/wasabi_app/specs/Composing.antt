@@ -1,0 +1,45 @@
+-- What the reports on an output tell of the original.
+use Rattle.std.specs.Prelude.{◌≡◌, ℕ, List, IsTrue, is_some, All}
+use Rattle.module_ast.specs.declared.module.Module.{Module}
+use Rattle.module_ast.specs.Limits.{wide}
+use Rattle.hook_select.specs.declared.Event.{Event}
+use Rattle.hook_select.specs.declared.Hooks.{Hooks}
+use Rattle.hook_select.specs.Events.{group_of}
+use Rattle.wasm_sem.specs.declared.Script.{Script}
+use Rattle.wasm_sem.specs.Events.{events_in}
+use Rattle.wasm_sem.specs.Link.{IsScriptInRange, Links}
+use Rattle.static_info.specs.declared.Info.{Info}
+use Rattle.static_info.specs.Belongs.{Belongs}
+use Rattle.static_info.specs.Info.{info_of}
+use Rattle.static_info.specs.Json.{HoldInfo}
+use Rattle.instrument.specs.Accepted.{IsInstrumented}
+use Rattle.instrument.specs.Same.{IsPrefix, IsOver, SameRuns, shown_so_far}
+use Rattle.wasabi_app.specs.declared.kinds.Kinds.{Kinds}
+use Rattle.wasabi_app.specs.Files.{IsFit}
+use Rattle.wasabi_app.specs.Reporting.{events_told, reports_text}
+
+-- the events of the selected groups that the original shows in so many steps
+abbrev pub selected_events : Module → Hooks → Script → (steps : ℕ) → List Event
+selected_events m hooks s steps = events_in (shown_so_far m hooks s steps)
+
+-- where its run is over, the reports on the output are those on the original's selected events; else its events are the first of
+-- these; and none is a stray
+pub record ReportsOriginal (m : Module) (hooks : Hooks) (info : Info) (o : Module) (s : Script) (steps : ℕ) : Type 0 where
+  pub whole : IsOver o s steps → (kinds : Kinds) → reports_text kinds (events_told info o s steps) ≡ reports_text kinds (selected_events m hooks s steps)
+  pub begun : IsPrefix (events_told info o s steps) (selected_events m hooks s steps)
+  pub no_stray : All (λ (e : Event). IsTrue (is_some (group_of e))) (events_told info o s steps)
+
+-- so it is with runs that are the same
+abbrev pub SameRunsReport : Type 0
+SameRunsReport =
+    (m : Module) (hooks : Hooks) (o : Module) (s : Script) → SameRuns m hooks o s
+    → (steps : ℕ) → ReportsOriginal m hooks (info_of m hooks) o s steps
+
+-- So it is with the output of each accepted file, read as a module, and bytes that hold the information on its original, read as
+-- information: this belongs to that, which links with each script with which the original links.
+abbrev pub OutputsReport : Type 0
+OutputsReport =
+    (file : List ℕ) (hooks : Hooks) (written : List ℕ) (has : IsInstrumented file hooks written) (o : Module) → IsFit wide written o
+    → (told : List ℕ) (info : Info) → HoldInfo told (info_of has.original hooks) → HoldInfo told info
+    → (s : Script) → IsScriptInRange s → Links has.original s
+    → Belongs info o × Links o s × ((steps : ℕ) → ReportsOriginal has.original hooks info o s steps)

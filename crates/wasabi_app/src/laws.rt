@@ -1,0 +1,14 @@
+// What reports tell of the original.
+
+ghost use Rattle.wasabi_app.specs.Composing.{SameRunsReport, OutputsReport};
+
+/// Where a module and one with hooks run alike under a script, the reports on the second, with the information on the first,
+/// are those on the first one's selected events, once its run is over. Before, its events are the first of these. None is a
+/// stray.
+///
+/// So it is with the output of each accepted file, read as a module, and the information on its original: with each script
+/// with which the original links, the mode `report` prints the reports on the original's selected events.
+pub fn reports_compose()
+    ensures same_runs { SameRunsReport }
+    ensures outputs { OutputsReport }
+{}
