@@ -10,7 +10,7 @@ use Rattle.module_ast.specs.Seen.{code_of}
 use Rattle.module_ast.specs.Tokens.{IsToken}
 use Rattle.module_ast.specs.declared.code.BlockType.{BlockType}
 use Rattle.module_ast.specs.declared.code.Instr.{Instr}
-use Rattle.module_ast.proofs.Tokens.{token_shorter}
+use Rattle.module_ast.proofs.SpelledTokens.{token_shorter}
 use Rattle.leb_binary.proofs.Fronts.{front_one}
 use Rattle.code_decode.specs.Answers.{IsExprAnswer}
 use Rattle.code_decode.specs.Nesting.{tree_nesting}

@@ -1,10 +1,8 @@
 -- Words ask for one task at most.
-use Rattle.std.proofs.Common.{◌≡◌, ℕ, List, refl, ap, get_or, codes, sym, ◌∙◌, subst, cond, eqb, Option, Some, unwrap_or}
+use Rattle.std.proofs.Common.{◌≡◌, ℕ, List, refl, ap, get_or, codes, sym, ◌∙◌, subst, cond, eqb, Option, Some}
 use Rattle.hook_select.specs.declared.Hooks.{Hooks}
-use Rattle.instrument.specs.Made.{longest_output}
 use Rattle.wasabi_app.specs.declared.kinds.Kinds.{Kinds}
-use Rattle.wasabi_app.specs.Kinds.{all_reports}
-use Rattle.wasabi_app.specs.Words.{Options, Line, ReportLine, Asks, IsLine, IsCheck, IsRun, IsReport, Task, to_check, to_instrument, to_run, to_report, AsksFor, no_options, AreOptions, all_hooks}
+use Rattle.wasabi_app.specs.Words.{Options, Line, ReportLine, Asks, IsLine, IsCheck, IsRun, IsReport, Task, to_check, to_instrument, to_run, to_report, AsksFor, no_options, AreOptions}
 use Rattle.wasabi_app.specs.Reading.{IsLineOf, IsReportOf}
 use Rattle.wasabi_app.proofs.OptionWords.{alike, one_options}
 

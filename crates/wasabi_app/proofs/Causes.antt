@@ -8,7 +8,7 @@ use Rattle.wasm_sem.specs.Link.{Refusal, no_export, bad_args, memory_cap, table_
 use Rattle.static_info.specs.declared.Info.{Info}
 use Rattle.wasabi_app.specs.Words.{Line, ReportLine, IsCheck, IsLine, IsRun, IsReport, IsRefused, Task, to_check, to_instrument, to_run, to_report, AsksFor}
 use Rattle.wasabi_app.specs.Files.{IsNoModule, IsUnfit, IsInvalid}
-use Rattle.wasabi_app.specs.Reads.{Want, valid_module, a_script, an_info, Read, read_as, module_read, IsRead, IsNoInfo, no_json, no_info, of_another, Reads}
+use Rattle.wasabi_app.specs.Reads.{Want, valid_module, a_script, an_info, Read, read_as, module_read, IsRead, no_json, no_info, of_another, Reads}
 use Rattle.wasabi_app.specs.RunTexts.{has_trapped}
 use Rattle.wasabi_app.specs.Linking.{link_status}
 use Rattle.wasabi_app.specs.Texts.{no_memory_text}

@@ -1,7 +1,7 @@
 -- Bytes hold one information at most.
 use Rattle.std.proofs.Common.{◌≡◌, ℕ, List, sym, subst}
 use Rattle.serde_json.specs.Data.{Data}
-use Rattle.json_form.specs.Text.{IsText, IsNoText}
+use Rattle.json_form.specs.Text.{IsNoText}
 use Rattle.static_info.specs.declared.Info.{Info}
 use Rattle.static_info.specs.Json.{IsInfo, HoldInfo, HoldNoInfo}
 use Rattle.static_info.proofs.InfoShapes.{infos_unique}

@@ -1,5 +1,5 @@
 -- What came of a module that was loaded, and of its output, as it was made and written.
-use Rattle.std.proofs.Common.{◌≡◌, ◌≢◌, ℕ, List, refl, inl, inr, sym, ap, subst, ◌∙◌, length, Option, Some, None, Result, Ok, Err, IfOk}
+use Rattle.std.proofs.Common.{◌≡◌, ◌≢◌, ℕ, List, refl, inl, sym, ap, subst, ◌∙◌, length, Option, Some, None, Result, Ok, Err, IfOk}
 use Rattle.outside_io.specs.Outside.{Contents, Unchanged, Wrote}
 use Rattle.module_ast.specs.declared.module.Module.{Module}
 use Rattle.module_ast.specs.declared.module.Limits.{Limits}

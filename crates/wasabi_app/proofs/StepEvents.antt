@@ -20,6 +20,7 @@ use Rattle.wasm_sem.proofs.Runs.{trace_add}
 use Rattle.static_info.specs.declared.Info.{Info}
 use Rattle.static_info.specs.Items.{read_call, read}
 use Rattle.static_info.proofs.Reading.{read_append}
+use Rattle.instrument.proofs.Reports.{events_append}
 
 -- ---- the hook call of a step
 
@@ -134,14 +135,6 @@ pub trace_next : (m : Module) (s : Script) (n : ℕ) → trace_of m s (n + 1) �
 trace_next m s n =
     trace_add (instance m s) n 1 (opening_configuration m s) ∙ ap (λ is. trace_of m s n ++ is) (append-nil (items (instance m s) (run_of m s n)))
 
--- the events of two stretches stand one behind the other
-events_behind : (xs ys : List TraceItem) → events_in (xs ++ ys) ≡ events_in xs ++ events_in ys
-events_behind [] ys = refl
-events_behind (event e ∷ is) ys = ap (λ (t : List Event). e ∷ t) (events_behind is ys)
-events_behind (entry c ∷ is) ys = events_behind is ys
-events_behind (host_call f vs rs ws ∷ is) ys = events_behind is ys
-events_behind (hook_call h ∷ is) ys = events_behind is ys
-
 -- one step more tells the events of its hook call behind the others
 pub events_next : (info : Info) (slots : List (Option ℕ)) (m : Module) (s : Script) (n : ℕ)
     → events_in (read info slots (trace_of m s (n + 1))) ≡ events_in (read info slots (trace_of m s n)) ++ call_told info slots (hook_in (items (instance m s) (run_of m s n)))
@@ -149,7 +142,7 @@ events_next info slots m s n =
     let next = items (instance m s) (run_of m s n) in
     ap (λ is. events_in (read info slots is)) (trace_next m s n)
     ∙ ap events_in (read_append info slots (trace_of m s n) next)
-    ∙ events_behind (read info slots (trace_of m s n)) (read info slots next)
+    ∙ events_append (read info slots (trace_of m s n)) (read info slots next)
     ∙ ap (λ es. events_in (read info slots (trace_of m s n)) ++ es) (step_events info slots (instance m s) (run_of m s n))
 
 -- ---- the table

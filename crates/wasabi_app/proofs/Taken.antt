@@ -1,5 +1,5 @@
 -- What the analyses have taken, by how a command ended.
-use Rattle.std.proofs.Common.{◌≡◌, ◌≢◌, ℕ, ◌⊎◌, inl, inr, List, [], ◌∷◌, ◌++◌, refl, sym, subst, ◌∙◌, arith, append-nil, All, map, Bool, true, false, ◌||◌, eqb, string_bytes, Option, Some, None, Result, Ok, Err, IfOk, IfErr}
+use Rattle.std.proofs.Common.{◌≡◌, ◌≢◌, ℕ, ◌⊎◌, inl, inr, List, [], ◌∷◌, ◌++◌, refl, sym, subst, ◌∙◌, arith, append-nil, All, Bool, true, false, ◌||◌, eqb, string_bytes, Option, Some, None, Result, Ok, Err, IfOk, IfErr}
 use Rattle.std.proofs.lemmas.List.Elements.{All-from_recursion, All-nil}
 use Rattle.outside_io.specs.Outside.{Contents}
 use Rattle.hook_select.specs.declared.Event.{Event}
@@ -18,7 +18,7 @@ use Rattle.wasabi_app.specs.declared.lines.Reports.{Reports}
 use Rattle.wasabi_app.specs.Words.{ReportLine, IsReport}
 use Rattle.wasabi_app.specs.Printing.{PrintState, Said, said, said_part, said_no_memory, ShelfState}
 use Rattle.wasabi_app.specs.Refusals.{refusal_status, script_status}
-use Rattle.wasabi_app.specs.Feeding.{fed_tool, fed, IsFedPart, AreFedPart, fresh_tools}
+use Rattle.wasabi_app.specs.Feeding.{fed, AreFedPart, fresh_tools}
 use Rattle.wasabi_app.specs.Ends.{Answers, IsShown, tools_text, told_with, TookAll, TookPart, TakesBy, ComesTo, Ends, answered}
 use Rattle.wasabi_app.proofs.Causes.{Whole, done, trapped, unfinished, answer_whole}
 

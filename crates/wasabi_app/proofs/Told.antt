@@ -8,7 +8,7 @@ use Rattle.module_ast.specs.Limits.{narrow, wide}
 use Rattle.instrument.specs.Made.{narrow_file}
 use Rattle.wasm_sem.specs.declared.Script.{Script}
 use Rattle.wasm_sem.specs.Link.{IsFree, Refusal, link, Links}
-use Rattle.wasabi_app.specs.Words.{Line, ReportLine, IsLine, IsCheck, IsRefused, Task, to_check, to_instrument, to_run, to_report, AsksFor}
+use Rattle.wasabi_app.specs.Words.{Line, IsLine, IsCheck, IsRefused, Task, to_check, to_instrument, to_run, to_report, AsksFor}
 use Rattle.wasabi_app.specs.Files.{IsValidFile, IsNoModule, IsUnfit, IsInvalid, IsScript, IsScriptFile, IsNoScript, wide_file}
 use Rattle.wasabi_app.specs.Reads.{Want, valid_module, a_script, an_info, Read, module_read, reads_of, IsInfoFile, IsNoInfo, no_json, no_info, of_another, OfModule, OfScript, OfInfo, IsWanted, IsGood, IsReached, Reads, IsLoaded, IsScripted}
 use Rattle.wasabi_app.specs.Printing.{ShelfState, shelf_state, PrintState}

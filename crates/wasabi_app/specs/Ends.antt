@@ -1,6 +1,6 @@
 -- How a command ends: what stands on the shelf, what is printed, and the status.
 use Rattle.std.specs.Prelude.{◌≡◌, ℕ, ◌<◌, ◌≤◌, ◌⊎◌, List, ◌++◌, length, flat_map, filter, Option, Some, None, Result, Ok, Err, string_bytes}
-use Rattle.outside_io.specs.Outside.{Contents, Rose, WhereKnown, Unchanged, IsMissing, IsTooLong, Printed, PrintedPart}
+use Rattle.outside_io.specs.Outside.{Contents, WhereKnown, Unchanged, IsMissing, IsTooLong, Printed, PrintedPart}
 use Rattle.module_ast.specs.declared.module.Limits.{Limits}
 use Rattle.module_ast.specs.declared.module.Module.{Module}
 use Rattle.module_ast.specs.Limits.{narrow, wide}

@@ -8,14 +8,11 @@ ghost use Rattle.wasabi_app.specs.Words.{IsCheck};
 
 use crate::counts::count;
 use crate::lines::{Refusal, Told};
-use crate::load::load;
+use crate::load::{LONGEST_SUBJECT, load};
 use module_ast::module::Limits;
 use outside_io::Shelf;
 use std::alloc::Global;
 use std::thread::Threads;
-
-// How many bytes a subject may have.
-const LONGEST_SUBJECT: u64 = 268_435_456;
 
 /// Reads the subject and checks it; the line of its counts, or why it is refused. No name is changed.
 pub(crate) fn check<'w, R: Threads + Sync, S: Shelf>(

@@ -92,7 +92,7 @@ fn kind_named(name: &str) -> Option<Kind>
 
 /// The set of a list: `all`, or names of kinds with single commas between them, where repeats are allowed. None where a
 /// piece between commas names no kind: so it is with the empty text, and with `all` in a longer list.
-pub fn read_kinds(list: &str) -> Option<Kinds>
+pub(crate) fn read_kinds(list: &str) -> Option<Kinds>
     ensures { result ≡ read_kinds list.now }
 {
     match list {

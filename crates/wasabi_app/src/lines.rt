@@ -1,7 +1,7 @@
 // The lines that are printed.
 
 ghost use Rattle.std.specs.Prelude.{◌≡◌, IfOk, IfSome, Some, string_bytes};
-ghost use Rattle.wasabi_app.specs.Texts.{wrote_text, ok_text, which_name, no_memory_text};
+ghost use Rattle.wasabi_app.specs.Texts.{wrote_text, ok_text, which_name};
 ghost use Rattle.wasabi_app.specs.Refusals.{refusal_status, refusal_text};
 
 use crate::feeding::Tally;

@@ -26,6 +26,9 @@ use wasm_decode::{DecodeFault, decode};
 use wasm_sem::Script;
 use wasm_valid::{Invalid, ValidModule, validate};
 
+/// How many bytes a subject may have that is read as it is.
+pub(crate) const LONGEST_SUBJECT: u64 = 268_435_456;
+
 // How many bytes a script may have.
 const LONGEST_SCRIPT: u64 = 16_777_216;
 

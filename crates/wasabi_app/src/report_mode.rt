@@ -1,6 +1,6 @@
 // The mode `report`.
 
-ghost use Rattle.std.specs.Prelude.{◌≡◌, ◌<◌, ◌≤◌, ◌⊎◌, ℕ, List, All, map, IfOk, IfErr, OnErr, length};
+ghost use Rattle.std.specs.Prelude.{◌≡◌, ◌<◌, ◌≤◌, ◌⊎◌, ℕ, List, All, map, IfOk, IfErr, OnErr};
 ghost use Rattle.module_ast.specs.Validity.{IsValid};
 ghost use Rattle.wasm_sem.specs.Answers.{summary_of};
 ghost use Rattle.wasm_sem.specs.Link.{IsScriptInRange, Links, link};
@@ -21,7 +21,7 @@ ghost use Rattle.wasabi_app.specs.Words.{IsReport};
 use crate::feeding::{Tally, feed};
 use crate::kinds::Kinds;
 use crate::lines::{Refusal, Reports, Told};
-use crate::load::{load, load_info, load_script};
+use crate::load::{LONGEST_SUBJECT, load, load_info, load_script};
 use crate::run_mode::{is_over, told, unlinked};
 use crate::words::ReportLine;
 use analyses::Analysis;
@@ -34,9 +34,6 @@ use std::thread::Threads;
 use wasm_num::NoMemory;
 use wasm_sem::Script;
 use wasm_valid::ValidModule;
-
-// How many bytes a subject may have.
-const LONGEST_SUBJECT: u64 = 268_435_456;
 
 // What came of a run, and how many events it told.
 #[derive(Drop)]

@@ -14,7 +14,7 @@ ghost use Rattle.wasabi_app.specs.RunTexts.{run_status, run_text};
 ghost use Rattle.wasabi_app.specs.Words.{IsRun};
 
 use crate::lines::{Refusal, Reports, Told};
-use crate::load::{load, load_script};
+use crate::load::{LONGEST_SUBJECT, load, load_script};
 use crate::run_text::{run_text, status_of};
 use crate::script_lines::ScriptRefusal;
 use module_ast::module::Limits;
@@ -25,9 +25,6 @@ use std::thread::Threads;
 use wasm_num::NoMemory;
 use wasm_sem::{Script, Turn};
 use wasm_valid::ValidModule;
-
-// How many bytes a subject may have.
-const LONGEST_SUBJECT: u64 = 268_435_456;
 
 /// Reads the subject, and then the script, links them and runs them; what the start and the calls came to, or why they are
 /// not run. No name is changed.

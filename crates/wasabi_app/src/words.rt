@@ -1,7 +1,7 @@
 // The words of a command.
 
 ghost use Rattle.std.specs.Prelude.{◌≡◌, ◌↔◌, ◌≤◌, [], ◌∷◌, Some, option_map, IsTrue, IfSome, MatchOption};
-ghost use Rattle.wasabi_app.specs.Words.{Adds, AreOptions, IsBound, IsList, IsLine, IsRefused, IsValue, no_options, texts};
+ghost use Rattle.wasabi_app.specs.Words.{Adds, AreOptions, IsBound, IsList, IsLine, IsRefused, IsValue, texts};
 ghost use Rattle.wasabi_app.specs.Reading.{AddsNone, AreNoOptions, IsCommand, IsLineOf, IsModeOf, IsNoBound, IsNoLine, IsNoList, IsNoMode, IsNoReport, IsReportOf, line_of, options_of, report_line_of};
 
 use crate::kinds::{Kinds, read_kinds};

@@ -1,6 +1,7 @@
 use Rattle.std.proofs.Common.{arith, ap, inl, inr, ◌∙◌, sym}
 use Rattle.module_ast.specs.Tokens.{shape_at}
-use Rattle.module_ast.proofs.Tokens.{float_op, float_access, load_told, store_told, num_told, large}
+use Rattle.module_ast.proofs.Tokens.{float_op, float_access, load_told, store_told, num_told}
+use Rattle.module_ast.proofs.SpelledTokens.{large}
 use Rattle.code_decode.proofs.Classes.{nothing_37, load_40, load_44, store_54, store_58, test_69, small_103, wide_121}
 use Rattle.code_decode.proofs.class.class_of.Goals as goal
 
