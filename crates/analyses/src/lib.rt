@@ -5,8 +5,6 @@ mod analysis;
 mod headings;
 pub mod laws;
 mod ledger;
-#[cfg(test)]
-mod tests;
 mod tools;
 
 pub use crate::analysis::Analysis;

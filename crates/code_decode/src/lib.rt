@@ -7,8 +7,6 @@ mod expr;
 mod fault;
 pub mod laws;
 mod locals;
-#[cfg(test)]
-mod tests;
 mod token;
 mod types;
 

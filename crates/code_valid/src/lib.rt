@@ -10,8 +10,6 @@ mod locals;
 mod marks;
 mod plain;
 mod surveying;
-#[cfg(test)]
-mod tests;
 mod typed_body;
 mod walk;
 

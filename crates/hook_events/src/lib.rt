@@ -3,8 +3,6 @@
 
 mod branches;
 mod events;
-#[cfg(test)]
-mod tests;
 mod told;
 mod words;
 

@@ -73,6 +73,3 @@ fn is_plain(group: GroupName) -> bool
             | GroupName::MemoryGrow
     )
 }
-
-#[cfg(test)]
-mod tests;

@@ -5,8 +5,6 @@ mod forms;
 mod link;
 mod script;
 mod session;
-#[cfg(test)]
-mod tests;
 
 pub use link::LinkFault;
 pub use script::{ScriptFault, read_script};

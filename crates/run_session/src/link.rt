@@ -18,9 +18,6 @@ use wasm_run::{exported_functions, least_pages, least_slots, offset_of, open_glo
 use wasm_sem::{Call, Script};
 use wasm_valid::ValidModule;
 
-#[cfg(test)]
-mod tests;
-
 /// Why a module does not link with a script. The calls are numbered from 0. (Standard, 4.5.4)
 #[derive(Clone, Copy, Debug, PartialEq, Eq)]
 pub enum LinkFault {

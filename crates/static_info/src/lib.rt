@@ -12,8 +12,6 @@ mod keys;
 pub mod laws;
 mod owner;
 mod parsing;
-#[cfg(test)]
-mod tests;
 mod written;
 
 pub use crate::blocks::Blocks;

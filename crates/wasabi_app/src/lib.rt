@@ -22,14 +22,3 @@ mod words;
 pub use app::run_app;
 pub use feeding::{Tally, feed};
 pub use kinds::Kinds;
-
-#[cfg(test)]
-mod needs_tests;
-#[cfg(test)]
-mod report_tests;
-#[cfg(test)]
-mod rewrite_tests;
-#[cfg(test)]
-mod run_tests;
-#[cfg(test)]
-mod tests;

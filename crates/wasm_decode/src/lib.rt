@@ -20,8 +20,6 @@ mod names;
 mod part;
 mod sections;
 mod settle;
-#[cfg(test)]
-mod tests;
 mod types;
 
 pub use crate::fault::DecodeFault;

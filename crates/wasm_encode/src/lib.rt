@@ -17,8 +17,6 @@ mod opcodes;
 mod outline;
 mod sections;
 mod tables;
-#[cfg(test)]
-mod tests;
 mod types;
 mod vectors;
 mod whole;

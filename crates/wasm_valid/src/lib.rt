@@ -15,8 +15,6 @@ pub mod laws;
 mod limits;
 mod names;
 mod rules;
-#[cfg(test)]
-mod tests;
 mod valid_module;
 
 use crate::bodies::check_bodies;

@@ -1,0 +1,15 @@
+// Tests of reading, writing and validating modules. Nothing but tests stands here, so no crate is proved twice for them.
+#![tactic(auto)]
+
+#[cfg(test)]
+mod bodies;
+#[cfg(test)]
+mod decoding;
+#[cfg(test)]
+mod encoding;
+#[cfg(test)]
+mod files;
+#[cfg(test)]
+mod rules;
+#[cfg(test)]
+mod typing;

@@ -1,0 +1,83 @@
+// Names, types and numbers of hooks.
+
+use hook_mono::{HookKey, HookTable, key_of, name_of, type_of};
+use hook_select::GroupName;
+use module_ast::ops::{LoadOp, StoreOp, VarOp};
+use module_ast::seq::Seq;
+use std::test::Fail;
+use wasm_num::{BlockKind, NumOp, ValType};
+
+// Keys, their names, and how many parameters their hooks have.
+#[test]
+fn names_lead_back(rt: HostRuntime) -> Result<(), Fail> {
+    let alloc = rt.alloc();
+    let both = vec![in alloc; ValType::I32, ValType::I64]?;
+    let rows = [
+        (HookKey::Plain(GroupName::MemoryGrow), "memory.grow", 4),
+        (HookKey::Begin(BlockKind::Function), "begin_function", 2),
+        (HookKey::End(BlockKind::Loop), "end_loop", 3),
+        (HookKey::Const(ValType::I64), "i64.const", 4),
+        (HookKey::Num(NumOp::I64Eqz), "i64.eqz", 5),
+        (HookKey::Select(ValType::I64), "select_l", 7),
+        (HookKey::Local(VarOp::Tee, ValType::I64), "local.tee_l", 5),
+        (HookKey::Load(LoadOp::I32Load8U), "i32.load8_u", 5),
+        (HookKey::Store(StoreOp::I64Store16), "i64.store16", 6),
+        (
+            HookKey::IndirectPre(Seq::from_vec(both)),
+            "call_indirect_pre_il",
+            7,
+        ),
+        (
+            HookKey::CallPost(Seq::from_vec(Vec::new(alloc))),
+            "call_post_",
+            2,
+        ),
+    ];
+    for (key, name, params) in rows {
+        let text = name_of(alloc, &key)?;
+        assert_eq!(rt; text.as_str(), name);
+        assert_eq!(rt; type_of(alloc, &key)?.params.as_slice().len(), params);
+        assert_eq!(rt; key_of(alloc, name)?, Some(key));
+    }
+    Ok(())
+}
+
+// Texts that name no hook.
+#[test]
+fn other_names(rt: HostRuntime) -> Result<(), Fail> {
+    let alloc = rt.alloc();
+    for name in [
+        "",
+        "begin",
+        "memory_grow",
+        "global.tee_i",
+        "drop_",
+        "drop_il",
+        "return_ix",
+        "f32.add",
+    ] {
+        assert_eq!(rt; key_of(alloc, name)?, None);
+    }
+    Ok(())
+}
+
+// Keys of one body that comes to each twice.
+#[test]
+fn numbers_stay(rt: HostRuntime) -> Result<(), Fail> {
+    let alloc = rt.alloc();
+    let mut table = HookTable::new(alloc);
+    for (kind, want) in [
+        (BlockKind::Function, 0),
+        (BlockKind::Loop, 1),
+        (BlockKind::Function, 0),
+        (BlockKind::Else, 2),
+    ] {
+        assert!(rt; table.len() < 3);
+        assert_eq!(rt; table.need(HookKey::Begin(kind))?, want);
+    }
+    assert_eq!(rt; table.len(), 3);
+    assert_eq!(rt; table.find(&HookKey::Begin(BlockKind::Else)), Some(2));
+    assert_eq!(rt; table.find(&HookKey::End(BlockKind::Else)), None);
+    assert_eq!(rt; table.key_at(1), Some(&HookKey::Begin(BlockKind::Loop)));
+    Ok(())
+}
