@@ -316,21 +316,12 @@ const LOCALS: &str = "01 027E";
 // results of a body.
 const TYPES: &str = "06 600000 60027F7E017F 6000017E 60017F00 60017F017F 60017F017E";
 
-// What stands before the body, and the number of its function: a module that has it alone, or beside it an imported function
-// of the second type, an imported immutable i32, a defined function of the first type, a mutable i64, a table and a memory.
+// What stands around the body: nothing, or an imported function of the second type, an imported immutable i32, a defined
+// function of the first type, a mutable i64, a table and a memory.
 #[derive(Clone, Copy)]
 enum Around {
     Bare,
     Rich,
-}
-
-impl Around {
-    fn func(self) -> u32 {
-        match self {
-            Around::Bare => 0,
-            Around::Rich => 2,
-        }
-    }
 }
 
 // A file whose last function has an i32 as parameter, these results, these groups of locals and this code.
