@@ -2,7 +2,7 @@
 
 ghost use Rattle.std.specs.Prelude.{◌≡◌, IfSome};
 ghost use Rattle.wasm_sem.specs.Link.{IsScriptInRange};
-ghost use Rattle.wasm_sem.specs.Typed.{IsComplete};
+ghost use Rattle.module_ast.specs.Limits.{IsComplete};
 
 use module_ast::module::{Export, ExportKind, Limits};
 use module_ast::name::Name;

@@ -3,10 +3,8 @@
 ghost use Rattle.std.specs.Prelude.{◌↔◌, IsTrue};
 ghost use Rattle.wasm_sem.specs.Link.{IsFree};
 
+use hook_mono::HOOK_MODULE;
 use module_ast::module::Module;
-
-/// The module that hooks are imported from.
-pub(crate) const HOOK_MODULE: &str = "__wasabi_hooks";
 
 /// Whether no import, of any kind, names the module that hooks are imported from.
 pub(crate) fn is_free(m: &Module) -> bool

@@ -5,10 +5,9 @@ ghost use Rattle.instrument.specs.Output.{hook_types, hook_import, hook_imports,
 ghost use Rattle.instrument.specs.Parts.{parts_of};
 ghost use Rattle.instrument.specs.Plan.{Plan as Planned, plan_keys, new_outline};
 
-use crate::free::HOOK_MODULE;
 use crate::hook_types::HookTypes;
 use crate::plan::Plan;
-use hook_mono::{HookKey, name_of, type_of};
+use hook_mono::{HOOK_MODULE, HookKey, name_of, type_of};
 use module_ast::module::{Element, Export, Import, Item, Module};
 use module_ast::name::Name;
 use module_ast::seq::Seq;

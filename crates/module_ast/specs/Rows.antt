@@ -1,6 +1,6 @@
 -- The loads and stores, a row for each: its opcode (5.4.4), its name (6.5.6), the type of the value and its width in memory in
--- bytes (3.3.4), and of a load whether the number in memory has a sign (4.4.4).
-use Rattle.std.specs.Prelude.{ℕ, List, codes, Bool, true, false}
+-- bytes (3.3.4).
+use Rattle.std.specs.Prelude.{ℕ, List, codes}
 use Rattle.wasm_num.specs.declared.ValType.{ValType}
 use Rattle.wasm_num.specs.declared.ValType.TheVariants.{I32, I64}
 use Rattle.module_ast.specs.declared.ops.LoadOp.{LoadOp}
@@ -13,7 +13,6 @@ pub record LoadRow : Type 0 where
   pub name : List ℕ
   pub ty : ValType
   pub width : ℕ
-  pub signed : Bool
 
 pub record StoreRow : Type 0 where
   pub opcode : ℕ
@@ -21,25 +20,25 @@ pub record StoreRow : Type 0 where
   pub ty : ValType
   pub width : ℕ
 
-abbrev pub a_load : (opcode : ℕ) → (name : List ℕ) → (ty : ValType) → (width : ℕ) → (signed : Bool) → LoadRow
-a_load opcode name ty width signed = record { opcode = opcode; name = name; ty = ty; width = width; signed = signed }
+abbrev pub a_load : (opcode : ℕ) → (name : List ℕ) → (ty : ValType) → (width : ℕ) → LoadRow
+a_load opcode name ty width = record { opcode = opcode; name = name; ty = ty; width = width }
 
 abbrev pub a_store : (opcode : ℕ) → (name : List ℕ) → (ty : ValType) → (width : ℕ) → StoreRow
 a_store opcode name ty width = record { opcode = opcode; name = name; ty = ty; width = width }
 
 abbrev pub load_row : LoadOp → LoadRow
-load_row I32Load = a_load 0x28 (codes "i32.load") I32 4 false
-load_row I64Load = a_load 0x29 (codes "i64.load") I64 8 false
-load_row I32Load8S = a_load 0x2C (codes "i32.load8_s") I32 1 true
-load_row I32Load8U = a_load 0x2D (codes "i32.load8_u") I32 1 false
-load_row I32Load16S = a_load 0x2E (codes "i32.load16_s") I32 2 true
-load_row I32Load16U = a_load 0x2F (codes "i32.load16_u") I32 2 false
-load_row I64Load8S = a_load 0x30 (codes "i64.load8_s") I64 1 true
-load_row I64Load8U = a_load 0x31 (codes "i64.load8_u") I64 1 false
-load_row I64Load16S = a_load 0x32 (codes "i64.load16_s") I64 2 true
-load_row I64Load16U = a_load 0x33 (codes "i64.load16_u") I64 2 false
-load_row I64Load32S = a_load 0x34 (codes "i64.load32_s") I64 4 true
-load_row I64Load32U = a_load 0x35 (codes "i64.load32_u") I64 4 false
+load_row I32Load = a_load 0x28 (codes "i32.load") I32 4
+load_row I64Load = a_load 0x29 (codes "i64.load") I64 8
+load_row I32Load8S = a_load 0x2C (codes "i32.load8_s") I32 1
+load_row I32Load8U = a_load 0x2D (codes "i32.load8_u") I32 1
+load_row I32Load16S = a_load 0x2E (codes "i32.load16_s") I32 2
+load_row I32Load16U = a_load 0x2F (codes "i32.load16_u") I32 2
+load_row I64Load8S = a_load 0x30 (codes "i64.load8_s") I64 1
+load_row I64Load8U = a_load 0x31 (codes "i64.load8_u") I64 1
+load_row I64Load16S = a_load 0x32 (codes "i64.load16_s") I64 2
+load_row I64Load16U = a_load 0x33 (codes "i64.load16_u") I64 2
+load_row I64Load32S = a_load 0x34 (codes "i64.load32_s") I64 4
+load_row I64Load32U = a_load 0x35 (codes "i64.load32_u") I64 4
 
 abbrev pub store_row : StoreOp → StoreRow
 store_row I32Store = a_store 0x36 (codes "i32.store") I32 4

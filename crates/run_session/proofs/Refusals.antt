@@ -9,7 +9,7 @@ use Rattle.module_ast.specs.Spaces.{funcs_of}
 use Rattle.module_ast.specs.Validity.{func_type, IsValid}
 use Rattle.wasm_sem.specs.declared.Call.{Call}
 use Rattle.wasm_sem.specs.Link.{Callee, callee_type, callees_of, func_at, exported_func, Refusal, first_refusal, fits_type, fit_types, call_refusal, calls_refusal}
-use Rattle.wasm_sem.specs.Typed.{IsComplete}
+use Rattle.module_ast.specs.Limits.{IsComplete}
 use Rattle.wasm_sem.proofs.SoundCallees.{AreCallees, are_callees}
 use Rattle.run_session.specs.declared.link.LinkFault.{LinkFault}
 use Rattle.run_session.specs.declared.link.LinkFault.TheVariants.{NoExport, BadArgs, MemoryCap, TableCap, SegmentRange, NoMemory}

@@ -7,13 +7,10 @@ ghost use Rattle.static_info.specs.Belongs.{FuncImport, IsHook, Belongs};
 ghost use Rattle.static_info.specs.Following.{HooksFollow};
 
 use crate::Info;
-use hook_mono::{HookKey, name_of, type_of};
+use hook_mono::{HOOK_MODULE, HookKey, name_of, type_of};
 use module_ast::module::{FuncType, Import, Item, Module};
 use std::alloc::Global;
 use wasm_num::{NoMemory, ValType};
-
-// The module that hooks are imported from.
-const HOOK_MODULE: &str = "__wasabi_hooks";
 
 // Whether two lists of types are the same.
 fn same_types(left: &[ValType], right: &[ValType]) -> bool

@@ -14,7 +14,8 @@ use Rattle.wasm_sem.specs.Events.{TraceItem, entry, host_call, event, hook_call,
 use Rattle.wasm_sem.specs.Link.{Callee, host, hook, own, callee_type, callees_of, Entry, Instance, instance, IsScriptInRange, Links}
 use Rattle.wasm_sem.specs.Machine.{Frame, Env, Configuration, configuration, Phase, starting, calling, over, pop_values, have_same_types, same_func_type, start_entry, call_entry, run_of}
 use Rattle.wasm_sem.specs.Trace.{told_invoke, told_popped, told_call, told_matched, told_typed, told_slot, told_indirect, told_instr, told_code, told_callee, told_begun, told_begins, told_items, items_by, items}
-use Rattle.wasm_sem.specs.Typed.{HaveTypes, IsComplete}
+use Rattle.wasm_sem.specs.Typed.{HaveTypes}
+use Rattle.module_ast.specs.Limits.{IsComplete}
 use Rattle.wasm_sem.proofs.AllChosen.{HaveGroups, step_has}
 use Rattle.wasm_sem.proofs.Ready.{Carries, ReadyCall, ReadyThrough, IsReadyPlain, IsReadyCode, IsReadyPhase, IsReadyState, always_ready}
 use Rattle.wasm_sem.proofs.SoundCalls.{same_types_are}

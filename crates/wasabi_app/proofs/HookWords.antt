@@ -25,7 +25,8 @@ use Rattle.wasm_sem.specs.Answers.{hook_in}
 use Rattle.wasm_sem.specs.Link.{Callee, hook, callee_type, hook_module, is_hook, imported_callee, item_callees, import_callees, own_callee, own_callees, callees_of, is_hook_function, instance, IsScriptInRange, Links}
 use Rattle.wasm_sem.specs.Machine.{run_of}
 use Rattle.wasm_sem.specs.Trace.{items}
-use Rattle.wasm_sem.specs.Typed.{HasType, HaveTypes, IsComplete}
+use Rattle.wasm_sem.specs.Typed.{HasType, HaveTypes}
+use Rattle.module_ast.specs.Limits.{IsComplete}
 use Rattle.wasm_sem.proofs.Operands.{have_length}
 use Rattle.wasm_sem.proofs.SoundCallees.{every_at, every_append, has_at}
 use Rattle.wasm_sem.proofs.Straight.{some_is, none_some}

@@ -6,7 +6,7 @@ use Rattle.module_ast.specs.Limits.{wide}
 use Rattle.wasm_sem.specs.declared.Script.{Script}
 use Rattle.wasm_sem.specs.Answers.{Summary}
 use Rattle.wasm_sem.specs.Link.{Refusal as LinkRefusal, no_export, bad_args, memory_cap, table_cap, segment_range, link, Links}
-use Rattle.wasm_sem.specs.Typed.{IsComplete}
+use Rattle.module_ast.specs.Limits.{IsComplete}
 use Rattle.wasm_sem.proofs.SoundRead.{read_complete}
 use Rattle.run_session.specs.declared.link.LinkFault.{LinkFault}
 use Rattle.run_session.specs.declared.link.LinkFault.TheVariants.{NoExport, BadArgs, MemoryCap, TableCap, SegmentRange, NoMemory}

@@ -10,7 +10,7 @@ use Rattle.wasm_sem.specs.Events.{events_in}
 use Rattle.wasm_sem.specs.Link.{instance, IsScriptInRange, Links}
 use Rattle.wasm_sem.specs.Machine.{is_over}
 use Rattle.wasm_sem.specs.Trace.{items, trace_of}
-use Rattle.wasm_sem.specs.Typed.{IsComplete}
+use Rattle.module_ast.specs.Limits.{IsComplete}
 use Rattle.wasm_sem.proofs.Ended.{shows_no_more}
 use Rattle.wasm_run.specs.Running.{Run, configuration_of, one_more}
 use Rattle.run_session.specs.Sessions.{TakesTurn}

@@ -4,7 +4,7 @@ ghost use Rattle.std.specs.Prelude.{◌≡◌, ◌+◌, ◌^◌, ◌<◌, ◌≤
 ghost use Rattle.module_ast.specs.Validity.{IsValid};
 ghost use Rattle.wasm_sem.specs.Laws.{slots_in};
 ghost use Rattle.wasm_sem.specs.Link.{IsScriptInRange, Links};
-ghost use Rattle.wasm_sem.specs.Typed.{IsComplete};
+ghost use Rattle.module_ast.specs.Limits.{IsComplete};
 ghost use Rattle.wasm_run.specs.Running.{configuration_of};
 ghost use Rattle.wasm_run.specs.Turns.{after_turn};
 ghost use Rattle.run_session.specs.Sessions.{session_turn};

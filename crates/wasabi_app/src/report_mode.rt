@@ -4,7 +4,7 @@ ghost use Rattle.std.specs.Prelude.{◌≡◌, ◌<◌, ◌≤◌, ◌⊎◌, �
 ghost use Rattle.module_ast.specs.Validity.{IsValid};
 ghost use Rattle.wasm_sem.specs.Answers.{summary_of};
 ghost use Rattle.wasm_sem.specs.Link.{IsScriptInRange, Links, link};
-ghost use Rattle.wasm_sem.specs.Typed.{IsComplete};
+ghost use Rattle.module_ast.specs.Limits.{IsComplete};
 ghost use Rattle.run_session.specs.Linking.{TellsRefusal};
 ghost use Rattle.run_session.specs.Sessions.{told_outcome};
 ghost use Rattle.static_info.specs.Belongs.{Belongs};

@@ -3,7 +3,7 @@
 ghost use Rattle.std.specs.Prelude.{◌≡◌, ◌<◌, ◌≤◌, ℕ, List, Decides, IfErr, IfOk, length, string_bytes};
 ghost use Rattle.wasm_sem.specs.Answers.{summary_of};
 ghost use Rattle.wasm_sem.specs.Link.{IsScriptInRange, Links, link};
-ghost use Rattle.wasm_sem.specs.Typed.{IsComplete};
+ghost use Rattle.module_ast.specs.Limits.{IsComplete};
 ghost use Rattle.run_session.specs.Linking.{TellsRefusal};
 ghost use Rattle.run_session.specs.Sessions.{told_outcome};
 ghost use Rattle.analyses.specs.Tools.{ToolState};

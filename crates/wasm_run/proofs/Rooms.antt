@@ -17,7 +17,7 @@ use Rattle.run_store.specs.Held.{Held}
 use Rattle.wasm_sem.specs.declared.Script.{Script}
 use Rattle.wasm_sem.specs.Link.{Callee, host, hook, own, Instance, instance, callees_of, IsScriptInRange, Links}
 use Rattle.wasm_sem.specs.Machine.{Label, Frame, Env, Configuration, configuration, Next, reduces, traps, ends, stuck, pop_values, with_ops, new_frame, step, after_step, run, run_of, opening_configuration}
-use Rattle.wasm_sem.specs.Typed.{IsComplete}
+use Rattle.module_ast.specs.Limits.{IsComplete}
 use Rattle.wasm_run.specs.Calls.{NextIsNoCall}
 use Rattle.wasm_sem.specs.Heights.{function_context, operands_on, AreFramesWithin, IsConfigurationWithin}
 use Rattle.wasm_sem.proofs.Runs.{run_add}

@@ -14,7 +14,7 @@ use Rattle.run_store.specs.Held.{Held}
 use Rattle.wasm_sem.specs.declared.Script.{Script}
 use Rattle.wasm_sem.specs.Link.{instance, IsScriptInRange, Links}
 use Rattle.wasm_sem.specs.Machine.{Frame, Configuration, configuration, run_of}
-use Rattle.wasm_sem.specs.Typed.{IsComplete}
+use Rattle.module_ast.specs.Limits.{IsComplete}
 use Rattle.wasm_run.specs.Flat.{Flat}
 use Rattle.wasm_run.specs.Kept.{Lies}
 use Rattle.wasm_run.specs.Standing.{KeepsStore}

@@ -10,6 +10,7 @@ ghost use Rattle.wasm_run.specs.Reaching.{index_count};
 ghost use Rattle.wasm_run.specs.Resolved.{callee_for, HasSize, AreFunctionsOf};
 
 use crate::call::Size;
+use hook_mono::HOOK_MODULE;
 use module_ast::code::Instr;
 use module_ast::module::{Body, FuncType, Group, Import, Item, Module};
 use module_ast::nesting;
@@ -67,8 +68,6 @@ pub(crate) enum Target<'m> {
     Traps(Trap),
     Invokes(Invocation<'m>),
 }
-
-const HOOK_MODULE: &str = "__wasabi_hooks";
 
 // Whether two types are the same, of results or of parameters.
 fn same_types(these: &[ValType], those: &[ValType]) -> bool

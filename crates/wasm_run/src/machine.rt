@@ -5,7 +5,7 @@ ghost use Rattle.wasm_sem.specs.Answers.{turn_by};
 ghost use Rattle.wasm_sem.specs.Laws.{slots_in};
 ghost use Rattle.wasm_sem.specs.Link.{IsScriptInRange, Links};
 ghost use Rattle.wasm_sem.specs.Machine.{is_over};
-ghost use Rattle.wasm_sem.specs.Typed.{IsComplete};
+ghost use Rattle.module_ast.specs.Limits.{IsComplete};
 ghost use Rattle.wasm_run.specs.Beside.{hosts_in, pages_in};
 ghost use Rattle.wasm_run.specs.Moves.{MayWant};
 ghost use Rattle.wasm_run.specs.Progress.{IsEntry, GoesOn};

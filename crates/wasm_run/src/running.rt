@@ -8,7 +8,7 @@ ghost use Rattle.wasm_sem.specs.Laws.{slots_in};
 ghost use Rattle.wasm_sem.specs.Link.{Callee, hook, host, own, callees_of, instance, IsScriptInRange, Links};
 ghost use Rattle.wasm_sem.specs.Machine.{Frame, traps, step};
 ghost use Rattle.wasm_sem.specs.Trace.{items};
-ghost use Rattle.wasm_sem.specs.Typed.{IsComplete};
+ghost use Rattle.module_ast.specs.Limits.{IsComplete};
 ghost use Rattle.module_ast.specs.Validity.{declared_locals};
 ghost use Rattle.wasm_run.specs.Running.{Run, configuration_of, HoldsIf, IsInside, IsSizeOf, Innermost};
 ghost use Rattle.wasm_run.specs.Beside.{hosts_in, pages_in};
