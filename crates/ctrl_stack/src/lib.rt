@@ -3,8 +3,6 @@
 
 mod frame;
 mod stack;
-#[cfg(test)]
-mod tests;
 
 pub use frame::{Frame, Types};
 pub use stack::{CtrlStack, StackFault};

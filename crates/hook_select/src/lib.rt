@@ -433,6 +433,3 @@ impl Event {
         }
     }
 }
-
-#[cfg(test)]
-mod tests;

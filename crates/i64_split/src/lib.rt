@@ -5,8 +5,6 @@ ghost use Rattle.std.specs.Prelude.{◌≡◌, ◌^◌, ◌<◌, ◌++◌, IfOk,
 
 mod pushing;
 mod saving;
-#[cfg(test)]
-mod tests;
 mod words;
 
 pub use crate::pushing::push_each;

@@ -5,8 +5,6 @@ mod code;
 mod copies;
 pub mod laws;
 mod modules;
-#[cfg(test)]
-mod tests;
 
 ghost use Rattle.std.specs.Prelude.{◌≡◌, ◌+◌, ◌^◌, ◌<◌};
 

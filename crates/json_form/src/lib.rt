@@ -4,8 +4,6 @@
 mod form;
 mod list;
 mod object;
-#[cfg(test)]
-mod tests;
 mod text;
 mod write;
 

@@ -16,6 +16,3 @@ pub use host_sink::HostSink;
 pub use memory_shelf::MemoryShelf;
 pub use memory_sink::MemorySink;
 pub use outside::{NoMemory, ReadFault, Shelf, Sink, SinkFault, WriteFault};
-
-#[cfg(test)]
-mod tests;

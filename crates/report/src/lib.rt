@@ -7,6 +7,3 @@ mod write;
 
 pub use lines::events_line;
 pub use write::{ReportFault, write_report};
-
-#[cfg(test)]
-mod tests;

@@ -306,6 +306,3 @@ pub enum NumTrap {
     DivideByZero,
     Overflow,
 }
-
-#[cfg(test)]
-mod tests;

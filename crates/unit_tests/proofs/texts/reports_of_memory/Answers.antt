@@ -4,7 +4,7 @@ use Rattle.module_ast.specs.declared.ops.StoreOp.TheVariants.{I32Store, I64Store
 use Rattle.analyses.specs.declared.Kind.TheVariants.{Memory}
 use Rattle.analyses.specs.declared.Row.{Row}
 use Rattle.analyses.specs.Book.{IsTagOf, HaveTags}
-use Rattle.report.proofs.tests.reports_of_memory.Goals as goal
+use Rattle.unit_tests.proofs.texts.reports_of_memory.Goals as goal
 
 abbrev IsAccess : Row → Type 0
 IsAccess r = IsTagOf Memory r.tag

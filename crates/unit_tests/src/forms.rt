@@ -2,7 +2,7 @@
 
 ghost use Rattle.serde_json.specs.Data.{number, unsigned};
 
-use crate::{
+use json_form::{
     Form, Integer, Text, Written, field, read_list, read_list_or_empty, read_text, write_list,
 };
 use serde_json::Value;

@@ -1,6 +1,6 @@
 // One run of each shelf and sink.
 
-use crate::{
+use outside_io::{
     Fail, HostShelf, HostSink, MemoryShelf, MemorySink, ReadFault, Shelf, Sink, SinkFault,
     WriteFault,
 };

@@ -6,7 +6,7 @@ ghost use Rattle.module_ast.specs.Seen.{code_of};
 ghost use Rattle.module_ast.specs.declared.code.BlockType.TheVariants.{Empty};
 ghost use Rattle.index_remap.specs.Remap.{MapsModule};
 
-use crate::Remap;
+use index_remap::Remap;
 use module_ast::code::{BlockType, Code, Instr};
 use module_ast::module::{
     Element, Export, ExportKind, FuncType, GlobalDef, GlobalType, Import, Item, Module, Segment,

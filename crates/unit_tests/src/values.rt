@@ -1,7 +1,7 @@
 // Values beyond the four places that need no allocation, and the names of instructions.
 
-use super::*;
 use std::test::Fail;
+use wasm_num::{NumOp, NumTrap, Value, Values, binary, unary};
 
 // Six values stand in the order in which they came, and none past the end.
 #[test]

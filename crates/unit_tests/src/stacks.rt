@@ -1,7 +1,6 @@
 // Steps whose answers are known from the standard's validation algorithm.
 
-use crate::frame::Types;
-use crate::stack::{CtrlStack, StackFault};
+use ctrl_stack::{CtrlStack, StackFault, Types};
 use std::alloc::{AllocError, Global};
 use std::test::Fail;
 use wasm_num::{BlockKind, ValType};

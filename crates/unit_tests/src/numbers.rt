@@ -1,7 +1,6 @@
 // Spellings that are known from elsewhere, read and written.
 
-use crate::cursor::{Bad, Cursor};
-use crate::writing::{put_s32, put_s64, put_u32};
+use leb_binary::{Bad, Cursor, put_s32, put_s64, put_u32};
 use std::test::Fail;
 
 // Unsigned numbers at the front of bytes, and how many bytes they take.

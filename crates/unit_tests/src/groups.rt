@@ -1,6 +1,6 @@
 // Texts of lists of groups.
 
-use crate::{Hooks, UnknownGroup, read_list};
+use hook_select::{Hooks, UnknownGroup, read_list};
 use std::test::Fail;
 
 #[test]

@@ -1,6 +1,6 @@
 // A call whose arguments, an i32 and an i64, are kept and pushed as words: its body in the output is known byte by byte.
 
-use crate::{Pool, push_values, save, save_in};
+use i64_split::{Pool, push_values, save, save_in};
 use module_ast::code::Instr;
 use module_ast::module::Group;
 use std::test::Fail;

@@ -3,9 +3,9 @@
 ghost use Rattle.std.specs.Prelude.{◌≡◌};
 ghost use Rattle.analyses.specs.Book.{HaveTags};
 
-use crate::{ReportFault, events_line, write_report};
 use analyses::{Kind, Row};
 use outside_io::{Fail, MemorySink};
+use report::{ReportFault, events_line, write_report};
 use std::alloc::Global;
 use std::test;
 

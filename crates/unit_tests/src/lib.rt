@@ -1,0 +1,23 @@
+// Tests of small crates. Nothing but tests stands here, so no crate is proved twice for them.
+#![tactic(auto)]
+
+#[cfg(test)]
+mod forms;
+#[cfg(test)]
+mod groups;
+#[cfg(test)]
+mod numbers;
+#[cfg(test)]
+mod outside;
+#[cfg(test)]
+mod remaps;
+#[cfg(test)]
+mod stacks;
+#[cfg(test)]
+mod stores;
+#[cfg(test)]
+mod texts;
+#[cfg(test)]
+mod values;
+#[cfg(test)]
+mod words;
