@@ -11,7 +11,7 @@ use module_ast::ops::{LoadOp, MemArg, StoreOp};
 use wasm_num::NumOp;
 
 /// An instruction without operands. That of a memory has a zero byte behind its opcode.
-#[derive(Clone, Copy, Debug, PartialEq, Eq)]
+#[derive(Clone, Copy)]
 pub enum Bare {
     Unreachable,
     Nop,
@@ -24,7 +24,7 @@ pub enum Bare {
 }
 
 /// An instruction with an index.
-#[derive(Clone, Copy, Debug, PartialEq, Eq)]
+#[derive(Clone, Copy)]
 pub enum Indexed {
     Br,
     BrIf,
@@ -37,14 +37,14 @@ pub enum Indexed {
 }
 
 /// An instruction on memory.
-#[derive(Clone, Copy, Debug, PartialEq, Eq)]
+#[derive(Clone, Copy)]
 pub enum Access {
     Load(LoadOp),
     Store(StoreOp),
 }
 
 /// A plain instruction, by what follows its opcode.
-#[derive(Clone, Copy, Debug, PartialEq, Eq)]
+#[derive(Clone, Copy)]
 pub enum Operands {
     Bare(Bare),
     Index(Indexed),
@@ -57,7 +57,7 @@ pub enum Operands {
 }
 
 /// A floating instruction, by what follows its opcode.
-#[derive(Clone, Copy, Debug, PartialEq, Eq)]
+#[derive(Clone, Copy)]
 pub enum FloatOperands {
     Nothing,
     Arg,
@@ -66,7 +66,7 @@ pub enum FloatOperands {
 }
 
 /// What opens a sequence. The type of a block follows.
-#[derive(Clone, Copy, Debug, PartialEq, Eq)]
+#[derive(Clone, Copy)]
 pub enum Opening {
     Block,
     Loop,
@@ -74,7 +74,7 @@ pub enum Opening {
 }
 
 /// What an opcode begins, and so what follows it. `Nothing` has no such opcode.
-#[derive(Clone, Copy, Debug, PartialEq, Eq)]
+#[derive(Clone, Copy)]
 pub enum Class {
     Nothing,
     Plain(Operands),

@@ -14,7 +14,7 @@ use std::marker::Model;
 use wasm_num::{BlockKind, NoMemory, ValType};
 
 /// The open blocks of a body, of which contracts see the innermost one with its operands apart.
-#[derive(Debug, Drop)]
+#[derive(Drop)]
 pub(crate) struct Blocks {
     stack: CtrlStack,
 }

@@ -8,7 +8,7 @@ use std::marker::Model;
 use wasm_num::{NoMemory, ValType};
 
 // Locals of one type in a row, and how many there are up to the last of them.
-#[derive(Clone, Copy, Debug, PartialEq, Eq)]
+#[derive(Clone, Copy)]
 struct Run {
     end: u64,
     ty: ValType,
@@ -17,7 +17,7 @@ struct Run {
 /// The types of a function's locals: its parameters first, then each group that its body lists, of which a few bytes may
 /// declare up to 2^32. Contracts see them as a list; they are kept as one entry for each parameter and group.
 /// (Standard, 2.5.3)
-#[derive(Debug, Drop)]
+#[derive(Drop)]
 pub struct Locals {
     runs: Vec<Run>,
 }

@@ -10,7 +10,7 @@ use std::marker::Model;
 use wasm_num::{NoMemory, ValType};
 
 /// The marks and the greatest height so far, whether code is live here, and the position.
-#[derive(Debug, Drop)]
+#[derive(Drop)]
 pub(crate) struct Walk {
     marks: Vec<Mark>,
     height: u64,

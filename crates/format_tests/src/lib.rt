@@ -4,6 +4,8 @@
 #[cfg(test)]
 mod bodies;
 #[cfg(test)]
+mod checking;
+#[cfg(test)]
 mod decoding;
 #[cfg(test)]
 mod encoding;

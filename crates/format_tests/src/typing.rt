@@ -372,7 +372,7 @@ fn verdict<R: Threads + Sync>(rt: &R, alloc: Global, file: &[u8], last: u32) -> 
     }
 }
 
-fn has_marks(found: &[Mark], marks: &[(u32, ValType)]) -> bool {
+pub(crate) fn has_marks(found: &[Mark], marks: &[(u32, ValType)]) -> bool {
     if found.len() != marks.len() {
         return false;
     }

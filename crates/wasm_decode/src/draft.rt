@@ -10,7 +10,7 @@ use module_ast::name::Name;
 use std::alloc::Global;
 
 /// What the sections so far hold. An absent section counts as empty.
-#[derive(Debug, Drop)]
+#[derive(Drop)]
 pub struct Draft {
     pub types: Part<FuncType>,
     pub imports: Part<Import>,

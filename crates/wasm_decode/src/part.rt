@@ -12,7 +12,7 @@ use leb_binary::Cursor;
 use std::alloc::Global;
 
 /// One item.
-#[derive(Debug, Drop)]
+#[derive(Drop)]
 pub enum Piece<T> {
     /// An item that is within the bound of nesting.
     Whole(T),
@@ -23,7 +23,7 @@ pub enum Piece<T> {
 }
 
 /// The items of a vector, as far as they were read.
-#[derive(Debug, Drop)]
+#[derive(Drop)]
 pub struct Part<T> {
     /// The items; where one floats, not all.
     pub items: Vec<T>,

@@ -1,6 +1,6 @@
 // Modules whose parts are lent, and whose bodies come one at a time.
 
-ghost use Rattle.std.specs.Prelude.{◌≡◌, ◌++◌, ◌+◌, ◌<◌, ◌^◌, OnOk, length};
+ghost use Rattle.std.specs.Prelude.{◌≡◌, ◌++◌, ◌+◌, ◌<◌, ◌^◌, OnOk, IfOk, MatchResult, length};
 ghost use Rattle.leb_binary.specs.Shortest.{unsigned_bytes};
 ghost use Rattle.module_ast.specs.Canonical.{body_bytes, vec_section, func_type_bytes, import_bytes, table_bytes, limits_bytes, global_bytes, export_bytes, start_bytes, element_bytes};
 ghost use Rattle.wasm_encode.specs.Outline.{front_bytes, back_bytes, entry_bytes, code_head};
@@ -92,17 +92,29 @@ impl Outline<'_> {
         Ok(())
     }
 
-    /// Adds the header and the sections before that of code (5.5.16). Each section is written apart first.
+    // The header and the sections before that of code.
+    fn front(&self, alloc: Global) -> Result<Vec<u8>, AllocError>
+        requires types { length self.now.types < 2 ^ 64 }
+        requires imports { length self.now.imports < 2 ^ 64 }
+        ensures { IfOk result (λ front. front.items ≡ front_bytes self.now) }
+    {
+        let mut front = Vec::new(alloc);
+        front.extend_from_slice(&[0x00, 0x61, 0x73, 0x6D, 0x01, 0x00, 0x00, 0x00])?;
+        self.put_functions(alloc, &mut front)?;
+        self.put_stores(alloc, &mut front)?;
+        self.put_uses(alloc, &mut front)?;
+        Ok(front)
+    }
+
+    /// Adds the header and the sections before that of code (5.5.16). They are written apart first, so that an `Err`, which
+    /// comes where there is no memory, leaves `out` as it was.
     pub fn put_front(&self, alloc: Global, out: &mut Vec<u8>) -> Result<(), AllocError>
         requires types { length self.now.types < 2 ^ 64 }
         requires imports { length self.now.imports < 2 ^ 64 }
-        ensures { OnOk result (out.new.items ≡ out.old.items ++ front_bytes self.now) }
+        ensures { MatchResult result (λ _. out.new.items ≡ out.old.items ++ front_bytes self.now) (λ _. out.new.items ≡ out.old.items) }
     {
-        out.extend_from_slice(&[0x00, 0x61, 0x73, 0x6D, 0x01, 0x00, 0x00, 0x00])?;
-        self.put_functions(alloc, out)?;
-        self.put_stores(alloc, out)?;
-        self.put_uses(alloc, out)?;
-        Ok(())
+        let front = self.front(alloc)?;
+        out.extend_from_slice(&front)
     }
 
     /// How many bytes stand behind the section of code.
@@ -113,12 +125,15 @@ impl Outline<'_> {
         section_length(11, self.segments)
     }
 
-    /// Adds what stands behind the section of code.
+    /// Adds what stands behind the section of code. It is written apart first, so that an `Err`, which comes where there is
+    /// no memory, leaves `out` as it was.
     pub fn put_back(&self, out: &mut Vec<u8>) -> Result<(), AllocError>
         requires { length (back_bytes self.now) < 2 ^ 63 }
-        ensures { OnOk result (out.new.items ≡ out.old.items ++ back_bytes self.now) }
+        ensures { MatchResult result (λ _. out.new.items ≡ out.old.items ++ back_bytes self.now) (λ _. out.new.items ≡ out.old.items) }
     {
-        put_section(out, 11, self.segments)
+        let mut back = Vec::new(*out.allocator());
+        put_section(&mut back, 11, self.segments)?;
+        out.extend_from_slice(&back)
     }
 }
 
@@ -136,24 +151,30 @@ pub fn code_section_length(count: u64, size: u64) -> u64
 }
 
 /// Adds what stands in the section of code before its entries, of which there are so many of so many bytes together, and
-/// nothing where there are none (5.5.13).
+/// nothing where there are none (5.5.13). It is written apart first, so that an `Err`, which comes where there is no memory,
+/// leaves `out` as it was.
 pub fn put_code_head(out: &mut Vec<u8>, count: u64, size: u64) -> Result<(), AllocError>
     requires { size < 2 ^ 63 }
-    ensures { OnOk result (out.new.items ≡ out.old.items ++ code_head count size) }
+    ensures { MatchResult result (λ _. out.new.items ≡ out.old.items ++ code_head count size) (λ _. out.new.items ≡ out.old.items) }
 {
     if count == 0 {
         return Ok(());
     }
-    out.push(10)?;
-    put_size(out, unsigned_length(count) + size)?;
-    put_size(out, count)
+    let mut head = Vec::new(*out.allocator());
+    head.push(10)?;
+    put_size(&mut head, unsigned_length(count) + size)?;
+    put_size(&mut head, count)?;
+    out.extend_from_slice(&head)
 }
 
-/// Adds a body of so many bytes with its size before it (5.5.13).
+/// Adds a body of so many bytes with its size before it (5.5.13). They are written apart first, so that an `Err`, which
+/// comes where there is no memory, leaves `out` as it was.
 pub fn put_entry(out: &mut Vec<u8>, body: &Body, size: u64) -> Result<(), AllocError>
     requires { size ≡ length (body_bytes body.now) }
-    ensures { OnOk result (out.new.items ≡ out.old.items ++ entry_bytes body.now) }
+    ensures { MatchResult result (λ _. out.new.items ≡ out.old.items ++ entry_bytes body.now) (λ _. out.new.items ≡ out.old.items) }
 {
-    put_size(out, size)?;
-    body.put(out)
+    let mut entry = Vec::with_capacity(*out.allocator(), size as usize)?;
+    put_size(&mut entry, size)?;
+    body.put(&mut entry)?;
+    out.extend_from_slice(&entry)
 }
