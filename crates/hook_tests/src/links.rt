@@ -1,6 +1,6 @@
 // What links, and a run of nothing.
 
-ghost use Rattle.std.specs.Prelude.{◌≡◌, IfSome};
+ghost use Rattle.std.specs.Prelude.{IfSome};
 ghost use Rattle.wasm_sem.specs.Link.{IsScriptInRange};
 ghost use Rattle.module_ast.specs.Limits.{IsComplete};
 
@@ -103,12 +103,12 @@ static ROWS: [(&[u8], &str, Option<LinkFault>); 12] = [
     (&FAR, "{\"calls\":[]}", RANGE),
 ];
 
-// The valid module with these bytes.
+// The valid module with these bytes, which are few.
 #[tactic(auto, using(wasm_sem::proofs::SoundRead::read_complete))]
-fn valid_of<R: Threads + Sync>(rt: &R, alloc: Global, file: &[u8]) -> Option<ValidModule>
+pub(crate) fn valid_of<R: Threads + Sync>(rt: &R, alloc: Global, file: &[u8]) -> Option<ValidModule>
     ensures { IfSome result (λ valid. IsComplete valid) }
 {
-    if file.len() > 64 {
+    if file.len() > 256 {
         return None;
     }
     let Ok(module) = decode(alloc, file, &Limits::wide()) else {
@@ -145,7 +145,7 @@ fn run_over(
     requires range { IsScriptInRange script.now }
 {
     let mut session = Session::link(alloc, valid, script)?;
-    let _steps = (session.left(), session.table().slot(0));
+    let _slot = session.table().slot(0);
     match session.call()? {
         Turn::Over => Ok(Some(session.finish()?)),
         _ => Ok(None),
