@@ -1,8 +1,6 @@
 // What links, and a run of nothing.
 
-ghost use Rattle.std.specs.Prelude.{IfSome};
 ghost use Rattle.wasm_sem.specs.Link.{IsScriptInRange};
-ghost use Rattle.module_ast.specs.Limits.{IsComplete};
 
 use module_ast::module::{Export, ExportKind, Limits};
 use module_ast::name::Name;
@@ -104,10 +102,11 @@ static ROWS: [(&[u8], &str, Option<LinkFault>); 12] = [
 ];
 
 // The valid module with these bytes, which are few.
-#[tactic(auto, using(wasm_sem::proofs::SoundRead::read_complete))]
-pub(crate) fn valid_of<R: Threads + Sync>(rt: &R, alloc: Global, file: &[u8]) -> Option<ValidModule>
-    ensures { IfSome result (λ valid. IsComplete valid) }
-{
+pub(crate) fn valid_of<R: Threads + Sync>(
+    rt: &R,
+    alloc: Global,
+    file: &[u8],
+) -> Option<ValidModule> {
     if file.len() > 256 {
         return None;
     }
@@ -141,7 +140,6 @@ fn run_over(
     valid: &ValidModule,
     script: &Script,
 ) -> Result<Option<Outcome>, LinkFault>
-    requires complete { IsComplete valid.now }
     requires range { IsScriptInRange script.now }
 {
     let mut session = Session::link(alloc, valid, script)?;

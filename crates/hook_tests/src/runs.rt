@@ -1,7 +1,6 @@
 // Runs of modules, and of the same modules with hooks, whose answers are known from the standard.
 
 ghost use Rattle.std.specs.Prelude.{OnOk};
-ghost use Rattle.module_ast.specs.Limits.{IsComplete};
 ghost use Rattle.wasm_sem.specs.Link.{IsScriptInRange, Links};
 
 use crate::links::valid_of;
@@ -213,7 +212,6 @@ fn are_ends(answers: &[Answer], ends: &[End]) -> bool {
 
 // Whether a module links with a script.
 fn linked(alloc: Global, valid: &ValidModule, script: &Script) -> Result<(), LinkFault>
-    requires complete { IsComplete valid.now }
     requires range { IsScriptInRange script.now }
     ensures { OnOk result (Links valid.now script.now) }
 {
@@ -223,7 +221,6 @@ fn linked(alloc: Global, valid: &ValidModule, script: &Script) -> Result<(), Lin
 
 // Whether the machine's run comes to this. It has no answer for a call that has not ended.
 fn runs_to(alloc: Global, valid: &ValidModule, script: &Script, ran: &Ran) -> Result<bool, NoMemory>
-    requires complete { IsComplete valid.now }
     requires range { IsScriptInRange script.now }
     requires links { Links valid.now script.now }
 {
@@ -250,7 +247,6 @@ fn plays_to(
     script: &Script,
     ran: &Ran,
 ) -> Result<bool, LinkFault>
-    requires complete { IsComplete valid.now }
     requires range { IsScriptInRange script.now }
 {
     let mut session = Session::link(alloc, valid, script)?;

@@ -4,7 +4,6 @@ ghost use Rattle.std.specs.Prelude.{◌≡◌, ◌-◌, ◌≤◌, IfOk, OnErr};
 ghost use Rattle.wasm_sem.specs.Answers.{summary};
 ghost use Rattle.wasm_sem.specs.Laws.{slots_in};
 ghost use Rattle.wasm_sem.specs.Link.{IsScriptInRange};
-ghost use Rattle.module_ast.specs.Limits.{IsComplete};
 ghost use Rattle.wasm_run.specs.Moves.{MayWant};
 ghost use Rattle.wasm_run.specs.Running.{configuration_of, IsLinked};
 ghost use Rattle.wasm_run.specs.Turns.{RunsFor};
@@ -78,7 +77,6 @@ impl<'m> Session<'m> {
         valid: &'m ValidModule,
         script: &'m Script,
     ) -> Result<Session<'m>, LinkFault>
-        requires complete { IsComplete valid.now }
         requires range { IsScriptInRange script.now }
         ensures { OpensSession valid.now script.now result }
     {

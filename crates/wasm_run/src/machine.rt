@@ -5,7 +5,6 @@ ghost use Rattle.wasm_sem.specs.Answers.{turn_by};
 ghost use Rattle.wasm_sem.specs.Laws.{slots_in};
 ghost use Rattle.wasm_sem.specs.Link.{IsScriptInRange, Links};
 ghost use Rattle.wasm_sem.specs.Machine.{is_over};
-ghost use Rattle.module_ast.specs.Limits.{IsComplete};
 ghost use Rattle.wasm_run.specs.Beside.{hosts_in, pages_in};
 ghost use Rattle.wasm_run.specs.Moves.{MayWant};
 ghost use Rattle.wasm_run.specs.Progress.{IsEntry, GoesOn};
@@ -72,7 +71,6 @@ impl<'m> Machine<'m> {
         valid: &'m ValidModule,
         script: &'m Script,
     ) -> Result<Machine<'m>, NoMemory>
-        requires complete { IsComplete valid.now }
         requires range { IsScriptInRange script.now }
         requires links { Links valid.now script.now }
         ensures { IfOk result (λ r. r ≡ record { «module» = valid.now; script = script.now; made = 0 }) }
