@@ -8,7 +8,7 @@ use std::marker::Model;
 
 /// For each open block, how many bytes stand for its end and for those of the blocks around it. So what a branch costs
 /// that leaves a thousand blocks is one difference. Contracts see a list, which begins with the innermost block's sum.
-#[derive(Debug, Drop)]
+#[derive(Drop)]
 pub(crate) struct EndSums {
     sums: Vec<u64>,
 }

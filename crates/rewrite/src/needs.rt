@@ -1,7 +1,7 @@
 // The keys that a body needs.
 
 ghost use Rattle.std.specs.Prelude.{◌≡◌, ◌+◌, ◌*◌, ◌<◌, ◌≤◌, ◌^◌, [], ◌∷◌, length, option_map, slice_get, Some, nat_abs, IfOk, OnOk, OnErr};
-ghost use Rattle.module_ast.specs.Positions.{code_size, code_nesting};
+ghost use Rattle.module_ast.specs.Positions.{code_size, code_nesting, places};
 ghost use Rattle.hook_mono.specs.declared.HookKey.TheVariants as keys;
 ghost use Rattle.hook_mono.specs.Needed.{sites, needs_of};
 ghost use Rattle.rewrite.specs.Needing.{instr_keys, told_keys, blocks_kept_by, blocks_kept_at, first_left, rest_left, with_open_block, with_needed, after_branch, after_live, after_opcode, into_block, left_out_to, after_place, kind_opened};
@@ -20,14 +20,14 @@ use std::marker::Model;
 use wasm_num::{BlockKind, NoMemory, ValType};
 
 // An open block: how many blocks are around it, and its kind.
-#[derive(Clone, Copy, Debug)]
+#[derive(Clone, Copy)]
 pub struct OpenBlock {
     pub around: usize,
     pub kind: BlockKind,
 }
 
 // The open blocks of a walk that no branch has left, which contracts see as a list, the innermost first.
-#[derive(Debug, Drop)]
+#[derive(Drop)]
 pub struct OpenBlocks {
     blocks: Vec<OpenBlock>,
 }
@@ -311,6 +311,25 @@ impl Needs {
         }
         self.stack.enter(depth, kind_opened(&place.opcode))
     }
+
+    // Goes over all places of a function, which are left.
+    fn add_places(
+        &mut self,
+        alloc: Global,
+        site: &Site,
+        walk: &mut Walk<'_>,
+    ) -> Result<(), NoMemory>
+        requires first { self.old ≡ record { hooks = self.old.hooks; table = []; stack = [] } }
+        requires left { walk.old.left ≡ places site.now.body.code }
+        requires few { code_size site.now.body.code + 1 ≤ 268435456 }
+        ensures { OnOk result (self.new.table ≡ needs_of self.old.hooks site.now) }
+    {
+        while let Some(place) = walk.next()? {
+            let depth = walk.scopes().depth();
+            self.add_place(alloc, site, depth, &place)?;
+        }
+        Ok(())
+    }
 }
 
 // The keys that a function needs.
@@ -321,10 +340,7 @@ fn table_of(alloc: Global, site: &Site, hooks: Hooks) -> Result<HookTable, NoMem
 {
     let mut needs = Needs::new(alloc, hooks);
     let mut walk = Walk::new(alloc, &site.body().code)?;
-    while let Some(place) = walk.next()? {
-        let depth = walk.scopes().depth();
-        needs.add_place(alloc, site, depth, &place)?;
-    }
+    needs.add_places(alloc, site, &mut walk)?;
     Ok(needs.table)
 }
 

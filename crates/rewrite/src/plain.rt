@@ -13,12 +13,12 @@ ghost use Rattle.hook_mono.specs.declared.HookKey.TheVariants as keys;
 ghost use Rattle.hook_select.specs.Groups.{has};
 ghost use Rattle.branch_resolve.specs.Scopes.{blocks_around};
 ghost use Rattle.module_ast.specs.declared.code.Instr.TheVariants.{Call};
-ghost use Rattle.i64_split.specs.Split.{HasTemps, word_code, words_code};
+ghost use Rattle.i64_split.specs.Split.{HasTemps, temps, word_code, words_code};
 ghost use Rattle.i64_split.specs.Pushing.{instrs};
 ghost use Rattle.index_remap.specs.Remap.{MapsIndex};
 ghost use Rattle.rewrite.specs.Setting.{remap, constant, tell};
 ghost use Rattle.rewrite.specs.Temporaries.{plain_temps, wanted_temps};
-ghost use Rattle.rewrite.specs.Templates.{template, post_code, call_code, indirect_code};
+ghost use Rattle.rewrite.specs.Templates.{template, tell_values, post_code, call_code, indirect_code};
 ghost use Rattle.rewrite.specs.Emitted.{HasRoom, template_of, indirect_template};
 
 use crate::setting::Setting;
@@ -164,9 +164,24 @@ impl<'m> Setting<'m> {
         ensures { OnOk result (code.new.items ≡ code.old.items ++ instrs (post_code self.now position results.now)) }
     {
         let key = HookKey::CallPost(list(alloc, results)?);
-        let temps = self.pool.temps(alloc, results, 0)?;
-        let at = position as i32;
-        self.push_saved(at, &key, &[], &temps, code)
+        self.push_saved(alloc, position as i32, &key, &[], results, code)
+    }
+
+    // Before a call its function and the arguments.
+    fn push_pre(
+        &self,
+        alloc: Global,
+        position: u32,
+        func: u32,
+        params: &[ValType],
+        code: &mut Vec<Instr>,
+    ) -> Result<(), AllocError>
+        requires low { position < 2 ^ 31 }
+        requires room { HasTemps self.now.pool 0 params.now }
+        ensures { OnOk result (code.new.items ≡ code.old.items ++ instrs (tell_values self.now (pos position) (keys.CallPre params.now) (constant func ∷ []) (temps self.now.pool params.now))) }
+    {
+        let key = HookKey::CallPre(list(alloc, params)?);
+        self.push_saved(alloc, position as i32, &key, &[func], params, code)
     }
 
     // A call of a function with these parameters and results.
@@ -188,10 +203,7 @@ impl<'m> Setting<'m> {
         if !self.has(GroupName::Call) {
             return push_each(code, [Instr::Call(made)]);
         }
-        let key = HookKey::CallPre(list(alloc, params)?);
-        let temps = self.pool.temps(alloc, params, 0)?;
-        let at = position as i32;
-        self.push_saved(at, &key, &[func], &temps, code)?;
+        self.push_pre(alloc, position, func, params, code)?;
         push_each(code, [Instr::Call(made)])?;
         self.push_post(alloc, position, results, code)
     }
@@ -275,15 +287,32 @@ impl<'m> Setting<'m> {
         requires room { HasTemps self.now.pool 0 results.now }
         ensures { OnOk result (code.new.items ≡ code.old.items ++ instrs (indirect_code self.now position ty (record { params = params.now; results = results.now }) (slot ∷ args.now))) }
     {
-        let key = HookKey::IndirectPre(list(alloc, params)?);
         push_each(code, [Instr::LocalSet(slot.local)])?;
         save_in(code, args)?;
-        self.push_slot_tell(position as i32, &key, ty, slot, args, code)?;
+        self.push_slot_pre(alloc, position, ty, params, slot, args, code)?;
         push_each(code, [Instr::LocalGet(slot.local), Instr::CallIndirect(ty)])?;
         self.push_post(alloc, position, results, code)
     }
 
-    // The hook call that tells the type, the slot and the arguments of a call through the table.
+    // The hook call that tells the type, the slot and the arguments of a call through the table with these parameters.
+    fn push_slot_pre(
+        &self,
+        alloc: Global,
+        position: u32,
+        ty: u32,
+        params: &[ValType],
+        slot: Temp,
+        args: &[Temp],
+        code: &mut Vec<Instr>,
+    ) -> Result<(), AllocError>
+        requires { position < 2 ^ 31 }
+        ensures { OnOk result (code.new.items ≡ code.old.items ++ instrs (tell self.now (pos position) (keys.IndirectPre params.now) ((constant ty ∷ word_code slot.ty slot.local) ++ words_code args.now))) }
+    {
+        let key = HookKey::IndirectPre(list(alloc, params)?);
+        self.push_slot_tell(position as i32, &key, ty, slot, args, code)
+    }
+
+    // The same, of this key.
     fn push_slot_tell(
         &self,
         position: i32,

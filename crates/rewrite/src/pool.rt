@@ -3,13 +3,14 @@
 ghost use Rattle.std.specs.Prelude.{◌≡◌, ◌+◌, ◌<◌, ◌≤◌, ◌^◌, ◌++◌, [], ◌∷◌, length, nat_abs, IfOk};
 ghost use Rattle.wasm_num.specs.declared.ValType.TheVariants.{I32};
 ghost use Rattle.wasm_num.specs.Shapes.{num_operands, num_result};
+ghost use Rattle.module_ast.specs.Lists.{when};
 ghost use Rattle.module_ast.specs.Positions.{code_size, code_nesting};
 ghost use Rattle.rewrite.specs.Temporaries.{pool_of, body_temps};
 ghost use Rattle.rewrite.specs.Room.{room_for, with_one, wider, widened, widened_where, no_room, instr_temps, temps_at};
 
 use crate::site::Site;
 use crate::wanted::num_group;
-use branch_resolve::{Opcode, Walk};
+use branch_resolve::{Opcode, Place, Walk};
 use hook_select::{GroupName, Hooks};
 use i64_split::Pool;
 use module_ast::code::Instr;
@@ -17,7 +18,7 @@ use std::alloc::Global;
 use wasm_num::{BlockKind, NoMemory, NumOp, ValType};
 
 // How many temporaries of each type are needed at once.
-#[derive(Clone, Copy, Debug)]
+#[derive(Clone, Copy)]
 pub struct Room {
     pub ints: usize,
     pub longs: usize,
@@ -151,12 +152,17 @@ impl Room {
         }
     }
 
-    // Enough for what stands at a live place too.
-    fn or_opcode(self, site: &Site, hooks: Hooks, position: i32, opcode: &Opcode) -> Room
-        ensures { result ≡ widened self (temps_at hooks site.now position opcode.now) }
+    // Enough for what stands at a place too, where it is live.
+    fn or_place(self, site: &Site, hooks: Hooks, place: &Place<'_>) -> Room
+        ensures { result ≡ widened self (when place.now.live (temps_at hooks site.now place.now.position place.now.opcode)) }
     {
-        match opcode {
-            Opcode::Acts(instr) => self.or_instr(site, hooks, position.unsigned_abs(), instr),
+        if !place.live {
+            return self;
+        }
+        match place.opcode {
+            Opcode::Acts(instr) => {
+                self.or_instr(site, hooks, place.position.unsigned_abs(), instr)
+            }
             Opcode::Opens(block) => match block.kind {
                 BlockKind::If => self.or_types(hooks.has(GroupName::If), &[ValType::I32]),
                 _ => self,
@@ -179,9 +185,7 @@ fn room_of(alloc: Global, site: &Site, hooks: Hooks) -> Result<Room, NoMemory>
     let mut room = Room { ints: 0, longs: 0 };
     let mut walk = Walk::new(alloc, &site.body().code)?;
     while let Some(place) = walk.next()? {
-        if place.live {
-            room = room.or_opcode(site, hooks, place.position, &place.opcode);
-        }
+        room = room.or_place(site, hooks, &place);
     }
     Ok(room)
 }

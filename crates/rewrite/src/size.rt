@@ -564,6 +564,31 @@ impl<'m> Setting<'m> {
         Ok(count + groups_length(own) + groups_length(&added))
     }
 
+    // The bytes of the rewritten body, of which so many are its locals', and all places are left.
+    fn with_places(
+        &self,
+        alloc: Global,
+        locals: u64,
+        walk: &mut Walk<'_>,
+        sums: &mut EndSums,
+        scratch: &mut Vec<Instr>,
+    ) -> Result<u64, AllocError>
+        requires can { IsCountable self.now }
+        requires locals { locals ≡ length (vec_bytes group_bytes (self.now.site.body.groups ++ pool_groups self.now.pool)) }
+        requires few { locals ≤ length (body_bytes self.now.site.body) + 32 }
+        requires left { walk.old.left ≡ positions.places self.now.site.body.code }
+        requires none { sums.old ≡ [] }
+        ensures length { IfOk result (λ n. n ≡ size_of self.now) }
+        ensures bound { IfOk result (λ n. n ≤ 2 ^ 36 * length (body_bytes self.now.site.body)) }
+    {
+        let mut total = locals;
+        while let Some(place) = walk.next()? {
+            self.follow(alloc, walk.scopes(), sums, scratch)?;
+            total += self.place_length(alloc, &place, walk.scopes(), sums, scratch)?;
+        }
+        Ok(total)
+    }
+
     /// How many bytes the rewritten body has. It takes time in proportion to the body as it is, however many ends its
     /// branches leave. An `Err` comes where there is no memory.
     pub fn rewritten_length(&self, alloc: Global) -> Result<u64, AllocError>
@@ -571,15 +596,11 @@ impl<'m> Setting<'m> {
         ensures length { IfOk result (λ n. n ≡ size_of self.now) }
         ensures bound { IfOk result (λ n. n ≤ 2 ^ 36 * length (body_bytes self.now.site.body)) }
     {
-        let mut total = self.locals_length(alloc)?;
+        let locals = self.locals_length(alloc)?;
         let mut walk = Walk::new(alloc, &self.site.body().code)?;
         let mut sums = EndSums::new(alloc);
         let mut scratch = Vec::new(alloc);
-        while let Some(place) = walk.next()? {
-            self.follow(alloc, walk.scopes(), &mut sums, &mut scratch)?;
-            total += self.place_length(alloc, &place, walk.scopes(), &sums, &mut scratch)?;
-        }
-        Ok(total)
+        self.with_places(alloc, locals, &mut walk, &mut sums, &mut scratch)
     }
 }
 

@@ -5,7 +5,7 @@ ghost use Rattle.wasm_num.specs.declared.ValType.TheVariants.{I32};
 ghost use Rattle.module_ast.specs.Lists.{when};
 ghost use Rattle.module_ast.specs.Tree as tree;
 ghost use Rattle.hook_mono.specs.declared.HookKey.TheVariants as keys;
-ghost use Rattle.i64_split.specs.Split.{temps, words_code, words_by};
+ghost use Rattle.i64_split.specs.Split.{temps, words_code, words_by, HasTemps};
 ghost use Rattle.i64_split.specs.Pushing.{instrs};
 ghost use Rattle.rewrite.specs.Setting.{constant, tell};
 ghost use Rattle.rewrite.specs.Temporaries.{wanted_temps};
@@ -30,19 +30,23 @@ pub(crate) fn list(alloc: Global, types: &[ValType]) -> Result<Seq<ValType>, All
 }
 
 impl<'m> Setting<'m> {
-    /// Adds the code that keeps operands in these temporaries, and the hook call that tells them behind these constants.
+    /// Adds the code that keeps operands of these types in temporaries, and the hook call that tells them behind these
+    /// constants.
     pub fn push_saved(
         &self,
+        alloc: Global,
         position: i32,
         key: &HookKey,
         first: &[u32],
-        temps: &[Temp],
+        types: &[ValType],
         code: &mut Vec<Instr>,
     ) -> Result<(), AllocError>
-        ensures { OnOk result (code.new.items ≡ code.old.items ++ instrs (tell_values self.now position key.now (map constant first.now) temps.now)) }
+        requires { HasTemps self.now.pool 0 types.now }
+        ensures { OnOk result (code.new.items ≡ code.old.items ++ instrs (tell_values self.now position key.now (map constant first.now) (temps self.now.pool types.now))) }
     {
-        save_in(code, temps)?;
-        self.push_tell(position, key, first, temps, code)
+        let temps = self.pool.temps(alloc, types, 0)?;
+        save_in(code, &temps)?;
+        self.push_tell(position, key, first, &temps, code)
     }
 
     /// Adds the hook call that tells the condition or index on top, which stays, where `wanted`.
@@ -79,8 +83,7 @@ impl<'m> Setting<'m> {
         }
         let results = self.site.results();
         let key = HookKey::Return(list(alloc, results)?);
-        let temps = self.pool.temps(alloc, results, 0)?;
-        self.push_saved(position, &key, &[], &temps, code)
+        self.push_saved(alloc, position, &key, &[], results, code)
     }
 
     /// Adds the hook call that tells the value of a local which was read or written, where it is selected.

@@ -18,7 +18,7 @@ use wasm_num::ValType;
 
 /// How an instruction leaves what it takes and gives in temporaries: its one or two operands and its result, its result
 /// alone, the address and the value of a store, what a drop drops, or what a select takes.
-#[derive(Clone, Copy, Debug, PartialEq, Eq)]
+#[derive(Clone, Copy)]
 pub(crate) enum Keeping {
     Around,
     Result,

@@ -4,6 +4,7 @@
 ghost use Rattle.std.specs.Prelude.{◌≡◌, ◌<◌, ◌≤◌, ◌^◌, ℕ, length, All, IfOk, IsErrOf};
 ghost use Rattle.module_ast.specs.declared.module.Body.{Body};
 ghost use Rattle.module_ast.specs.declared.module.Which.TheVariants.{Nesting};
+ghost use Rattle.module_ast.specs.Fits.{Fits};
 ghost use Rattle.module_ast.specs.Grammar.{IsModule};
 ghost use Rattle.module_ast.specs.Profile.{locals_of, limited_counts, AreWithin, tree_of};
 ghost use Rattle.module_ast.specs.Canonical.{module_bytes, without_customs};
@@ -44,6 +45,18 @@ impl From<AllocError> for EncodeFault {
     fn from(_e: AllocError) -> EncodeFault {
         EncodeFault::NoMemory
     }
+}
+
+/// How many canonical bytes a module has (5). Each of its numbers is counted on the way, so they are of their sizes.
+pub fn encoded_length(m: &Module) -> u64
+    requires bodies { length m.now.funcs ≡ length m.now.bodies }
+    requires locals { All (λ (b : Body). locals_of b.groups < 2 ^ 32) m.now.bodies }
+    requires room { length (module_bytes m.now) < 2 ^ 63 }
+    ensures length { result ≡ length (module_bytes m.now) }
+    ensures fit { length (module_bytes m.now) < 2 ^ 32 → Fits m.now }
+{
+    let bodies = entries_length(m.bodies.as_slice());
+    module_length(m, bodies)
 }
 
 /// The canonical bytes of a module (5): every number in its shortest spelling, no section without entries, no custom one.
