@@ -48,7 +48,7 @@ fault_within m s fault call t e = call_within m s call (subst (λ f. TellsRefusa
 pub no_memory_told : (words : List (List ℕ)) (old new : ShelfState) (told : Refusal) → Unchanged old.contents new.contents → told ≡ refusals.NoMemory
     → Cause words old new (refusal_status told) (refusal_text told)
 no_memory_told words old new told u e =
-    subst (λ r. Cause words old new (refusal_status r) (refusal_text r)) (sym e) (memory_ended (inl u))
+    subst (λ r. Cause words old new (refusal_status r) (refusal_text r)) (sym e) (memory_ended u)
 
 -- subject and script do not link, and why is told
 link_told : (words : List (List ℕ)) (old new : ShelfState) (m : Module) (s : Script) (why : LinkRefusal) (told : Refusal)
