@@ -1,12 +1,14 @@
 // Valid modules.
 
+use crate::data::have_bytes;
 use code_valid::{Marks, TypedBody};
 use module_ast::module::Module;
 use module_ast::seq::Seq;
 use module_ast::spaces::Spaces;
 use std::marker::Model;
 
-/// A module that is whole and valid, with what the check of each body noted. Contracts see the module. (Standard, 3.4)
+/// A module that is whole, complete and valid, with what the check of each body noted. Contracts see the module.
+/// (Standard, 3.4)
 #[derive(Debug, Drop)]
 pub struct ValidModule {
     module: Module,
@@ -27,15 +29,16 @@ impl Model for ValidModule {
     ghost view = { λ a. a.module };
 
     ghost use Rattle.std.specs.Prelude.{◌≡◌};
+    ghost use Rattle.module_ast.specs.Limits.{IsComplete};
     ghost use Rattle.module_ast.specs.Spaces.{spaces_of};
     ghost use Rattle.wasm_valid.specs.Validated.{IsValidated};
 
-    ghost invariant = { λ a. IsValidated a.module a.marks × (a.spaces ≡ spaces_of a.module) };
+    ghost invariant = { λ a. IsValidated a.module a.marks × IsComplete a.module × (a.spaces ≡ spaces_of a.module) };
 }
 
 impl ValidModule {
     ghost use Rattle.std.specs.Prelude.{◌≡◌, ◌<◌, length};
-    ghost use Rattle.module_ast.specs.Limits.{IsWhole};
+    ghost use Rattle.module_ast.specs.Limits.{IsWhole, IsComplete};
     ghost use Rattle.module_ast.specs.Spaces.{spaces_of};
     ghost use Rattle.module_ast.specs.Validity.{IsValid};
     ghost use Rattle.wasm_valid.specs.Validated.{IsValidated};
@@ -46,6 +49,7 @@ impl ValidModule {
         requires spaces { spaces ≡ spaces_of m }
         ensures { result ≡ m }
     {
+        have_bytes(m.segments.as_slice());
         ValidModule {
             module: m,
             spaces,
@@ -57,6 +61,7 @@ impl ValidModule {
     pub fn module(&self) -> &Module
         ensures module { result.now ≡ self.now }
         ensures whole { IsWhole self.now }
+        ensures complete { IsComplete self.now }
         ensures valid { IsValid self.now }
     {
         &self.module
