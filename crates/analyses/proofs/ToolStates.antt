@@ -1,12 +1,11 @@
--- The states of a list of analyses, where f gives the state of one: what is known of the one at a place, and what stands once it was
--- changed.
+-- The states of a list of analyses, where f gives the state of one, and the states that events lead to.
 use Rattle.std.proofs.Common.{◌≡◌, ℕ, zero, suc, ◌+◌, ◌<◌, List, [], ◌∷◌, All, map, length, get_or, set, fold, ◌++◌, refl, ap, ap₂, sym, subst, ◌∙◌, append_assoc, arith}
 use Rattle.std.proofs.lemmas.List.{get_or-map, length-map, length-append, append-nil}
 use Rattle.std.proofs.lemmas.List.Elements.{All-get_or}
 use Rattle.hook_select.specs.declared.Event.{Event}
 use Rattle.analyses.specs.declared.Kind.{Kind}
 use Rattle.analyses.specs.declared.Row.{Row}
-use Rattle.analyses.specs.Tools.{ToolState, state_after, given_to, tool_with}
+use Rattle.analyses.specs.Tools.{ToolState, state_after, tool_with, TakesMakeTool}
 use Rattle.analyses.proofs.Books.{book_more}
 
 -- what holds of each state holds of that of the one at a place
@@ -17,19 +16,6 @@ state_at P f ts i t within read holds =
     let inside : i < length (map f ts) = simp length-map within in
     subst P same (All-get_or P (map f ts) i (f t) inside holds)
 
--- it was written back in the state that it was read in
-pub states_kept : {T : Type 0} (f : T → ToolState) (ts : List T) (i : ℕ) (t u : T) → t ≡ get_or ts i t → f u ≡ f t → map f (set ts i u) ≡ map f ts
-states_kept f [] i t u read same = refl
-states_kept f (x ∷ xs) zero t u read same = ap (λ s. s ∷ map f xs) (same ∙ ap f read)
-states_kept f (x ∷ xs) (suc i) t u read same = ap (λ ss. f x ∷ ss) (states_kept f xs i t u read same)
-
--- it took an event
-pub states_given : {T : Type 0} (f : T → ToolState) (ts : List T) (i : ℕ) (e : Event) (t u : T) → t ≡ get_or ts i t → f u ≡ state_after (f t) e
-    → map f (set ts i u) ≡ given_to i e (map f ts)
-states_given f [] i e t u read took = refl
-states_given f (x ∷ xs) zero e t u read took = ap (λ s. s ∷ map f xs) (took ∙ ap (λ y. state_after (f y) e) read)
-states_given f (x ∷ xs) (suc i) e t u read took = ap (λ ss. f x ∷ ss) (states_given f xs i e t u read took)
-
 abbrev tool_state : Kind → ℕ → List Row → ToolState
 tool_state kind n rows = record { counts = kind; so_many = n; book = rows }
 
@@ -38,12 +24,15 @@ tool_state kind n rows = record { counts = kind; so_many = n; book = rows }
 one_more : (es : List Event) (e : Event) → length es + 1 ≡ length (es ++ e ∷ [])
 one_more es e = omega (arith, length-append es (e ∷ []))
 
-pub state_after-tool_with : (kind : Kind) (es : List Event) (e : Event) → state_after (tool_with kind es) e ≡ tool_with kind (es ++ e ∷ [])
+state_after-tool_with : (kind : Kind) (es : List Event) (e : Event) → state_after (tool_with kind es) e ≡ tool_with kind (es ++ e ∷ [])
 state_after-tool_with kind es e = ap₂ (λ n rows. tool_state kind n rows) (one_more es e) (sym (book_more kind es e))
 
--- events more, one by one; fresh_tool kind is tool_with kind []
-pub fold-state_after : (kind : Kind) (es more : List Event) → fold state_after (tool_with kind es) more ≡ tool_with kind (es ++ more)
+-- events more, one by one
+fold-state_after : (kind : Kind) (es more : List Event) → fold state_after (tool_with kind es) more ≡ tool_with kind (es ++ more)
 fold-state_after kind es [] = ap (tool_with kind) (sym (append-nil es))
 fold-state_after kind es (e ∷ more) =
     ap (λ s. fold state_after s more) (state_after-tool_with kind es e) ∙ fold-state_after kind (es ++ e ∷ []) more
     ∙ ap (tool_with kind) (append_assoc es (e ∷ []) more)
+
+pub takes_make_tool : TakesMakeTool
+takes_make_tool kind es = fold-state_after kind [] es

@@ -1,5 +1,5 @@
 -- The states that analyses are in.
-use Rattle.std.specs.Prelude.{ℕ, zero, suc, ◌+◌, List, [], ◌∷◌, length}
+use Rattle.std.specs.Prelude.{◌≡◌, ℕ, ◌+◌, List, [], length, fold}
 use Rattle.hook_select.specs.declared.Event.{Event}
 use Rattle.analyses.specs.declared.Kind.{Kind}
 use Rattle.analyses.specs.declared.Row.{Row}
@@ -23,8 +23,6 @@ tool_with kind es = record { counts = kind; so_many = length es; book = book kin
 abbrev pub state_after : ToolState → Event → ToolState
 state_after s e = record { counts = s.counts; so_many = s.so_many + 1; book = rows_after s.counts s.book e }
 
--- those of a list of analyses, where the one at a place takes an event
-abbrev pub given_to : ℕ → Event → List ToolState → List ToolState
-given_to place e [] = []
-given_to zero e (s ∷ ss) = state_after s e ∷ ss
-given_to (suc place) e (s ∷ ss) = s ∷ given_to place e ss
+-- taking event after event makes the state of these events
+abbrev pub TakesMakeTool : Type 0
+TakesMakeTool = (kind : Kind) (es : List Event) → fold state_after (fresh_tool kind) es ≡ tool_with kind es

@@ -56,7 +56,6 @@ pub(crate) fn check_links(
     valid: &ValidModule,
     script: &Script,
 ) -> Result<(), LinkFault>
-    requires { IsComplete valid.now }
     ensures { ChecksRefusal result (link valid.now script.now) }
 {
     let module = valid.module();

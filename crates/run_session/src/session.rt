@@ -1,12 +1,12 @@
 // A run of a module by a script, in turns.
 
-ghost use Rattle.std.specs.Prelude.{◌≡◌, ◌+◌, ◌≤◌, IfOk, OnErr};
+ghost use Rattle.std.specs.Prelude.{◌≡◌, ◌-◌, ◌≤◌, IfOk, OnErr};
 ghost use Rattle.wasm_sem.specs.Answers.{summary};
 ghost use Rattle.wasm_sem.specs.Laws.{slots_in};
 ghost use Rattle.wasm_sem.specs.Link.{IsScriptInRange};
-ghost use Rattle.module_ast.specs.Limits.{IsComplete};
 ghost use Rattle.wasm_run.specs.Moves.{MayWant};
-ghost use Rattle.wasm_run.specs.Running.{configuration_of};
+ghost use Rattle.wasm_run.specs.Running.{configuration_of, IsLinked};
+ghost use Rattle.wasm_run.specs.Turns.{RunsFor};
 ghost use Rattle.run_session.specs.Sessions.{OpensSession, TakesTurn, told_outcome, awaits_start, pending_in, pending_summary};
 
 use crate::link::{LinkFault, check_links};
@@ -16,7 +16,7 @@ use std::alloc::Global;
 use std::marker::Model;
 use wasm_num::NoMemory;
 use wasm_run::Machine;
-use wasm_sem::{Answer, Script, Turn};
+use wasm_sem::{Answer, Script, Stop, Turn};
 use wasm_valid::ValidModule;
 
 /// What came of a run when it stopped.
@@ -77,7 +77,6 @@ impl<'m> Session<'m> {
         valid: &'m ValidModule,
         script: &'m Script,
     ) -> Result<Session<'m>, LinkFault>
-        requires complete { IsComplete valid.now }
         requires range { IsScriptInRange script.now }
         ensures { OpensSession valid.now script.now result }
     {
@@ -104,16 +103,22 @@ impl<'m> Session<'m> {
         self.machine.step()
     }
 
-    /// How many steps of the script are left.
-    pub fn left(&self) -> u64
-        ensures { self.now.made + result ≡ self.now.script.steps }
+    /// Makes the steps of the script that are left, or fewer to the end of the run. `OutOfSteps` says that the run goes on
+    /// then. An `Err` comes only where the start or a call of the script is entered, or at a call or a `memory.grow`, and
+    /// leaves the session before it, behind the steps made so far.
+    pub fn run(&mut self) -> Result<Stop, NoMemory>
+        ensures ran { RunsFor (self.old.script.steps - self.old.made) result self.old self.new }
+        ensures within { self.new.made ≤ self.new.script.steps }
+        ensures err { OnErr result (MayWant (configuration_of self.new)) }
     {
-        self.steps - self.machine.made()
+        let left = self.steps - self.machine.made();
+        self.machine.run(left)
     }
 
-    /// The table, with no slots where the module has none.
+    /// The table, with no slots where the module has none. The module and the script of a session link.
     pub fn table(&self) -> &Table
-        ensures { result.now ≡ slots_in (configuration_of self.now) }
+        ensures slots { result.now ≡ slots_in (configuration_of self.now) }
+        ensures linked { IsLinked self.now.module self.now.script }
     {
         self.machine.table()
     }

@@ -1,5 +1,5 @@
 -- A step of the machine is a step of the run.
-use Rattle.std.proofs.Common.{◌≡◌, ℕ, ◌+◌, ◌<◌, ◌≤◌, inr, List, [], ◌∷◌, Option, Some, None, Result, Ok, Err, refl, sym, ap, subst, ◌∙◌, ne_eqb, arith}
+use Rattle.std.proofs.Common.{◌≡◌, ℕ, ◌+◌, ◌<◌, ◌≤◌, List, [], ◌∷◌, Option, Some, None, Result, Ok, Err, refl, sym, ap, subst, ◌∙◌, ne_eqb, arith}
 use Rattle.std.specs.declared.alloc.AllocError.{AllocError}
 use Rattle.std.specs.Prelude.{IsErr, not, ◌==◌, length}
 use Rattle.wasm_num.specs.declared.Value.{Value}
@@ -19,7 +19,7 @@ use Rattle.wasm_run.specs.Standing.{IsStanding, KeepsStore, Went, Trapped as Has
 use Rattle.wasm_run.specs.Advances.{IsAtCall, IsAtGrow, IsSame, Advances, GoesAtNoCall}
 use Rattle.wasm_run.specs.Rooms.{HaveRoom}
 use Rattle.wasm_run.specs.Below.{IsAnswerOf}
-use Rattle.wasm_run.specs.Moves.{RunsOn, EndsWith, MovesBy, MayWant, MakesStep}
+use Rattle.wasm_run.specs.Moves.{RunsOn, EndsWith, MovesBy, CallsOrGrows, MayWant, MakesStep}
 use Rattle.module_ast.specs.Tree.{Tree}
 use Rattle.wasm_run.specs.Running.{HoldsIf, Run, configuration_of, KeepsConfiguration, IsRunning, IsInside, Innermost}
 use Rattle.wasm_run.proofs.Beside.{NextGoesOn, step_goes_on}
@@ -204,7 +204,7 @@ trap_running m s made f memory globals running t h empty unframed = go (run_of m
 -- memory is wanting at `memory.grow`
 pub wants_at_grow : (c : Configuration) → Innermost IsAtGrow c → MayWant c
 wants_at_grow (configuration e []) h = absurd h
-wants_at_grow (configuration e (fr ∷ below)) h = inr h
+wants_at_grow (configuration e (fr ∷ below)) h = subst CallsOrGrows (sym h.at) tt
 
 -- a label is there where a frame is
 pub label_there : (m : Module) (s : Script) (f : Flat) (memory : Held) (globals : List Value) (c : Configuration) → KeepsConfiguration m s c f memory globals → IsInside c → 0 < length f.spots

@@ -18,7 +18,7 @@ use Rattle.wasm_sem.specs.Typed.{HaveTypes, IsPhaseTyped, IsConfigurationTyped}
 use Rattle.wasm_sem.proofs.SoundEntries.{no_refusal, start_enters, call_enters}
 use Rattle.wasm_sem.proofs.Sound.{always_typed}
 use Rattle.wasm_run.specs.Entries.{EntersWith, EntersNext}
-use Rattle.wasm_run.specs.Moves.{env_beside}
+use Rattle.wasm_run.specs.Moves.{env_beside, MayWant}
 use Rattle.wasm_run.specs.Progress.{AreCalled}
 use Rattle.wasm_run.specs.Running.{IsLinked, IsInside}
 
@@ -137,6 +137,11 @@ entry_goes inst (configuration e []) func numbers called h = go e.phase refl
         told_apart : {A : Type 0} {x : A} {xs : List A} → [] ≡ x ∷ xs → ⊥
         told_apart q = absurd cc
 entry_goes inst (configuration e (fr ∷ below)) func numbers called h = absurd h
+
+-- memory may be wanting for it
+pub entry_wants : (inst : Instance) (c : Configuration) (func : ℕ) (numbers : List ℤ) (called : Callee) → EntersNext inst c func numbers called → MayWant c
+entry_wants inst (configuration e []) func numbers called h = entry_goes inst (configuration e []) func numbers called h
+entry_wants inst (configuration e (fr ∷ below)) func numbers called h = absurd h
 
 -- what is there is found
 pub nothing_there : {A : Type 0} (o : Option A) (b : Bool) → is_some o ≡ b → b ≡ true → ((x : A) → o ≡ Some x → ⊥) → ⊥

@@ -1,5 +1,5 @@
 -- Where a call leads: the function of a direct call, the slot of one through the table, and what is told of a call of a hook.
-use Rattle.std.proofs.Common.{◌≡◌, ◌≢◌, ℕ, ◌-◌, ◌<◌, ◌≤◌, inl, List, [], ◌∷◌, ◌++◌, length, take, drop, slice_index_or, Option, Some, None, Bool, true, false, cond, ◌&&◌, refl, sym, ap, ap₂, subst, ◌∙◌, arith, slice_get}
+use Rattle.std.proofs.Common.{◌≡◌, ◌≢◌, ℕ, ◌-◌, ◌<◌, ◌≤◌, List, [], ◌∷◌, ◌++◌, length, take, drop, slice_index_or, Option, Some, None, Bool, true, false, cond, ◌&&◌, refl, sym, ap, ap₂, subst, ◌∙◌, arith, slice_get}
 use Rattle.std.proofs.lemmas.Option.{slice_get_within, same_Some}
 use Rattle.wasm_num.specs.declared.ValType.{ValType}
 use Rattle.wasm_num.specs.declared.Value.{Value}
@@ -10,7 +10,7 @@ use Rattle.module_ast.specs.declared.code.Instr.{Instr}
 use Rattle.module_ast.specs.declared.code.Instr.TheVariants as instrs
 use Rattle.module_ast.specs.Seen.{before, code_of}
 use Rattle.std.proofs.lemmas.List.{take_all}
-use Rattle.wasm_run.specs.Moves.{MayWant}
+use Rattle.wasm_run.specs.Moves.{CallsOrGrows, MayWant}
 use Rattle.module_ast.specs.Tree.{Tree, plain, call, call_indirect}
 use Rattle.wasm_run.specs.Calls.{NextIsNoCall}
 use Rattle.run_store.specs.Held.{Held}
@@ -26,6 +26,7 @@ use Rattle.wasm_run.specs.Flat.{Flat}
 use Rattle.wasm_run.specs.Kept.{under, Lies}
 use Rattle.wasm_run.specs.Reaching.{Reaches, IsAtSlot}
 use Rattle.wasm_run.specs.Running.{Innermost, KeepsConfiguration, IsRunning}
+use Rattle.wasm_run.specs.Standing.{IsCall}
 
 -- ---- the same types
 
@@ -283,7 +284,12 @@ pub first_before : (is : List Instr) (i : Instr) → 1 ≤ length is → i ≡ s
 first_before [] i h e = absurd (omega (arith, h))
 first_before (j ∷ is) i h e = ap₂ (λ (j : Instr) (is : List Instr). before j (code_of is)) (sym e) (sym (take_all (length (j ∷ is) - 1) is (omega arith)))
 
+call_wants : (i : Instr) (k : Tree) → IsCall i → CallsOrGrows (before i k)
+call_wants (instrs.Call f) k h = tt
+call_wants (instrs.CallIndirect x) k h = tt
+call_wants _ k h = absurd h
+
 -- at a call memory may be wanting
 pub reaches_wants : (inst : Instance) (c : Configuration) (slot : Option ℕ) (func : ℕ) (k : Tree) (called : Callee) → Reaches inst c slot func k called → MayWant c
 reaches_wants inst (configuration e []) slot func k called h = absurd h
-reaches_wants inst (configuration e (fr ∷ below)) slot func k called h = inl h.at
+reaches_wants inst (configuration e (fr ∷ below)) slot func k called h = subst CallsOrGrows (sym h.at.at) (call_wants h.at.instr h.at.rest h.at.call)

@@ -1,10 +1,10 @@
 -- What a step of a run comes to: a function runs on, or what ran has ended; and where memory may be wanting.
-use Rattle.std.specs.Prelude.{◌≡◌, [], ◌∷◌, Result, Ok, Err, Option, Some, None, ◌⊎◌}
+use Rattle.std.specs.Prelude.{◌≡◌, [], ◌∷◌, Result, Ok, Err, Option, Some, None, false}
 use Rattle.std.specs.declared.alloc.AllocError.{AllocError}
+use Rattle.module_ast.specs.Tree.{Tree, plain, call, call_indirect, memory_grow}
 use Rattle.wasm_sem.specs.declared.Answer.{Answer}
 use Rattle.wasm_sem.specs.Link.{Instance, instance}
-use Rattle.wasm_sem.specs.Machine.{Env, Configuration, configuration, env_after}
-use Rattle.wasm_run.specs.Advances.{IsAtCall, IsAtGrow}
+use Rattle.wasm_sem.specs.Machine.{Env, Configuration, configuration, env_after, is_last}
 use Rattle.wasm_run.specs.Running.{Run, configuration_of, one_more, IsInside}
 
 -- what stands beside the frames
@@ -27,10 +27,17 @@ pub record EndsWith (inst : Instance) (a : Answer) (old new : Configuration) : T
   pub outside : IsInside new → ⊥
   pub told : HasSameAnswers (env_after inst (env_beside old).phase (env_beside old) a) (env_beside new)
 
+-- the next instruction is a call or a `memory.grow`
+abbrev pub CallsOrGrows : Tree → Type 0
+CallsOrGrows (plain (call f) k) = Unit {0}
+CallsOrGrows (plain (call_indirect x) k) = Unit {0}
+CallsOrGrows (plain memory_grow k) = Unit {0}
+CallsOrGrows _ = ⊥
+
 -- Memory may be wanting only where the start or a call of the script is entered, or at a call or a `memory.grow`.
 abbrev pub MayWant : Configuration → Type 0
-MayWant (configuration e []) = Unit {0}
-MayWant (configuration e (fr ∷ below)) = IsAtCall fr ⊎ IsAtGrow fr
+MayWant (configuration e []) = is_last e.phase ≡ false
+MayWant (configuration e (fr ∷ below)) = CallsOrGrows fr.top.rest
 
 -- a function runs on, or what ran has ended with this answer
 abbrev pub MovesBy : Instance → Option Answer → (old new : Configuration) → Type 0

@@ -5,11 +5,10 @@ ghost use Rattle.wasm_sem.specs.Answers.{turn_by};
 ghost use Rattle.wasm_sem.specs.Laws.{slots_in};
 ghost use Rattle.wasm_sem.specs.Link.{IsScriptInRange, Links};
 ghost use Rattle.wasm_sem.specs.Machine.{is_over};
-ghost use Rattle.module_ast.specs.Limits.{IsComplete};
 ghost use Rattle.wasm_run.specs.Beside.{hosts_in, pages_in};
 ghost use Rattle.wasm_run.specs.Moves.{MayWant};
 ghost use Rattle.wasm_run.specs.Progress.{IsEntry, GoesOn};
-ghost use Rattle.wasm_run.specs.Running.{Run, configuration_of, IsInside};
+ghost use Rattle.wasm_run.specs.Running.{Run, configuration_of, IsInside, IsLinked};
 ghost use Rattle.wasm_run.specs.Turns.{MakesTurn, RunsFor, started_in, answers_in, next_turn};
 
 use crate::exports::called_functions;
@@ -72,7 +71,6 @@ impl<'m> Machine<'m> {
         valid: &'m ValidModule,
         script: &'m Script,
     ) -> Result<Machine<'m>, NoMemory>
-        requires complete { IsComplete valid.now }
         requires range { IsScriptInRange script.now }
         requires links { Links valid.now script.now }
         ensures { IfOk result (λ r. r ≡ record { «module» = valid.now; script = script.now; made = 0 }) }
@@ -108,11 +106,13 @@ impl<'m> Machine<'m> {
         Ok(turn)
     }
 
-    /// Makes steps until the run is over or so many were made. `OutOfSteps` says that the run goes on then. After an `Err`
-    /// the machine stands behind the steps made so far.
+    /// Makes steps until the run is over or so many were made. `OutOfSteps` says that the run goes on then. An `Err` comes
+    /// only where the start or a call of the script is entered, or at a call or a `memory.grow`, and leaves the machine
+    /// before it, behind the steps made so far.
     pub fn run(&mut self, steps: u64) -> Result<Stop, NoMemory>
         requires few { self.old.made + steps < 2 ^ 64 }
-        ensures { RunsFor steps result self.old self.new }
+        ensures ran { RunsFor steps result self.old self.new }
+        ensures err { OnErr result (MayWant (configuration_of self.new)) }
     {
         for _ in 0..steps {
             if !self.go_on()? {
@@ -181,7 +181,8 @@ impl<'m> Machine<'m> {
 
     /// The table, with no slots where the module has none.
     pub fn table(&self) -> &Table
-        ensures { result.now ≡ slots_in (configuration_of self.now) }
+        ensures slots { result.now ≡ slots_in (configuration_of self.now) }
+        ensures linked { IsLinked self.now.module self.now.script }
     {
         self.running.table()
     }

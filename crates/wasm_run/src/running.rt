@@ -8,7 +8,6 @@ ghost use Rattle.wasm_sem.specs.Laws.{slots_in};
 ghost use Rattle.wasm_sem.specs.Link.{Callee, hook, host, own, callees_of, instance, IsScriptInRange, Links};
 ghost use Rattle.wasm_sem.specs.Machine.{Frame, traps, step};
 ghost use Rattle.wasm_sem.specs.Trace.{items};
-ghost use Rattle.module_ast.specs.Limits.{IsComplete};
 ghost use Rattle.module_ast.specs.Validity.{declared_locals};
 ghost use Rattle.wasm_run.specs.Running.{Run, configuration_of, HoldsIf, IsInside, IsSizeOf, Innermost};
 ghost use Rattle.wasm_run.specs.Beside.{hosts_in, pages_in};
@@ -75,7 +74,6 @@ impl<'m> Running<'m> {
         valid: &'m ValidModule,
         script: &'m Script,
     ) -> Result<Running<'m>, NoMemory>
-        requires complete { IsComplete valid.now }
         requires range { IsScriptInRange script.now }
         requires links { Links valid.now script.now }
         ensures { IfOk result (λ r. r ≡ record { «module» = valid.now; script = script.now; made = 0 }) }

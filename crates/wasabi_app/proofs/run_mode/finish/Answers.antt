@@ -1,23 +1,30 @@
--- A step more, the end, or want of memory.
-use Rattle.std.proofs.Common.{◌∙◌, sym, ap}
+-- All steps that were left, or fewer to the end, behind which all of the script's steps tell no more.
+use Rattle.std.proofs.Common.{◌≡◌, ℕ, ◌+◌, ◌-◌, ◌≤◌, Ok, true, sym, ap, ◌∙◌, arith}
 use Rattle.std.proofs.lemmas.Result.{IfOk-weaker}
-use Rattle.wasm_sem.specs.declared.Script.{Script}
-use Rattle.wasabi_app.proofs.RunEnds.{not_over, step_taken, fewer_left, over_taken}
+use Rattle.wasm_sem.specs.declared.Stop.{Stop}
+use Rattle.wasm_sem.specs.declared.Stop.TheVariants as stops
+use Rattle.wasm_sem.specs.Answers.{summary, summary_of}
+use Rattle.wasm_sem.specs.Machine.{is_over, run_of}
+use Rattle.wasm_sem.proofs.Ended.{stays_over}
+use Rattle.wasm_run.specs.Running.{Run, configuration_of}
+use Rattle.wasm_run.specs.Turns.{more_steps, RunsFor}
 use Rattle.wasabi_app.proofs.run_mode.finish.Goals as goal
 
-pub loop-session-smaller : goal.loop-session-smaller
-loop-session-smaller c =
-    let t = step_taken _ c.loop-session.session c.call.new.self c.in_ok-call.ensures.turn (not_over c.is_over.result c.is_over.ensures c.if-not-is_over.true) in
-    fewer_left c.loop-session.session.made c.call.new.self.made _ _ t.2 c.in_ok-call.ensures.within (ap (λ (s : Script). s.steps) (sym t.1))
+-- at the end, so many steps after the first
+at_end : (r : Run) (n left : ℕ) → n ≤ left → is_over (configuration_of (more_steps n r)) ≡ true → configuration_of (more_steps n r) ≡ run_of r.module r.script (r.made + left)
+at_end r n left few over =
+    let sum : r.made + n + (left - n) ≡ r.made + left = omega (arith, few) in
+    sym (stays_over r.module r.script (r.made + n) (left - n) over) ∙ ap (run_of r.module r.script) sum
 
-pub loop-session-preserved : goal.loop-session-preserved
-loop-session-preserved c =
-    let t = step_taken _ c.loop-session.session c.call.new.self c.in_ok-call.ensures.turn (not_over c.is_over.result c.is_over.ensures c.if-not-is_over.true) in
-    (t.0 ∙ c.loop-session.invariant.0, t.1 ∙ c.loop-session.invariant.1, c.in_ok-call.ensures.within)
+ran_out : (stop : Stop) (left : ℕ) (old new : Run) → RunsFor left (Ok stop) old new → configuration_of new ≡ run_of old.module old.script (old.made + left)
+ran_out stops.OutOfSteps left old new h = ap configuration_of h.0
+ran_out stops.Over left old new h =
+    ap configuration_of h.0.further
+    ∙ at_end old h.0.steps left h.0.few (sym (ap (λ (r : Run). is_over (configuration_of r)) h.0.further) ∙ h.1)
 
 pub returns : goal.returns
 returns c =
-    let ended = over_taken _ c.args.session c.loop-session.session c.call.new.self c.in_ok-call.ensures.turn (c.is_over.ensures.0 c.if-not-is_over.false)
-    c.loop-session.invariant.0 c.loop-session.invariant.1 c.loop-session.invariant.2
-    in
+    let r = c.args.session in
+    let all : r.made + (r.script.steps - r.made) ≡ r.script.steps = omega (arith, c.requires) in
+    let ended = ap summary (ran_out c.in_ok-run.field-0 (r.script.steps - r.made) r c.run.new.session c.in_ok-run.ensures.ran ∙ ap (run_of r.module r.script) all) in
     IfOk-weaker c.finish.result _ _ (λ o e. e ∙ ended) c.finish.ensures.outcome

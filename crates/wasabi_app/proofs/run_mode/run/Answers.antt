@@ -2,7 +2,7 @@
 use Rattle.std.proofs.lemmas.Result.{err_from_is_err_and}
 use Rattle.wasabi_app.specs.Ends.{unloaded, run_alone}
 use Rattle.wasabi_app.proofs.Contents.{unchanged_after, scripted_before, cause_before}
-use Rattle.wasabi_app.proofs.RunOutputs.{run_reads, script_reads, loaded_complete, fault_within, refuses_unlinked, comes_ran}
+use Rattle.wasabi_app.proofs.RunOutputs.{run_reads, script_reads, fault_within, refuses_unlinked, comes_ran}
 use Rattle.wasabi_app.proofs.run_mode.run.Goals as goal
 
 pub returns-in_err-valid-clause-ended : goal.returns-in_err-valid-clause-ended
@@ -17,9 +17,6 @@ returns-in_err-script-clause-ended g c = λ words tools k.
     (unloaded _ _ _ (script_reads c.in_ok-valid.valid k (rw c.wide.ensures at c.in_ok-valid.ensures.ok))
     (cause_before _ _ _ _ _ _ c.in_ok-valid.ensures.kept c.in_ok-valid.ensures.read_count c.in_err-script.ensures.refused)
     (unchanged_after _ _ _ c.in_ok-valid.ensures.kept c.in_err-script.ensures.kept))
-
-pub play-requires-clause-complete : goal.play-requires-clause-complete
-play-requires-clause-complete g c = loaded_complete c.in_ok-valid.valid (rw c.wide.ensures at c.in_ok-valid.ensures.ok)
 
 pub play-requires-clause-range : goal.play-requires-clause-range
 play-requires-clause-range g c = c.in_ok-script.ensures.range

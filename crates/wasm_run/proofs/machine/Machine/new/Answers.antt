@@ -25,7 +25,7 @@ invariant_of-result c =
           (subst (λ st. IsStage m st (call_from (instance m s) 0)) (sym w.stage-is) (w.call_from-stage.ensures m (instance m s) (calls_count m s fs.items functions_are ∙ count)))
     ] in
     subst (λ (r : Run). KeepsAnswers r q c.in_ok-functions.functions.items) (sym c.in_ok-running.ensures) (record {
-      linked = record { valid = c.module-module.ensures.valid; complete = c.requires.complete; range = c.requires.range; links = c.requires.links };
+      linked = record { valid = c.module-module.ensures.valid; complete = c.module-module.ensures.complete; range = c.requires.range; links = c.requires.links };
       tells = opening_tells m s q stage refl c.new-2.ensures.items;
       room = λ inside. absurd inside;
       functions_are = functions_are;
