@@ -3,11 +3,9 @@
 ghost use Rattle.std.specs.Prelude.{◌≡◌, IfSome, map};
 ghost use Rattle.analyses.specs.Tools.{fresh_tool};
 ghost use Rattle.analyses.specs.declared.Kind.TheVariants as kinds;
-ghost use Rattle.module_ast.specs.Limits.{IsComplete};
-ghost use Rattle.module_ast.specs.Validity.{IsValid};
 ghost use Rattle.static_info.specs.Belongs.{Belongs};
 ghost use Rattle.static_info.specs.Form.{IsWellFormed};
-ghost use Rattle.wasm_sem.specs.Link.{IsScriptInRange, Links};
+ghost use Rattle.wasm_sem.specs.Link.{IsScriptInRange};
 ghost use Rattle.wasabi_app.specs.Feeding.{fresh_tools};
 
 use crate::commands::{ONE_NOP, fails_of, status_of};
@@ -174,10 +172,7 @@ fn an_analysis_has_no_memory(rt: HostRuntime) -> Result<(), test::Fail> {
 }
 
 // The valid module with these bytes.
-#[tactic(auto, using(wasm_sem::proofs::SoundRead::read_complete))]
-fn valid_of<R: Threads + Sync>(rt: &R, alloc: Global, file: &[u8]) -> Option<ValidModule>
-    ensures { IfSome result (λ valid. IsComplete valid) }
-{
+fn valid_of<R: Threads + Sync>(rt: &R, alloc: Global, file: &[u8]) -> Option<ValidModule> {
     if file.len() > 1_000 {
         return None;
     }
@@ -194,10 +189,6 @@ fn fed_once(
     tools: &mut Vec<Box<dyn Analysis>>,
     most: u32,
 ) -> Result<Option<Tally>, AllocError>
-    requires valid { IsValid session.old.module }
-    requires complete { IsComplete session.old.module }
-    requires range { IsScriptInRange session.old.script }
-    requires links { Links session.old.module session.old.script }
     requires formed { IsWellFormed info.now }
     requires belongs { Belongs info.now session.old.module }
     requires fresh { map state tools.old.items ≡ fresh_tools }
@@ -225,7 +216,6 @@ fn fed_first(
     script: &Script,
     tools: &mut Vec<Box<dyn Analysis>>,
 ) -> Result<Option<Tally>, LinkFault>
-    requires complete { IsComplete valid.now }
     requires range { IsScriptInRange script.now }
     requires formed { IsWellFormed info.now }
     requires belongs { Belongs info.now valid.now }

@@ -6,8 +6,6 @@ use Rattle.module_ast.specs.Limits.{wide}
 use Rattle.wasm_sem.specs.declared.Script.{Script}
 use Rattle.wasm_sem.specs.Answers.{Summary}
 use Rattle.wasm_sem.specs.Link.{Refusal as LinkRefusal, no_export, bad_args, memory_cap, table_cap, segment_range, link, Links}
-use Rattle.module_ast.specs.Limits.{IsComplete}
-use Rattle.wasm_sem.proofs.SoundRead.{read_complete}
 use Rattle.run_session.specs.declared.link.LinkFault.{LinkFault}
 use Rattle.run_session.specs.declared.link.LinkFault.TheVariants.{NoExport, BadArgs, MemoryCap, TableCap, SegmentRange, NoMemory}
 use Rattle.run_session.specs.Linking.{TellsRefusal}
@@ -35,9 +33,6 @@ pub script_reads : {words : List (List ℕ)} {subject script : List ℕ} {held :
     → IsLoaded held subject wide_file wide m → Reads words held (script_read script)
 script_reads {subject = subject} {script = script} m r l =
     record { task = to_run subject script; asked = r; reached = inr ((l.bytes, l.read, (m, l.fit, l.valid)), inl refl) }
-
-pub loaded_complete : {held : Option Contents} {name : List ℕ} (m : Module) → IsLoaded held name wide_file wide m → IsComplete m
-loaded_complete m l = read_complete l.bytes m l.fit.spelled
 
 -- a call that has no function is one of the script's
 pub fault_within : (m : Module) (s : Script) (fault : LinkFault) (call : ℕ) → TellsRefusal fault (link m s) → fault ≡ NoExport call
