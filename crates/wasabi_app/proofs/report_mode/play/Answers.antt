@@ -5,7 +5,7 @@ use Rattle.wasm_run.specs.Running.{Run}
 use Rattle.wasabi_app.proofs.report_mode.play.Goals as goal
 
 pub link-requires : goal.link-requires
-link-requires g c = c.requires.range
+link-requires g c = record { range = c.requires.range }
 
 pub returns-in_err-session-clause-refused : goal.returns-in_err-session-clause-refused
 returns-in_err-session-clause-refused g c =
