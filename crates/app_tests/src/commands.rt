@@ -141,6 +141,12 @@ const NOP: &str = "instrument a.wasm --out b.wasm --hooks nop";
 
 const NONE: &str = "instrument a.wasm --hooks none --out b.wasm";
 
+const INFORMED: &str = "instrument a.wasm --out b.wasm --info b.json --hooks nop";
+
+// The information on the module of one nop, with the hook of nop.
+const INFORMATION: &str =
+    r#"{"dropped":[],"functions":[["","",[[0,-1,1,2]],[]]],"groups":["nop"],"hooks":["nop"],"imports":0,"version":1}"#;
+
 const CHECK: &str = "check a.wasm";
 
 // The list of the calls that fail.
@@ -468,44 +474,66 @@ fn checks_end(rt: HostRuntime) -> Result<(), test::Fail> {
 #[test]
 fn the_outside_fails(rt: HostRuntime) -> Result<(), test::Fail> {
     let alloc = rt.alloc();
-    let module = ONE_NOP.as_slice();
     let told = TOLD.as_slice();
+    let info = INFORMATION.as_bytes();
     let read = Some(Fail { call: 0, kept: 0 });
     let write = Some(Fail { call: 1, kept: 5 });
+    let inform = Some(Fail { call: 2, kept: 4 });
     let print = Some(Fail { call: 0, kept: 5 });
-    for (words, shelf_fail, sink_fail, status, printed, written) in [
-        (NOP, read, None, 4, "error 4: a.wasm can't be read\n", None),
-        (NOP, read, print, 4, "error", None),
+    for (shelf_fail, sink_fail, status, printed, written, informed) in [
+        (read, None, 4, "error 4: a.wasm can't be read\n", None, None),
+        (read, print, 4, "error", None, None),
         (
-            NOP,
             write,
             None,
             5,
             "error 5: b.wasm can't be written\n",
             Some(&told[..5]),
+            None,
         ),
-        (NOP, write, print, 5, "error", Some(&told[..5])),
-        (NOP, None, print, 15, "wrote", Some(told)),
-        ("instrument", None, print, 2, "error", None),
+        (write, print, 5, "error", Some(&told[..5]), None),
         (
-            CHECK,
-            read,
+            inform,
             None,
-            4,
-            "error 4: a.wasm can't be read\n",
-            None,
+            5,
+            "error 5: b.json can't be written\n",
+            Some(told),
+            Some(&info[..4]),
         ),
-        (CHECK, None, print, 15, "ok ty", None),
+        (None, print, 15, "wrote", Some(told), Some(info)),
     ] {
         let mut shelf = MemoryShelf::new(alloc, fails_of(alloc, shelf_fail)?);
-        shelf.add("a.wasm", module)?;
+        shelf.add("a.wasm", ONE_NOP.as_slice())?;
+        let mut sink = MemorySink::new(alloc, fails_of(alloc, sink_fail)?);
+        assert_eq!(rt;
+            status_of(&rt, alloc, INFORMED, &mut shelf, &mut sink)?,
+            status
+        );
+        assert_eq!(rt; sink.bytes(), printed.as_bytes());
+        assert_eq!(rt; shelf.bytes_of("b.wasm"), written);
+        assert_eq!(rt; shelf.bytes_of("b.json"), informed);
+    }
+    Ok(())
+}
+
+#[test]
+fn refusals_are_not_printed(rt: HostRuntime) -> Result<(), test::Fail> {
+    let alloc = rt.alloc();
+    let read = Some(Fail { call: 0, kept: 0 });
+    let print = Some(Fail { call: 0, kept: 5 });
+    for (words, shelf_fail, sink_fail, status, printed) in [
+        ("instrument", None, print, 2, "error"),
+        (CHECK, read, None, 4, "error 4: a.wasm can't be read\n"),
+        (CHECK, None, print, 15, "ok ty"),
+    ] {
+        let mut shelf = MemoryShelf::new(alloc, fails_of(alloc, shelf_fail)?);
+        shelf.add("a.wasm", ONE_NOP.as_slice())?;
         let mut sink = MemorySink::new(alloc, fails_of(alloc, sink_fail)?);
         assert_eq!(rt;
             status_of(&rt, alloc, words, &mut shelf, &mut sink)?,
             status
         );
         assert_eq!(rt; sink.bytes(), printed.as_bytes());
-        assert_eq!(rt; shelf.bytes_of("b.wasm"), written);
     }
     Ok(())
 }

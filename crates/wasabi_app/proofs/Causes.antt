@@ -16,7 +16,7 @@ use Rattle.wasabi_app.specs.Printing.{ShelfState, PrintState, Said, said, said_p
 use Rattle.wasabi_app.specs.Loading.{Refutes, malformed, floats, over_limit, broken_rule, invalid_body, no_memory, RefutesScript, not_json, wrong_script, no_memory_for_script, RefutesInfo, info_not_json, not_info, foreign, no_memory_for_info, RefutesWant, ReadCause, missing, too_long, unread, refuted, unloaded_no_memory}
 use Rattle.wasabi_app.specs.Ends as ends
 use Rattle.wasabi_app.specs.Writing.{WriteCause}
-use Rattle.wasabi_app.specs.Ends.{Status, HasOutput, told_text, IsDone, IsWritten, IsWrittenPart, Cause, no_command, unloaded, hooks_taken, too_large, unwritten, unlinked, memory_ended, IsToRun, IsToReport, IsToPlay, run_alone, run_for_reports, ending_of, ending_text, ending_status, reported_text, Answers, checked, instrumented, ran, reported, Ends, answered, refused, IsOf, IsUnread, IsTaken, IsTooLarge, IsUnscripted, IsUninformed, IsUnlinked, IsRan, IsRanPart, IsReported, IsReportedPart}
+use Rattle.wasabi_app.specs.Ends.{Status, HasOutput, told_text, IsDone, IsWritten, IsWrittenPart, Cause, no_command, unloaded, hooks_taken, too_large, unwritten, unlinked, memory_ended, unlined, IsToRun, IsToReport, IsToPlay, run_alone, run_for_reports, ending_of, ending_text, ending_status, reported_text, Answers, checked, instrumented, ran, reported, Ends, answered, refused, MemoryLeft, before_writes, at_a_write, behind_writes, IsOf, IsUnread, IsTaken, IsTooLarge, IsUnscripted, IsUninformed, IsUnlinked, IsRan, IsRanPart, IsReported, IsReportedPart}
 use Rattle.wasabi_app.proofs.AskedTasks.{check_no_line, check_no_run, check_no_report, line_no_run, line_no_report, run_no_report}
 use Rattle.wasabi_app.proofs.Contents.{both_part, write_why, cause_part}
 use Rattle.wasabi_app.proofs.Files.{fault_no_module, broken_invalid, body_invalid}
@@ -165,6 +165,16 @@ write_inverted {words = words} {old = old} {new = new} {before = before} {after 
           (record { known = ends.no_memory; why = tt; stands = inr (λ _ _ memory _. memory refl, p); asked = λ _. inr refl })
     ]
 
+-- where memory ended for a line, or on the way through it
+memory_inverted : {words : List (List ℕ)} {old new : ShelfState} {before after : PrintState} (status : ℕ) → Inverted words old new before after status
+    → Inverted words old new before after 14
+memory_inverted status i = record {
+  known = ends.no_memory;
+  why = tt;
+  stands = elim (i.stands) [ inl u ↦ inl u | inr (late, p) ↦ inr (λ _ _ memory _. memory refl, p) ];
+  asked = λ _. inr refl;
+}
+
 -- a cause
 cause_inverted : {words : List (List ℕ)} {old new : ShelfState} {before after : PrintState} (status : ℕ) (text : List ℕ) → Cause words old new status text
     → Inverted words old new before after status
@@ -176,22 +186,19 @@ cause_inverted _ _ (too_large line m l is f n u) =
     record { known = ends.no_output; why = inr (line, m, l, is, f, n); stands = inl u; asked = λ r. absurd (r (to_instrument line) l) }
 cause_inverted _ _ (unwritten line written status text h w) = write_inverted line written status text h w
 cause_inverted _ _ (unlinked m s why t e u) = link_inverted m s why t e u
-cause_inverted _ _ (memory_ended w) = record {
-  known = ends.no_memory;
-  why = tt;
-  stands = elim w [ inl u ↦ inl u | inr p ↦ inr (λ _ _ memory _. memory refl, p) ];
-  asked = λ _. inr refl;
-}
+cause_inverted _ _ (memory_ended u) = record { known = ends.no_memory; why = tt; stands = inl u; asked = λ _. inr refl }
+cause_inverted _ _ (unlined status text c) = memory_inverted status (cause_inverted status text c)
 
-cause_shelf : {words : List (List ℕ)} {old new : ShelfState} (status : ℕ) (text : List ℕ) → Cause words old new status text
-    → Unchanged old.contents new.contents ⊎ IsWrittenPart words old.contents new.contents
-cause_shelf _ _ (no_command r u) = inl u
-cause_shelf _ _ (unloaded read status text s r u) = inl u
-cause_shelf _ _ (hooks_taken line m l is n u) = inl u
-cause_shelf _ _ (too_large line m l is f n u) = inl u
-cause_shelf _ _ (unwritten line written status text h w) = inr (line, written, h, cause_part line written (told_text h) _ _ status text w)
-cause_shelf _ _ (unlinked m s why t e u) = inl u
-cause_shelf _ _ (memory_ended w) = w
+-- what it left on the shelf
+cause_left : {words : List (List ℕ)} {old new : ShelfState} (status : ℕ) (text : List ℕ) → Cause words old new status text → MemoryLeft words old new
+cause_left _ _ (no_command r u) = before_writes u
+cause_left _ _ (unloaded read status text s r u) = before_writes u
+cause_left _ _ (hooks_taken line m l is n u) = before_writes u
+cause_left _ _ (too_large line m l is f n u) = before_writes u
+cause_left _ _ (unwritten line written status text h w) = at_a_write line written status text h w
+cause_left _ _ (unlinked m s why t e u) = before_writes u
+cause_left _ _ (memory_ended u) = before_writes u
+cause_left _ _ (unlined status text c) = cause_left status text c
 
 -- the statuses of answers
 pub data Whole : ℕ → Type 0 where
@@ -237,18 +244,12 @@ answer_inverted status _ _ (ran m s t l u) known late why =
 answer_inverted status _ _ (reported line m info s t l u) known late why =
     record { known = known; why = why; stands = inl u; asked = λ r. absurd (r (to_report line) t.command) }
 
-answer_shelf : {words : List (List ℕ)} {old new : ShelfState} (whole : ℕ) (text : List ℕ) → Answers words old new whole text
-    → Unchanged old.contents new.contents ⊎ IsWrittenPart words old.contents new.contents
-answer_shelf _ _ (checked subject m c is u) = inl u
-answer_shelf _ _ (instrumented line written h w) = inr (line, written, h, both_part line written (told_text h) _ _ w)
-answer_shelf _ _ (ran m s t l u) = inl u
-answer_shelf _ _ (reported line m info s t l u) = inl u
-
--- where memory ended on the way through a line
-memory_inverted : {words : List (List ℕ)} {old new : ShelfState} {before after : PrintState} (status : ℕ) → Inverted words old new before after status
-    → Inverted words old new before after 14
-memory_inverted status i =
-    cause_inverted 14 no_memory_text (memory_ended (elim (i.stands) [ inl u ↦ inl u | inr (late, p) ↦ inr p ]))
+-- what it left on the shelf
+answer_left : {words : List (List ℕ)} {old new : ShelfState} (whole : ℕ) (text : List ℕ) → Answers words old new whole text → MemoryLeft words old new
+answer_left _ _ (checked subject m c is u) = before_writes u
+answer_left _ _ (instrumented line written h w) = behind_writes (line, written, h, w)
+answer_left _ _ (ran m s t l u) = before_writes u
+answer_left _ _ (reported line m info s t l u) = before_writes u
 
 -- an ending
 pub ends_inverted : {words : List (List ℕ)} {old new : ShelfState} {before after : PrintState} (status : ℕ) → Ends words old new before after status
@@ -258,7 +259,8 @@ ends_inverted {before = before} {after = after} _ (answered whole text a (said t
     answer_inverted whole whole text a w.0 (λ e zero _ _ _. zero e) w.1
 ends_inverted _ (answered whole text a (said_part r t)) =
     answer_inverted 15 whole text a ends.unprinted (λ e _ _ _ broken. broken refl) (whole, text, a, r, t)
-ends_inverted _ (answered whole text a (said_no_memory t)) = cause_inverted 14 no_memory_text (memory_ended (answer_shelf whole text a))
+ends_inverted _ (answered whole text a (said_no_memory t)) =
+    answer_inverted 14 whole text a ends.no_memory (λ e _ _ memory _. memory refl) tt
 ends_inverted _ (refused cause text r (said t)) = cause_inverted cause text r
 ends_inverted _ (refused cause text r (said_part k t)) = cause_inverted cause text r
 ends_inverted _ (refused cause text r (said_no_memory t)) = memory_inverted cause (cause_inverted cause text r)
@@ -267,13 +269,19 @@ ends_inverted _ (refused cause text r (said_no_memory t)) = memory_inverted caus
 pub ends_refused : {words : List (List ℕ)} {old new : ShelfState} {before after : PrintState} (cause status : ℕ) (text : List ℕ) → Cause words old new cause text
     → Said text cause cause before after status ⊎ Said no_memory_text 14 14 before after status → Ends words old new before after status
 ends_refused cause status text r (inl s) = refused cause text r s
-ends_refused {words = words} {old = old} {new = new} cause status text r (inr s) = refused 14 no_memory_text (memory_ended (cause_shelf cause text r)) s
+ends_refused {words = words} {old = old} {new = new} cause status text r (inr s) = refused 14 no_memory_text (unlined cause text r) s
 
 -- so a status tells why
 pub why_of : {words : List (List ℕ)} {old new : ShelfState} {before after : PrintState} (status expected : ℕ) → Ends words old new before after status
     → status ≡ expected → Why words old new before after expected
 why_of {words = words} {old = old} {new = new} {before = before} {after = after} status expected x e =
     subst (Why words old new before after) e (ends_inverted status x).why
+
+-- what a command left on the shelf
+pub memory_left : {words : List (List ℕ)} {old new : ShelfState} {before after : PrintState} (status : ℕ) → Ends words old new before after status
+    → MemoryLeft words old new
+memory_left _ (answered whole text a s) = answer_left whole text a
+memory_left _ (refused cause text r s) = cause_left cause text r
 
 -- the shelf of a command
 pub is_kept : {words : List (List ℕ)} {old new : ShelfState} {before after : PrintState} (status : ℕ) → Ends words old new before after status

@@ -47,8 +47,7 @@ pub refuses_unmade : (words : List (List ℕ)) (old new : ShelfState) (line : Li
     → Cause words old new status text
 refuses_unmade words old new line m _ _ l is u (taken n) = hooks_taken line m l is n u
 refuses_unmade words old new line m _ _ l is u (large f n) = too_large line m l is f n u
-refuses_unmade words old new line m _ _ l is u unmade_no_memory =
-    memory_ended (inl u)
+refuses_unmade words old new line m _ _ l is u unmade_no_memory = memory_ended u
 
 -- an output that was made
 has_output : (words : List (List ℕ)) (old : ShelfState) (line : Line) (m : Module) (output info text : List ℕ) → IsLine words line

@@ -49,10 +49,6 @@ step_taken Ran old new t n =
 step_taken (Hook h) old new t n =
     (ap (λ (r : Run). r.module) t.1, ap (λ (r : Run). r.script) t.1, ap (λ (r : Run). r.made) t.1)
 
--- of which fewer are left then
-pub fewer_left : (old new steps later : ℕ) → new ≡ old + 1 → new ≤ later → steps ≡ later → later - new < steps - old
-fewer_left old new steps later n few same = omega (arith, n, few, same)
-
 -- and behind one that is stands what all of the script's steps lead to
 pub over_taken : (turn : Turn) (first old new : Run) → TakesTurn (Ok turn) old new → turn ≡ Over → old.module ≡ first.module
     → old.script ≡ first.script → old.made ≤ old.script.steps

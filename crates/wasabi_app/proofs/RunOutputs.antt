@@ -6,8 +6,6 @@ use Rattle.module_ast.specs.Limits.{wide}
 use Rattle.wasm_sem.specs.declared.Script.{Script}
 use Rattle.wasm_sem.specs.Answers.{Summary}
 use Rattle.wasm_sem.specs.Link.{Refusal as LinkRefusal, no_export, bad_args, memory_cap, table_cap, segment_range, link, Links}
-use Rattle.module_ast.specs.Limits.{IsComplete}
-use Rattle.wasm_sem.proofs.SoundRead.{read_complete}
 use Rattle.run_session.specs.declared.link.LinkFault.{LinkFault}
 use Rattle.run_session.specs.declared.link.LinkFault.TheVariants.{NoExport, BadArgs, MemoryCap, TableCap, SegmentRange, NoMemory}
 use Rattle.run_session.specs.Linking.{TellsRefusal}
@@ -36,9 +34,6 @@ pub script_reads : {words : List (List ℕ)} {subject script : List ℕ} {held :
 script_reads {subject = subject} {script = script} m r l =
     record { task = to_run subject script; asked = r; reached = inr ((l.bytes, l.read, (m, l.fit, l.valid)), inl refl) }
 
-pub loaded_complete : {held : Option Contents} {name : List ℕ} (m : Module) → IsLoaded held name wide_file wide m → IsComplete m
-loaded_complete m l = read_complete l.bytes m l.fit.spelled
-
 -- a call that has no function is one of the script's
 pub fault_within : (m : Module) (s : Script) (fault : LinkFault) (call : ℕ) → TellsRefusal fault (link m s) → fault ≡ NoExport call
     → call < length s.calls
@@ -48,7 +43,7 @@ fault_within m s fault call t e = call_within m s call (subst (λ f. TellsRefusa
 pub no_memory_told : (words : List (List ℕ)) (old new : ShelfState) (told : Refusal) → Unchanged old.contents new.contents → told ≡ refusals.NoMemory
     → Cause words old new (refusal_status told) (refusal_text told)
 no_memory_told words old new told u e =
-    subst (λ r. Cause words old new (refusal_status r) (refusal_text r)) (sym e) (memory_ended (inl u))
+    subst (λ r. Cause words old new (refusal_status r) (refusal_text r)) (sym e) (memory_ended u)
 
 -- subject and script do not link, and why is told
 link_told : (words : List (List ℕ)) (old new : ShelfState) (m : Module) (s : Script) (why : LinkRefusal) (told : Refusal)

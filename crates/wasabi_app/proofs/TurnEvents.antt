@@ -1,18 +1,16 @@
 -- What the turns of a session tell, read as events one after another.
-use Rattle.std.proofs.Common.{◌≡◌, ℕ, ◌+◌, ◌-◌, ◌≤◌, ◌⊎◌, inl, inr, List, ◌++◌, Option, Some, None, Ok, Bool, true, false, cond, nat_eq, refl, sym, ap, ◌∙◌, arith, append-nil}
-use Rattle.module_ast.specs.Validity.{IsValid}
+use Rattle.std.proofs.Common.{◌≡◌, ℕ, ◌+◌, ◌-◌, ◌≤◌, ◌⊎◌, inl, inr, List, ◌++◌, Option, Some, None, Ok, Bool, true, false, cond, nat_eq, refl, sym, ap, subst, ◌∙◌, arith, append-nil}
 use Rattle.hook_select.specs.declared.Event.{Event}
 use Rattle.wasm_sem.specs.declared.HookCall.{HookCall}
 use Rattle.wasm_sem.specs.declared.Turn.{Turn}
 use Rattle.wasm_sem.specs.declared.Turn.TheVariants.{Ran, Hook, Over}
 use Rattle.wasm_sem.specs.Answers.{turn_by, hook_in}
 use Rattle.wasm_sem.specs.Events.{events_in}
-use Rattle.wasm_sem.specs.Link.{instance, IsScriptInRange, Links}
+use Rattle.wasm_sem.specs.Link.{instance}
 use Rattle.wasm_sem.specs.Machine.{is_over}
 use Rattle.wasm_sem.specs.Trace.{items, trace_of}
-use Rattle.module_ast.specs.Limits.{IsComplete}
 use Rattle.wasm_sem.proofs.Ended.{shows_no_more}
-use Rattle.wasm_run.specs.Running.{Run, configuration_of, one_more}
+use Rattle.wasm_run.specs.Running.{Run, configuration_of, one_more, IsLinked}
 use Rattle.run_session.specs.Sessions.{TakesTurn}
 use Rattle.static_info.specs.declared.Info.{Info}
 use Rattle.static_info.specs.Belongs.{Belongs}
@@ -55,11 +53,12 @@ turn_told info slots Over old new t = ap (events_so_far info slots) t.1 ∙ sym 
 turn_told info slots Ran old new t = one_told info slots Ran old new t (λ e. cc) t.1
 turn_told info slots (Hook h) old new t = one_told info slots (Hook h) old new t (λ e. cc) t.1
 
--- its hook call can be read, where the information belongs to the module
-pub turn_readable : (info : Info) (old new : Run) (h : HookCall) → IsValid old.module → IsComplete old.module → IsScriptInRange old.script → Links old.module old.script → Belongs info old.module
+-- its hook call can be read, where the information belongs to the module, for module and script are as before
+pub turn_readable : (info : Info) (old new : Run) (h : HookCall) → IsLinked new.module new.script → Belongs info old.module
     → TakesTurn (Ok (Hook h)) old new → IsReadable info h
-turn_readable info old new h valid complete range links belongs t =
-    hook_readable info old.module old.script valid complete range links belongs old.made h (sym (turn_hook_is (Hook h) old new t (λ e. cc)))
+turn_readable info old new h linked belongs t =
+    let l : IsLinked old.module old.script = subst (λ (r : Run). IsLinked r.module r.script) t.1 linked in
+    hook_readable info old.module old.script l.valid l.complete l.range l.links belongs old.made h (sym (turn_hook_is (Hook h) old new t (λ e. cc)))
 
 over_by : (made over : Bool) (o : Option HookCall) → Over ≡ cond made Over (turn_by over o) → (made ≡ true) ⊎ (over ≡ true)
 over_by true over o e = inl refl

@@ -110,7 +110,8 @@ ending_status m s = run_status (ending_of m s)
 abbrev pub reported_text : Kinds → Info → Module → Script → List ℕ
 reported_text kinds info m s = ending_text m s ++ reports_text kinds (events_told info m s s.steps)
 
--- why a command is refused, what stands on the shelf then, and the status and the line
+-- Why a command is refused, what stands on the shelf then, and the status and the line. Its own work comes before its first write, so
+-- want of memory for that leaves the shelf as it was. Where there is none for a line, another is told in its place.
 pub data Cause (words : List (List ℕ)) (old new : ShelfState) : (status : ℕ) → (text : List ℕ) → Type 0 where
   no_command : IsRefused words → Unchanged old.contents new.contents → Cause words old new 2 bad_words_text
   unloaded : (read : Read) (status : ℕ) (text : List ℕ) → Reads words old.contents read → ReadCause read old new status text
@@ -124,7 +125,8 @@ pub data Cause (words : List (List ℕ)) (old new : ShelfState) : (status : ℕ)
       → WriteCause line written (told_text has) old new status text → Cause words old new status text
   unlinked : (m : Module) (s : Script) (why : linking.Refusal) → IsToPlay words old.contents m s → link m s ≡ Some why
       → Unchanged old.contents new.contents → Cause words old new (link_status why) (link_text s.calls why)
-  memory_ended : Unchanged old.contents new.contents ⊎ IsWrittenPart words old.contents new.contents → Cause words old new 14 no_memory_text
+  memory_ended : Unchanged old.contents new.contents → Cause words old new 14 no_memory_text
+  unlined : (status : ℕ) (text : List ℕ) → Cause words old new status text → Cause words old new 14 no_memory_text
 
 -- what a command answers, what stands on the shelf then, and the status and the text
 pub data Answers (words : List (List ℕ)) (old new : ShelfState) : (status : ℕ) → (text : List ℕ) → Type 0 where
@@ -184,6 +186,14 @@ pub data Ends (words : List (List ℕ)) (old new : ShelfState) (before after : P
       → Ends words old new before after status
   refused : (cause : ℕ) (text : List ℕ) → Cause words old new cause text → Said text cause cause before after status
       → Ends words old new before after status
+
+-- What want of memory leaves on the shelf: nothing new where it comes before the first write, what a refused write left of the output or
+-- of the information behind it, and all of both where the answer's line was not printed.
+pub data MemoryLeft (words : List (List ℕ)) (old new : ShelfState) : Type 0 where
+  before_writes : Unchanged old.contents new.contents → MemoryLeft words old new
+  at_a_write : (line : Line) (written : List ℕ) (status : ℕ) (text : List ℕ) (has : HasOutput words old.contents line written)
+      → WriteCause line written (told_text has) old new status text → MemoryLeft words old new
+  behind_writes : IsWritten words old.contents new.contents → MemoryLeft words old new
 
 -- the mode's work was done
 abbrev pub IsDone : (status : ℕ) → Type 0

@@ -1,10 +1,7 @@
 // The events of a turn, given to the picked analyses.
 
 ghost use Rattle.std.specs.Prelude.{◌≡◌, ◌+◌, ◌^◌, ◌<◌, ◌≤◌, ◌⊎◌, All, map, length, IfOk, OnOk, OnErr};
-ghost use Rattle.module_ast.specs.Validity.{IsValid};
 ghost use Rattle.wasm_sem.specs.Laws.{slots_in};
-ghost use Rattle.wasm_sem.specs.Link.{IsScriptInRange, Links};
-ghost use Rattle.module_ast.specs.Limits.{IsComplete};
 ghost use Rattle.wasm_run.specs.Running.{configuration_of};
 ghost use Rattle.wasm_run.specs.Turns.{after_turn};
 ghost use Rattle.run_session.specs.Sessions.{session_turn};
@@ -107,10 +104,6 @@ pub fn feed(
     tools: &mut Vec<Box<dyn Analysis>>,
     tally: &mut Tally,
 ) -> Result<Turn, NoMemory>
-    requires valid { IsValid session.old.module }
-    requires complete { IsComplete session.old.module }
-    requires range { IsScriptInRange session.old.script }
-    requires links { Links session.old.module session.old.script }
     requires formed { IsWellFormed info.now }
     requires belongs { Belongs info.now session.old.module }
     requires room { All (λ (t : ToolState). t.so_many ≤ 2 ^ 63) (map state tools.old.items) }
@@ -128,11 +121,12 @@ pub fn feed(
     ensures uncounted { OnErr result (tally.new ≡ tally.old) }
 {
     let turn = session.call()?;
+    let table = session.table();
     let Turn::Hook(call) = &turn else {
         return Ok(turn);
     };
     let hook = call.import - info.imports;
-    let events = read_hook(alloc, info, session.table(), hook, &call.args)?;
+    let events = read_hook(alloc, info, table, hook, &call.args)?;
     give_all(tools, pick, events.as_slice())?;
     tally.count(events.as_slice());
     Ok(turn)

@@ -1,7 +1,10 @@
 // The command line program `wasabi`: the files of the machine, its standard output, and the words it was started with.
 #![tactic(auto)]
 
-ghost use Rattle.std.specs.Prelude.{◌≡◌, ◌≢◌};
+ghost use Rattle.std.specs.Prelude.{◌≡◌, ◌≢◌, IfOk, OnErr};
+ghost use Rattle.wasabi_app.specs.Words.{texts};
+ghost use Rattle.wasabi_app.specs.Printing.{shelf_state, print_state};
+ghost use Rattle.wasabi_app.specs.Ends.{Ends};
 
 use analyses::{Analysis, Blocks, Branches, CallGraph, MemoryUse};
 use outside_io::{HostShelf, HostSink, Shelf, Sink};
@@ -26,14 +29,21 @@ fn main(rt: HostRuntime) -> ExitCode {
     ExitCode::from(status.unwrap_or(14))
 }
 
-// The status of a command with four fresh analyses; an `Err` comes where there is no memory for them.
+// Runs a command with four fresh analyses and answers its status. An `Err` comes where there is no memory for them, before anything is
+// done.
 fn run_with_analyses<R: Threads + Sync, S: Shelf, K: Sink>(
     rt: &R,
     alloc: Global,
     words: &[String],
     shelf: &mut S,
     out: &mut K,
-) -> Result<u8, AllocError> {
+) -> Result<u8, AllocError>
+    ensures ended { IfOk result (λ status. Ends (texts words.now)
+        (shelf_state (S.contents shelf.old) (S.read_faults shelf.old) (S.write_faults shelf.old))
+        (shelf_state (S.contents shelf.new) (S.read_faults shelf.new) (S.write_faults shelf.new))
+        (print_state (K.written out.old) (K.faults out.old)) (print_state (K.written out.new) (K.faults out.new)) status) }
+    ensures undone { OnErr result ((shelf.new ≡ shelf.old) × (out.new ≡ out.old)) }
+{
     let mut tools: Vec<Box<dyn Analysis>> = Vec::new(alloc);
     tools.push(Box::new(alloc, Blocks::new(alloc))?)?;
     tools.push(Box::new(alloc, Branches::new(alloc))?)?;

@@ -2,7 +2,7 @@
 use Rattle.std.proofs.Common.{◌≡◌, None, arith}
 use Rattle.wasabi_app.specs.Files.{IsNoModule, IsUnfit, IsInvalid}
 use Rattle.wasabi_app.specs.Ends.{IsAboveCap}
-use Rattle.wasabi_app.proofs.Causes.{ends_inverted, why_of, any_shelf, check_keeps, run_keeps, report_keeps, is_written, is_kept, is_ran, is_ran_part, is_reported, is_reported_part, is_trapped, is_unfinished}
+use Rattle.wasabi_app.proofs.Causes.{ends_inverted, why_of, memory_left, check_keeps, run_keeps, report_keeps, is_written, is_kept, is_ran, is_ran_part, is_reported, is_reported_part, is_trapped, is_unfinished}
 use Rattle.wasabi_app.proofs.Told.{none, over, malformed, unfit, invalid, decides, decides_file, decides_taken, decides_too_large, decides_script, decides_info, decides_linking, checks_all, completes, runs_all, reports_all}
 use Rattle.wasabi_app.proofs.Taken.{told_by, took_all, took_part, took_none, others_none}
 use Rattle.wasabi_app.proofs.app.run_app.Goals as goal
@@ -68,7 +68,7 @@ pub returns-clause-part : goal.returns-clause-part
 returns-clause-part g c = λ e. (why_of _ 5 (c.tell.ensures.ended _ _ _ c.answer-ending.ensures.ended) e).1
 
 pub returns-clause-out_of_memory : goal.returns-clause-out_of_memory
-returns-clause-out_of_memory g c = λ _. any_shelf _ (c.tell.ensures.ended _ _ _ c.answer-ending.ensures.ended)
+returns-clause-out_of_memory g c = λ _. memory_left _ (c.tell.ensures.ended _ _ _ c.answer-ending.ensures.ended)
 
 pub returns-clause-kept : goal.returns-clause-kept
 returns-clause-kept g c = λ done write memory print. is_kept _ (c.tell.ensures.ended _ _ _ c.answer-ending.ensures.ended) done write memory print

@@ -24,4 +24,4 @@ returns-in-Ok-clause-ended g c = λ words tools k.
     (c.in-Ok.ensures ∙ ap ok_text (c.count.ensures ∙ ap counts_of c.module.ensures.module))
 
 pub returns-clause-ended : goal.returns-clause-ended
-returns-clause-ended g c = λ words tools k. memory_ended (inl c.load.ensures.kept)
+returns-clause-ended g c = λ words tools k. memory_ended c.load.ensures.kept

@@ -4,11 +4,8 @@ use Rattle.std.proofs.lemmas.Result.{err_from_is_err_and}
 use Rattle.wasm_run.specs.Running.{Run}
 use Rattle.wasabi_app.proofs.report_mode.play.Goals as goal
 
-pub link-requires-clause-complete : goal.link-requires-clause-complete
-link-requires-clause-complete g c = c.requires.complete
-
-pub link-requires-clause-range : goal.link-requires-clause-range
-link-requires-clause-range g c = c.requires.range
+pub link-requires : goal.link-requires
+link-requires g c = record { range = c.requires.range }
 
 pub returns-in_err-session-clause-refused : goal.returns-in_err-session-clause-refused
 returns-in_err-session-clause-refused g c =
@@ -18,17 +15,8 @@ returns-in_err-session-clause-refused g c =
 pub play_out-requires-clause-begun : goal.play_out-requires-clause-begun
 play_out-requires-clause-begun g c = ap (λ (r : Run). r.made) c.in_ok-session.ensures.1
 
-pub play_out-requires-clause-valid : goal.play_out-requires-clause-valid
-play_out-requires-clause-valid g c = rw c.in_ok-session.ensures.1 c.requires.valid
-
-pub play_out-requires-clause-complete : goal.play_out-requires-clause-complete
-play_out-requires-clause-complete g c = rw c.in_ok-session.ensures.1 c.requires.complete
-
 pub play_out-requires-clause-range : goal.play_out-requires-clause-range
 play_out-requires-clause-range g c = rw c.in_ok-session.ensures.1 c.requires.range
-
-pub play_out-requires-clause-links : goal.play_out-requires-clause-links
-play_out-requires-clause-links g c = rw c.in_ok-session.ensures.1 c.in_ok-session.ensures.0
 
 pub play_out-requires-clause-belongs : goal.play_out-requires-clause-belongs
 play_out-requires-clause-belongs g c = rw c.in_ok-session.ensures.1 c.requires.belongs

@@ -4,7 +4,7 @@ use Rattle.std.proofs.lemmas.Result.{err_from_is_err_and}
 use Rattle.wasabi_app.specs.Reading.{report_line_of}
 use Rattle.wasabi_app.specs.Ends.{unloaded, run_for_reports}
 use Rattle.wasabi_app.proofs.Contents.{unchanged_after, informed_before, cause_before}
-use Rattle.wasabi_app.proofs.RunOutputs.{loaded_complete, fault_within, refuses_unlinked}
+use Rattle.wasabi_app.proofs.RunOutputs.{fault_within, refuses_unlinked}
 use Rattle.wasabi_app.proofs.Reported.{report_reads, info_reads, informed_reads, loaded_later, asks_report, comes_reported, takes_reported, takes_part, untouched_tagged, played_tagged, part_taken_tagged}
 use Rattle.wasabi_app.proofs.report_mode.report.Goals as goal
 
@@ -61,12 +61,6 @@ returns-in_err-script-clause-took g c = λ words k.
 
 pub returns-in_err-script-clause-tagged : goal.returns-in_err-script-clause-tagged
 returns-in_err-script-clause-tagged g c = untouched_tagged _ _ c.requires.fresh refl
-
-pub play-requires-clause-valid : goal.play-requires-clause-valid
-play-requires-clause-valid g c = c.in_ok-valid.ensures.ok.valid
-
-pub play-requires-clause-complete : goal.play-requires-clause-complete
-play-requires-clause-complete g c = loaded_complete c.in_ok-valid.valid (rw c.wide.ensures at c.in_ok-valid.ensures.ok)
 
 pub play-requires-clause-range : goal.play-requires-clause-range
 play-requires-clause-range g c = c.in_ok-script.ensures.range
