@@ -90,14 +90,7 @@ fn callee_in(info: &Info, table: &Table, slot: u32) -> Option<u32>
     ensures { result ≡ callee_in info.now table.now slot }
 {
     let func = table.slot(slot).flatten()?;
-    let hooks = info.hooks.as_slice().len();
-    if func < info.imports {
-        return Some(func);
-    }
-    if ((func - info.imports) as usize) < hooks {
-        return None;
-    }
-    Some(func - hooks as u32)
+    info.unmap(func)
 }
 
 // The event of a call's hook.

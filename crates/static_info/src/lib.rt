@@ -55,10 +55,11 @@ pub struct Info {
 }
 
 impl Info {
+    ghost use Rattle.index_remap.specs.Remap.{unmap_index};
     ghost use Rattle.static_info.specs.Read.{info_remap};
 
-    /// The map of function indices from the original to the output.
-    pub fn remap(&self) -> Remap
+    // The map of function indices from the original to the output.
+    fn remap(&self) -> Remap
         requires { length self.now.hooks < 2 ^ 32 }
         ensures { result ≡ info_remap self.now }
     {
@@ -66,5 +67,16 @@ impl Info {
             imports: self.imports,
             added: self.hooks.as_slice().len() as u32,
         }
+    }
+
+    /// The index in the original of a function of the output: none exactly for a hook's.
+    pub fn unmap(&self, f: u32) -> Option<u32>
+        ensures { result ≡ unmap_index (info_remap self.now) f }
+    {
+        if self.hooks.as_slice().len() <= u32::MAX as usize {
+            return self.remap().unmap(f);
+        }
+        // No index is behind so many hooks.
+        if f < self.imports { Some(f) } else { None }
     }
 }

@@ -250,7 +250,3 @@ events_in (event e ∷ is) = e ∷ events_in is
 events_in (entry c ∷ is) = events_in is
 events_in (host_call f vs rs ws ∷ is) = events_in is
 events_in (hook_call h ∷ is) = events_in is
-
--- the events of the next step
-abbrev pub events_of : Instance → Configuration → List Event
-events_of inst c = events_in (shown_items inst c)
