@@ -73,7 +73,7 @@ impl GroupName {
 }
 
 /// What one step of a run shows. `Stray` is a hook call that the information does not explain.
-#[derive(Debug, Drop)]
+#[derive(Drop)]
 pub enum Event {
     Start {
         loc: Loc,
@@ -322,78 +322,34 @@ impl Hooks {
     }
 
     /// The set with this group.
-    pub fn with(self, group: GroupName) -> Hooks
+    pub fn with(mut self, group: GroupName) -> Hooks
         ensures { result ≡ with_group self group }
     {
         match group {
-            GroupName::Start => Hooks {
-                start: true,
-                ..self
-            },
-            GroupName::Nop => Hooks { nop: true, ..self },
-            GroupName::Unreachable => Hooks {
-                unreachable: true,
-                ..self
-            },
-            GroupName::If => Hooks { if_: true, ..self },
-            GroupName::Br => Hooks { br: true, ..self },
-            GroupName::BrIf => Hooks {
-                br_if: true,
-                ..self
-            },
-            GroupName::BrTable => Hooks {
-                br_table: true,
-                ..self
-            },
-            GroupName::Begin => Hooks {
-                begin: true,
-                ..self
-            },
-            GroupName::End => Hooks { end: true, ..self },
-            GroupName::Const => Hooks {
-                const_: true,
-                ..self
-            },
-            GroupName::Unary => Hooks {
-                unary: true,
-                ..self
-            },
-            GroupName::Binary => Hooks {
-                binary: true,
-                ..self
-            },
-            GroupName::Drop => Hooks { drop: true, ..self },
-            GroupName::Select => Hooks {
-                select: true,
-                ..self
-            },
-            GroupName::Local => Hooks {
-                local: true,
-                ..self
-            },
-            GroupName::Global => Hooks {
-                global: true,
-                ..self
-            },
-            GroupName::Load => Hooks { load: true, ..self },
-            GroupName::Store => Hooks {
-                store: true,
-                ..self
-            },
-            GroupName::MemorySize => Hooks {
-                memory_size: true,
-                ..self
-            },
-            GroupName::MemoryGrow => Hooks {
-                memory_grow: true,
-                ..self
-            },
-            GroupName::Call => Hooks { call: true, ..self },
-            GroupName::Return => Hooks {
-                return_: true,
-                ..self
-            },
+            GroupName::Start => self.start = true,
+            GroupName::Nop => self.nop = true,
+            GroupName::Unreachable => self.unreachable = true,
+            GroupName::If => self.if_ = true,
+            GroupName::Br => self.br = true,
+            GroupName::BrIf => self.br_if = true,
+            GroupName::BrTable => self.br_table = true,
+            GroupName::Begin => self.begin = true,
+            GroupName::End => self.end = true,
+            GroupName::Const => self.const_ = true,
+            GroupName::Unary => self.unary = true,
+            GroupName::Binary => self.binary = true,
+            GroupName::Drop => self.drop = true,
+            GroupName::Select => self.select = true,
+            GroupName::Local => self.local = true,
+            GroupName::Global => self.global = true,
+            GroupName::Load => self.load = true,
+            GroupName::Store => self.store = true,
+            GroupName::MemorySize => self.memory_size = true,
+            GroupName::MemoryGrow => self.memory_grow = true,
+            GroupName::Call => self.call = true,
+            GroupName::Return => self.return_ = true,
         }
+        self
     }
 }
 

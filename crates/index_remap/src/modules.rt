@@ -8,7 +8,10 @@ ghost use Rattle.index_remap.specs.Remap.{map_index, map_reference, map_export, 
 
 use crate::Remap;
 use crate::copies::{Part, copy_list, copy_parts};
-use module_ast::module::{Element, Export, ExportKind, Module};
+use module_ast::module::{
+    Element, Export, ExportKind, FuncType, GlobalDef, Import, Module, Range, Segment,
+};
+use module_ast::name::Name;
 use module_ast::seq::Seq;
 use std::alloc::{AllocError, Global};
 
@@ -106,19 +109,75 @@ impl Remap {
         requires { MapsModule self.now m.now }
         ensures { IfOk result (λ copy. copy ≡ map_module self.now m.now) }
     {
+        let declared = copy_declared(alloc, m)?;
+        let filled = self.map_filled(alloc, m)?;
         Ok(Module {
-            types: copy_parts(alloc, &m.types)?,
-            imports: copy_parts(alloc, &m.imports)?,
-            funcs: copy_list(alloc, &m.funcs)?,
-            tables: copy_list(alloc, &m.tables)?,
-            memories: copy_list(alloc, &m.memories)?,
-            globals: copy_parts(alloc, &m.globals)?,
-            exports: self.map_exports(alloc, m.exports.as_slice())?,
+            types: declared.types,
+            imports: declared.imports,
+            funcs: declared.funcs,
+            tables: declared.tables,
+            memories: declared.memories,
+            globals: declared.globals,
+            exports: filled.exports,
             start: self.map_start(m.start),
-            elements: self.map_elements(alloc, m.elements.as_slice())?,
+            elements: filled.elements,
             bodies: Seq::from_vec(Vec::new(alloc)),
+            segments: filled.segments,
+            customs: filled.customs,
+        })
+    }
+
+    // Copies of exports, element segments, data segments and names of custom sections.
+    fn map_filled(&self, alloc: Global, m: &Module) -> Result<Filled, AllocError>
+        requires { MapsModule self.now m.now }
+        ensures exports { IfOk result (λ parts. parts.exports ≡ map (map_export self.now) m.now.exports) }
+        ensures elements { IfOk result (λ parts. parts.elements ≡ map (map_element self.now) m.now.elements) }
+        ensures segments { IfOk result (λ parts. parts.segments ≡ m.now.segments) }
+        ensures customs { IfOk result (λ parts. parts.customs ≡ m.now.customs) }
+    {
+        Ok(Filled {
+            exports: self.map_exports(alloc, m.exports.as_slice())?,
+            elements: self.map_elements(alloc, m.elements.as_slice())?,
             segments: copy_parts(alloc, &m.segments)?,
             customs: copy_parts(alloc, &m.customs)?,
         })
     }
+}
+
+// The parts of a module that declare what there is.
+#[derive(Drop)]
+struct Declared {
+    types: Seq<FuncType>,
+    imports: Seq<Import>,
+    funcs: Seq<u32>,
+    tables: Seq<Range>,
+    memories: Seq<Range>,
+    globals: Seq<GlobalDef>,
+}
+
+// The parts of a module that name what there is, or fill it.
+#[derive(Drop)]
+struct Filled {
+    exports: Seq<Export>,
+    elements: Seq<Element>,
+    segments: Seq<Segment>,
+    customs: Seq<Name>,
+}
+
+fn copy_declared(alloc: Global, m: &Module) -> Result<Declared, AllocError>
+    ensures types { IfOk result (λ parts. parts.types ≡ m.now.types) }
+    ensures imports { IfOk result (λ parts. parts.imports ≡ m.now.imports) }
+    ensures funcs { IfOk result (λ parts. parts.funcs ≡ m.now.funcs) }
+    ensures tables { IfOk result (λ parts. parts.tables ≡ m.now.tables) }
+    ensures memories { IfOk result (λ parts. parts.memories ≡ m.now.memories) }
+    ensures globals { IfOk result (λ parts. parts.globals ≡ m.now.globals) }
+{
+    Ok(Declared {
+        types: copy_parts(alloc, &m.types)?,
+        imports: copy_parts(alloc, &m.imports)?,
+        funcs: copy_list(alloc, &m.funcs)?,
+        tables: copy_list(alloc, &m.tables)?,
+        memories: copy_list(alloc, &m.memories)?,
+        globals: copy_parts(alloc, &m.globals)?,
+    })
 }
