@@ -62,15 +62,11 @@ pub loaded_later : (a b : Option Contents) (name : List ℕ) (m : Module) → Un
 loaded_later a b name m p l = loaded_before b a name wide_file wide m (unchanged_back a b p) l
 
 -- the three stand under their names as the command begins
-pub asks_report : (words : List (List ℕ)) (a b c : Option Contents) (line : ReportLine) (m : Module) (info : Info) (s : Script) → IsReport words line
-    → IsLoaded a line.subject wide_file wide m → Unchanged a b → IsInformed b line.info line.subject m info → Unchanged b c → IsScripted c line.script s
+pub asks_report : (words : List (List ℕ)) (a b : Option Contents) (line : ReportLine) (m : Module) (info : Info) (s : Script) → IsReport words line
+    → IsLoaded a line.subject wide_file wide m → IsInformed a line.info line.subject m info → Unchanged a b → IsScripted b line.script s
     → IsToReport words a line m info s
-asks_report words a b c line m info s r l p i q x = record {
-  command = r;
-  loaded = l;
-  informed = informed_before a b line.info line.subject m info p i;
-  scripted = scripted_before a c line.script s (unchanged_after a b c p q) x;
-}
+asks_report words a b line m info s r l i p x =
+    record { command = r; loaded = l; informed = i; scripted = scripted_before a b line.script s p x }
 
 -- ---- the answer
 

@@ -1,7 +1,7 @@
 -- Why a read is refused.
-use Rattle.std.specs.Prelude.{◌≡◌, ℕ, List, Option, Err}
+use Rattle.std.specs.Prelude.{◌≡◌, ℕ, ◌≤◌, List, Option, Err}
 use Rattle.serde_json.specs.Data.{Data}
-use Rattle.outside_io.specs.Outside.{Contents, Rose, IsMissing, IsTooLong}
+use Rattle.outside_io.specs.Outside.{Contents, Rose, Unchanged, IsMissing, IsTooLong}
 use Rattle.module_ast.specs.declared.module.Limits.{Limits}
 use Rattle.module_ast.specs.declared.module.Module.{Module}
 use Rattle.module_ast.specs.declared.module.Which.{Which}
@@ -56,3 +56,9 @@ pub data ReadCause (read : Read) (old new : ShelfState) : (status : ℕ) → (te
   refuted : (bytes : List ℕ) (status : ℕ) (text : List ℕ) → IsRead old.contents read bytes
       → RefutesWant old.contents read.name read.want bytes status text → ReadCause read old new status text
   unloaded_no_memory : ReadCause read old new 14 no_memory_text
+
+-- a shelf that was read at the most: its contents are as before, and no count fell
+pub record WasRead (old new : ShelfState) : Type 0 where
+  pub kept : Unchanged old.contents new.contents
+  pub reads : old.reads ≤ new.reads
+  pub writes : old.writes ≤ new.writes
