@@ -3,7 +3,7 @@ use Rattle.std.proofs.Common.{◌≡◌, ℕ, ◌+◌, ◌-◌, ◌≤◌, Ok, t
 use Rattle.std.proofs.lemmas.Result.{IfOk-weaker}
 use Rattle.wasm_sem.specs.declared.Stop.{Stop}
 use Rattle.wasm_sem.specs.declared.Stop.TheVariants as stops
-use Rattle.wasm_sem.specs.Answers.{summary, summary_of}
+use Rattle.wasm_sem.specs.Answers.{summary}
 use Rattle.wasm_sem.specs.Machine.{is_over, run_of}
 use Rattle.wasm_sem.proofs.Ended.{stays_over}
 use Rattle.wasm_run.specs.Running.{Run, configuration_of}
@@ -26,5 +26,5 @@ pub returns : goal.returns
 returns c =
     let r = c.args.session in
     let all : r.made + (r.script.steps - r.made) ≡ r.script.steps = omega (arith, c.requires) in
-    let ended = ap summary (ran_out c.in_ok-run.field-0 (r.script.steps - r.made) r c.run.new.session c.in_ok-run.ensures.ran ∙ ap (run_of r.module r.script) all) in
+    let ended = ap summary (ran_out c.in_ok-run.field-0 (r.script.steps - r.made) r c.run.new.self c.in_ok-run.ensures.ran ∙ ap (run_of r.module r.script) all) in
     IfOk-weaker c.finish.result _ _ (λ o e. e ∙ ended) c.finish.ensures.outcome

@@ -18,8 +18,8 @@ returns-in_err-script-clause-ended g c = λ words tools k.
     (cause_before _ _ _ _ _ _ c.in_ok-valid.ensures.kept c.in_ok-valid.ensures.read_count c.in_err-script.ensures.refused)
     (unchanged_after _ _ _ c.in_ok-valid.ensures.kept c.in_err-script.ensures.kept))
 
-pub play-requires-clause-range : goal.play-requires-clause-range
-play-requires-clause-range g c = c.in_ok-script.ensures.range
+pub play-requires : goal.play-requires
+play-requires g c = record { range = c.in_ok-script.ensures.range }
 
 pub unlinked-requires : goal.unlinked-requires
 unlinked-requires g c = λ call e. fault_within c.in_ok-valid.valid c.in_ok-script.script _ call c.in-Err.ensures.refused e
