@@ -11,9 +11,11 @@ use std::alloc::{AllocError, Global};
 use std::test::Fail;
 use wasm_num::{BlockKind, Value, Values};
 
-// The function of index 0 has an i32 parameter, three blocks at 0, 1 and 2, and a br_table at 4.
-const BRANCHES: &str =
-    "{\"dropped\":[],\"functions\":[[\"i\",\"\",[[0,-1,8,9],[1,0,7,8],[1,1,6,7],[1,2,5,6]],[[4,[0,1,2]]]]],\"groups\":[\"br_table\",\"end\",\"const\"],\"hooks\":[\"br_table\",\"end_block\",\"end_function\",\"i64.const\",\"nop\"],\"imports\":0,\"version\":1}";
+// The function of index 0 has an i32 parameter, three blocks at 0, 1 and 2, and a br_table at 4. The text is a call's answer, so
+// that no proof reads it.
+fn branches() -> &'static str {
+    "{\"dropped\":[],\"functions\":[[\"i\",\"\",[[0,-1,8,9],[1,0,7,8],[1,1,6,7],[1,2,5,6]],[[4,[0,1,2]]]]],\"groups\":[\"br_table\",\"end\",\"const\"],\"hooks\":[\"br_table\",\"end_block\",\"end_function\",\"i64.const\",\"nop\"],\"imports\":0,\"version\":1}"
+}
 
 // The words of a call: the function, the position, and one word or two more.
 fn words(alloc: Global, list: &[u32]) -> Result<Values, AllocError>
@@ -72,7 +74,7 @@ static JUMPS: [(u32, u32, i32, usize); 3] = [(0, 0, 6, 1), (1, 1, 7, 2), (429496
 fn labels_and_ends(rt: HostRuntime) -> Result<(), Fail> {
     let alloc = rt.alloc();
     let table = Table::new(Vec::new(alloc));
-    let Ok(info) = from_json(alloc, BRANCHES.as_bytes()) else {
+    let Ok(info) = from_json(alloc, branches().as_bytes()) else {
         assert!(rt; false, "the information is read");
         return Ok(());
     };
@@ -94,7 +96,7 @@ fn labels_and_ends(rt: HostRuntime) -> Result<(), Fail> {
 fn strays_and_values(rt: HostRuntime) -> Result<(), Fail> {
     let alloc = rt.alloc();
     let table = Table::new(Vec::new(alloc));
-    let Ok(info) = from_json(alloc, BRANCHES.as_bytes()) else {
+    let Ok(info) = from_json(alloc, branches().as_bytes()) else {
         assert!(rt; false, "the information is read");
         return Ok(());
     };

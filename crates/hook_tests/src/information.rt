@@ -1,20 +1,23 @@
 // Information from JSON and back, by the example of the smallest module.
 
+ghost use Rattle.static_info.specs.Form.{IsWellFormed};
+
 use hook_select::GroupName;
 use module_ast::module::{FuncType, Import, Item, Module};
 use module_ast::name::Name;
 use module_ast::seq::Seq;
-use static_info::{FuncInfo, InfoFault, belongs, from_json, to_json};
+use static_info::{FuncInfo, Info, InfoFault, belongs, from_json, to_json};
 use std::alloc::{AllocError, Global};
 use std::test::Fail;
 use wasm_num::ValType;
 
-const SMALLEST: &str =
-    "{\"dropped\":[],\"functions\":[[\"\",\"\",[[0,-1,1,2]],[]]],\"groups\":[\"nop\"],\"hooks\":[\"nop\"],\"imports\":0,\"version\":1}";
+// The smallest module's information. Its text is a call's answer, so that no proof reads it.
+fn smallest() -> &'static str {
+    "{\"dropped\":[],\"functions\":[[\"\",\"\",[[0,-1,1,2]],[]]],\"groups\":[\"nop\"],\"hooks\":[\"nop\"],\"imports\":0,\"version\":1}"
+}
 
 // Texts that are read: keys in another order, and an imported function with names that are dropped.
-static TAKEN: [&str; 4] = [
-    SMALLEST,
+static TAKEN: [&str; 3] = [
     "{ \"version\": 1, \"imports\": 0, \"hooks\": [], \"groups\": [], \"functions\": [], \"dropped\": [] }",
     "{\"dropped\":[\"name\"],\"functions\":[[\"il\",\"l\"]],\"groups\":[\"br_table\",\"end\"],\"hooks\":[\"br_table\",\"call_pre_il\",\"global.set_l\"],\"imports\":1,\"version\":1}",
     "{\"dropped\":[],\"functions\":[[\"\",\"\",[[0,-1,2147483647,0],[4,0,0,0]],[[0,[1002]],[2147483647,[0]]]]],\"groups\":[],\"hooks\":[],\"imports\":0,\"version\":1}",
@@ -131,22 +134,29 @@ fn texts_of_information(rt: HostRuntime) -> Result<(), Fail> {
     Ok(())
 }
 
-// A module that imports a function of two `i32` parameters, and no result, under these names.
-fn importing(alloc: Global, module: &str, name: &str) -> Result<Module, AllocError> {
+// The type of a function of two `i32` parameters, and no result.
+fn two_numbers(alloc: Global) -> Result<FuncType, AllocError> {
     let params = Vec::from_slice(alloc, &[ValType::I32, ValType::I32])?;
-    let results: Vec<ValType> = Vec::new(alloc);
-    let mut types = Vec::new(alloc);
-    types.push(FuncType {
+    Ok(FuncType {
         params: Seq::from_vec(params),
-        results: Seq::from_vec(results),
-    })?;
-    let mut imports = Vec::new(alloc);
-    imports.push(Import {
-        module: Name::from_string(String::from_str(alloc, module)?),
-        name: Name::from_string(String::from_str(alloc, name)?),
+        results: Seq::from_vec(Vec::new(alloc)),
+    })
+}
+
+// The import of a function of the first type.
+fn imported(alloc: Global, module: &str, name: &str) -> Result<Import, AllocError> {
+    let module = Name::from_string(String::from_str(alloc, module)?);
+    let name = Name::from_string(String::from_str(alloc, name)?);
+    Ok(Import {
+        module,
+        name,
         item: Item::Func(0),
-    })?;
-    Ok(Module {
+    })
+}
+
+// A module with these types and imports, and nothing else.
+fn importing(alloc: Global, types: Vec<FuncType>, imports: Vec<Import>) -> Module {
+    Module {
         types: Seq::from_vec(types),
         imports: Seq::from_vec(imports),
         funcs: Seq::from_vec(Vec::new(alloc)),
@@ -159,7 +169,14 @@ fn importing(alloc: Global, module: &str, name: &str) -> Result<Module, AllocErr
         bodies: Seq::from_vec(Vec::new(alloc)),
         segments: Seq::from_vec(Vec::new(alloc)),
         customs: Seq::from_vec(Vec::new(alloc)),
-    })
+    }
+}
+
+// Whether the information belongs to a module that imports a function of two `i32` parameters under these names.
+fn belongs_to(alloc: Global, info: &Info, module: &str, name: &str) -> Result<bool, AllocError> {
+    let types = vec![in alloc; two_numbers(alloc)?]?;
+    let imports = vec![in alloc; imported(alloc, module, name)?]?;
+    belongs(alloc, info, &importing(alloc, types, imports))
 }
 
 // The smallest module's function: from its entry to its last `end`.
@@ -170,24 +187,48 @@ fn is_smallest(func: &FuncInfo) -> bool {
     }
 }
 
+// Whether the information is the smallest module's, and is written as it was read.
+fn is_written_again(alloc: Global, info: &Info) -> Result<bool, AllocError>
+    requires { IsWellFormed info.now }
+{
+    let selected = info.groups.has(GroupName::Nop) && !info.groups.has(GroupName::Br);
+    let same = info
+        .functions
+        .as_slice()
+        .iter()
+        .all(|func| is_smallest(func));
+    let text = to_json(alloc, info)?;
+    Ok(selected && same && text.as_slice() == smallest().as_bytes())
+}
+
 #[test]
 fn written_and_read_again(rt: HostRuntime) -> Result<(), Fail> {
     let alloc = rt.alloc();
-    let Ok(info) = from_json(alloc, SMALLEST.as_bytes()) else {
-        assert!(rt; false, "the smallest is read");
-        return Ok(());
+    let Ok(info) = from_json(alloc, smallest().as_bytes()) else {
+        return Err("the smallest is read".into());
     };
-    assert!(rt; info.groups.has(GroupName::Nop) && !info.groups.has(GroupName::Br));
-    assert!(rt;
-        info.functions
-            .as_slice()
-            .iter()
-            .all(|func| is_smallest(func))
-    );
-    let text = to_json(alloc, &info)?;
-    assert!(rt; text.as_slice() == SMALLEST.as_bytes());
-    assert!(rt; belongs(alloc, &info, &importing(alloc, "__wasabi_hooks", "nop")?)?);
-    assert!(rt; !belongs(alloc, &info, &importing(alloc, "__wasabi_hooks", "br")?)?);
-    assert!(rt; !belongs(alloc, &info, &importing(alloc, "env", "nop")?)?);
+    assert!(rt; is_written_again(alloc, &info)?);
+    Ok(())
+}
+
+// Modules and names of an import, and whether the smallest information belongs to a module with it.
+static OWNERS: [(&str, &str, bool); 3] = [
+    ("__wasabi_hooks", "nop", true),
+    ("__wasabi_hooks", "br", false),
+    ("env", "nop", false),
+];
+
+#[test]
+fn belongs_by_names(rt: HostRuntime) -> Result<(), Fail> {
+    let alloc = rt.alloc();
+    let Ok(info) = from_json(alloc, smallest().as_bytes()) else {
+        return Err("the smallest is read".into());
+    };
+    for (module, name, owns) in &OWNERS {
+        assert!(rt;
+            belongs_to(alloc, &info, module, name)? == *owns,
+            "{module} {name}"
+        );
+    }
     Ok(())
 }

@@ -132,7 +132,21 @@ fn rewritten(
     entry_of(alloc, valid, defined, hooks, &table)
 }
 
-// Whether the function of a file becomes these bytes, its size before it.
+// Whether a function becomes these bytes, its size before it.
+fn has_entry(
+    alloc: Global,
+    valid: &ValidModule,
+    groups: &str,
+    defined: u32,
+    entry: &[u8],
+) -> Result<bool, Fail>
+    requires { IsWithin narrow valid.now }
+{
+    let found = rewritten(alloc, valid, groups, defined)?;
+    Ok(found.as_slice() == entry)
+}
+
+// The same of a function of a file.
 fn is_rewritten<R: Threads + Sync>(
     rt: &R,
     alloc: Global,
@@ -142,7 +156,7 @@ fn is_rewritten<R: Threads + Sync>(
     entry: &[u8],
 ) -> Result<bool, Fail> {
     let valid = valid_of(rt, alloc, file)?;
-    Ok(rewritten(alloc, &valid, groups, defined)?.as_slice() == entry)
+    has_entry(alloc, &valid, groups, defined, entry)
 }
 
 #[test]

@@ -260,34 +260,47 @@ fn plays_to(
     )
 }
 
-// Whether the run of a file by a script comes to this, by the machine and by a session.
+// Whether the run of a module by a script comes to this, by the machine and by a session.
+fn runs_and_plays_to(
+    alloc: Global,
+    valid: &ValidModule,
+    script: &Script,
+    ran: &Ran,
+) -> Result<bool, LinkFault>
+    requires { IsScriptInRange script.now }
+{
+    linked(alloc, valid, script)?;
+    Ok(plays_to(alloc, valid, script, ran)? && runs_to(alloc, valid, script, ran)?)
+}
+
+// The same by the text of the script.
+fn does_come_to(alloc: Global, valid: &ValidModule, script: &str, ran: &Ran) -> bool {
+    match read_script(alloc, script.as_bytes()) {
+        Ok(script) => matches!(runs_and_plays_to(alloc, valid, &script, ran), Ok(true)),
+        Err(_) => false,
+    }
+}
+
+// The same of the module with these bytes.
 fn comes_to<R: Threads + Sync>(
     rt: &R,
     alloc: Global,
     file: &[u8],
     script: &str,
     ran: &Ran,
-) -> Result<bool, Fail> {
-    let valid = valid_of(rt, alloc, file).ok_or("no module")?;
-    let Ok(script) = read_script(alloc, script.as_bytes()) else {
-        return Err("no script".into());
-    };
-    let Ok(()) = linked(alloc, &valid, &script) else {
-        return Err("no link".into());
-    };
-    let played = plays_to(alloc, &valid, &script, ran).ok().unwrap_or(false);
-    Ok(played && runs_to(alloc, &valid, &script, ran)?)
+) -> bool {
+    match valid_of(rt, alloc, file) {
+        Some(valid) => does_come_to(alloc, &valid, script, ran),
+        None => false,
+    }
 }
 
 #[test]
 fn modules_and_the_same_with_hooks(rt: HostRuntime) -> Result<(), Fail> {
     let alloc = rt.alloc();
     for (row, (module, told, script, ran)) in ROWS.iter().enumerate() {
-        assert!(rt; comes_to(&rt, alloc, module, script, ran)?, "{row}");
-        assert!(rt;
-            comes_to(&rt, alloc, told, script, ran)?,
-            "{row} with hooks"
-        );
+        assert!(rt; comes_to(&rt, alloc, module, script, ran), "{row}");
+        assert!(rt; comes_to(&rt, alloc, told, script, ran), "{row} with hooks");
     }
     Ok(())
 }

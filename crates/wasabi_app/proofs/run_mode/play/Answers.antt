@@ -4,8 +4,8 @@ use Rattle.std.proofs.lemmas.Result.{err_from_is_err_and}
 use Rattle.wasm_run.specs.Running.{Run}
 use Rattle.wasabi_app.proofs.run_mode.play.Goals as goal
 
-pub link-requires-clause-range : goal.link-requires-clause-range
-link-requires-clause-range c = c.requires.range
+pub link-requires : goal.link-requires
+link-requires c = c.requires
 
 pub returns-in_err-session-clause-refused : goal.returns-in_err-session-clause-refused
 returns-in_err-session-clause-refused c =
