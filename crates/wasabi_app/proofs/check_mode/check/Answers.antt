@@ -1,5 +1,5 @@
 -- A subject that is not loaded, or the counts of a valid module.
-use Rattle.std.proofs.Common.{ap, ◌∙◌, arith, inl, subst, sym}
+use Rattle.std.proofs.Common.{ap, ◌∙◌, arith, subst, sym}
 use Rattle.std.proofs.lemmas.Result.{err_from_is_err_and}
 use Rattle.module_ast.specs.Limits.{IsWhole, wide}
 use Rattle.wasabi_app.specs.Texts.{counts_of, ok_text}

@@ -3,7 +3,7 @@ use Rattle.std.proofs.Common.{◌≡◌, ℕ, ◌+◌, ◌-◌, ◌≤◌, Ok, t
 use Rattle.std.proofs.lemmas.Result.{IfOk-weaker}
 use Rattle.wasm_sem.specs.declared.Stop.{Stop}
 use Rattle.wasm_sem.specs.declared.Stop.TheVariants as stops
-use Rattle.wasm_sem.specs.Answers.{summary, summary_of}
+use Rattle.wasm_sem.specs.Answers.{summary}
 use Rattle.wasm_sem.specs.Machine.{is_over, run_of}
 use Rattle.wasm_sem.proofs.Ended.{stays_over}
 use Rattle.wasm_run.specs.Running.{Run, configuration_of}
