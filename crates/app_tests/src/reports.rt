@@ -237,14 +237,44 @@ fn info_of(alloc: Global, valid: &ValidModule, bytes: &[u8]) -> Option<Info>
     }
 }
 
-#[test]
-fn a_hook_call_feeds_the_picked(rt: HostRuntime) -> Result<(), test::Fail> {
-    let alloc = rt.alloc();
+// How many events were counted then, and how many each of four fresh analyses has taken.
+fn taken_first(
+    alloc: Global,
+    valid: &ValidModule,
+    info: &Info,
+    script: &Script,
+) -> Result<(Option<Tally>, Vec<u64>), LinkFault>
+    requires range { IsScriptInRange script.now }
+    requires formed { IsWellFormed info.now }
+    requires belongs { Belongs info.now valid.now }
+{
+    let mut tools: Vec<Box<dyn Analysis>> = Vec::new(alloc);
+    tools.push(Box::new(alloc, Blocks::new(alloc))?)?;
+    tools.push(Box::new(alloc, Branches::new(alloc))?)?;
+    tools.push(Box::new(alloc, CallGraph::new(alloc))?)?;
+    tools.push(Box::new(alloc, MemoryUse::new(alloc))?)?;
+    let tally = fed_first(alloc, valid, info, script, &mut tools)?;
+    let mut taken = Vec::new(alloc);
+    for tool in &tools {
+        taken.push(tool.taken())?;
+    }
+    Ok((tally, taken))
+}
+
+// A shelf with the function of a loop, and its output and information for begins, ends and branches.
+fn loop_shelf<R: Threads + Sync>(rt: &R, alloc: Global) -> Result<MemoryShelf, AllocError> {
     let mut shelf = MemoryShelf::new(alloc, fails_of(alloc, None)?);
     shelf.add("a.wasm", LOOP.as_slice())?;
     let mut sink = MemorySink::new(alloc, fails_of(alloc, None)?);
     let words = "instrument a.wasm --out b.wasm --info i.json --hooks begin,end,br_if";
-    assert_eq!(rt; status_of(&rt, alloc, words, &mut shelf, &mut sink)?, 0);
+    status_of(rt, alloc, words, &mut shelf, &mut sink)?;
+    Ok(shelf)
+}
+
+#[test]
+fn a_hook_call_feeds_the_picked(rt: HostRuntime) -> Result<(), test::Fail> {
+    let alloc = rt.alloc();
+    let shelf = loop_shelf(&rt, alloc)?;
     let output = shelf.bytes_of("b.wasm").ok_or("no output")?;
     let valid = valid_of(&rt, alloc, output).ok_or("no module")?;
     let text = shelf.bytes_of("i.json").ok_or("no text")?;
@@ -252,12 +282,7 @@ fn a_hook_call_feeds_the_picked(rt: HostRuntime) -> Result<(), test::Fail> {
     let Ok(script) = read_script(alloc, CALL.as_bytes()) else {
         return Err("no script".into());
     };
-    let mut tools: Vec<Box<dyn Analysis>> = Vec::new(alloc);
-    tools.push(Box::new(alloc, Blocks::new(alloc))?)?;
-    tools.push(Box::new(alloc, Branches::new(alloc))?)?;
-    tools.push(Box::new(alloc, CallGraph::new(alloc))?)?;
-    tools.push(Box::new(alloc, MemoryUse::new(alloc))?)?;
-    let Ok(tally) = fed_first(alloc, &valid, &info, &script, &mut tools) else {
+    let Ok((tally, taken)) = taken_first(alloc, &valid, &info, &script) else {
         return Err("no step".into());
     };
     assert_eq!(rt;
@@ -267,10 +292,6 @@ fn a_hook_call_feeds_the_picked(rt: HostRuntime) -> Result<(), test::Fail> {
             strays: 0
         })
     );
-    let mut taken = Vec::new(alloc);
-    for tool in &tools {
-        taken.push(tool.taken())?;
-    }
     assert_eq!(rt; taken.as_slice(), [1, 0, 1, 0].as_slice());
     Ok(())
 }

@@ -1,5 +1,5 @@
 -- What the status of a cause tells, and of an ending.
-use Rattle.std.proofs.Common.{◌≡◌, ◌≢◌, ℕ, ◌⊎◌, inl, inr, cond, eqb, Bool, true, false, List, refl, sym, subst, arith, codes, Option, Some, None}
+use Rattle.std.proofs.Common.{◌≡◌, ◌≢◌, ℕ, ◌⊎◌, inl, inr, cond, eqb, Bool, true, false, List, refl, sym, subst, arith, Option, Some}
 use Rattle.outside_io.specs.Outside.{Contents, Rose, Unchanged, Printed, PrintedPart}
 use Rattle.module_ast.specs.declared.module.Limits.{Limits}
 use Rattle.module_ast.specs.declared.module.Module.{Module}

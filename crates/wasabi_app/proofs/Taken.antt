@@ -1,5 +1,5 @@
 -- What the analyses have taken, by how a command ended.
-use Rattle.std.proofs.Common.{◌≡◌, ◌≢◌, ℕ, ◌⊎◌, inl, inr, List, [], ◌∷◌, ◌++◌, refl, sym, subst, ◌∙◌, arith, append-nil, All, Bool, true, false, ◌||◌, eqb, string_bytes, Option, Some, None, Result, Ok, Err, IfOk, IfErr}
+use Rattle.std.proofs.Common.{◌≡◌, ◌≢◌, ℕ, ◌⊎◌, inl, inr, List, [], ◌∷◌, ◌++◌, refl, sym, subst, ◌∙◌, append-nil, All, Bool, true, false, ◌||◌, eqb, string_bytes, Option, Some, None, Result, Ok, Err, IfOk, IfErr}
 use Rattle.std.proofs.lemmas.List.Elements.{All-from_recursion, All-nil}
 use Rattle.outside_io.specs.Outside.{Contents}
 use Rattle.hook_select.specs.declared.Event.{Event}

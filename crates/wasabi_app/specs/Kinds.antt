@@ -1,5 +1,5 @@
 -- Sets of kinds of reports, and the text of a list of them.
-use Rattle.std.specs.Prelude.{◌≡◌, ℕ, ◌==◌, ◌||◌, List, [], ◌∷◌, codes, Bool, true, false, cond, bytes_eq, find, filter, Option, Some, None, option_and_then}
+use Rattle.std.specs.Prelude.{ℕ, List, [], ◌∷◌, codes, Bool, true, false, cond, bytes_eq, find, filter, Option, Some, option_and_then}
 use Rattle.hook_select.specs.Groups.{pieces}
 use Rattle.analyses.specs.declared.Kind.{Kind}
 use Rattle.analyses.specs.declared.Kind.TheVariants.{Blocks, Branches, Calls, Memory}

@@ -1,7 +1,7 @@
 -- The command that the words ask for.
 use Rattle.std.proofs.Common.{inl, refl}
 use Rattle.wasabi_app.specs.Words.{texts}
-use Rattle.wasabi_app.specs.Reading.{line_of, report_line_of}
+use Rattle.wasabi_app.specs.Reading.{line_of}
 use Rattle.wasabi_app.specs.Ends.{no_command}
 use Rattle.wasabi_app.proofs.Contents.{unchanged_same}
 use Rattle.wasabi_app.proofs.OptionWords.{line_bound}
