@@ -1,9 +1,6 @@
 -- A subject that is not loaded, or the counts of a valid module.
-use Rattle.std.proofs.Common.{subst, sym}
+use Rattle.std.proofs.Common.{arith}
 use Rattle.std.proofs.lemmas.Result.{err_from_is_err_and}
-use Rattle.module_ast.specs.Limits.{wide}
-use Rattle.wasabi_app.specs.Files.{wide_file}
-use Rattle.wasabi_app.specs.Reads.{IsLoaded}
 use Rattle.wasabi_app.specs.Ends.{unloaded}
 use Rattle.wasabi_app.proofs.Outputs.{check_reads}
 use Rattle.wasabi_app.proofs.check_mode.check.Goals as goal
@@ -15,5 +12,6 @@ returns-in_err-valid-clause-ended g c = λ words tools k.
 
 pub returns-clause-ended : goal.returns-clause-ended
 returns-clause-ended g c = λ words tools k.
-    c.counted.ensures words c.args.subject.now tools _ _ k
-    (subst (λ m. IsLoaded _ _ wide_file wide m) (sym c.module.ensures.module) (rw c.wide.ensures at c.in_ok-valid.ensures.ok)) c.load.ensures.kept
+    let loaded = rw c.wide.ensures at c.in_ok-valid.ensures.ok in
+    c.counted.ensures words c.args.subject.now tools _ _ k (rw c.module.ensures.module loaded)
+    (record { kept = c.load.ensures.kept; reads = c.load.ensures.read_count; writes = omega (arith, c.load.ensures.write_count) })

@@ -5,5 +5,5 @@ use Rattle.wasabi_app.proofs.Outputs.{answers_checked}
 use Rattle.wasabi_app.proofs.check_mode.counted.Goals as goal
 
 pub returns-in-Ok : goal.returns-in-Ok
-returns-in-Ok c = λ words subject tools old new k loaded kept.
-    answers_checked words old new subject _ c.args.m.now k loaded kept (c.in-Ok.ensures ∙ ap ok_text c.count.ensures)
+returns-in-Ok c = λ words subject tools old new k loaded was.
+    answers_checked words old new subject _ c.args.m.now k loaded was.kept (c.in-Ok.ensures ∙ ap ok_text c.count.ensures)

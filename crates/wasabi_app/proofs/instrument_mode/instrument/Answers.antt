@@ -12,12 +12,12 @@ returns-in_err-valid-clause-ended g c = λ words tools k.
     rw (p.1, p.2) (unloaded _ _ _ (line_reads k) (rw c.narrow.ensures at c.in_err-valid.ensures.refused) c.in_err-valid.ensures.kept)
 
 pub instrument_module-requires-clause-limits : goal.instrument_module-requires-clause-limits
-instrument_module-requires-clause-limits g c = (rw c.narrow.ensures at c.in_ok-valid.ensures.ok).fit.within
+instrument_module-requires-clause-limits g c = λ _ _. (rw c.narrow.ensures at c.in_ok-valid.ensures.ok).fit.within
 
 pub instrument_module-requires-clause-short : goal.instrument_module-requires-clause-short
 instrument_module-requires-clause-short g c =
     let is = rw c.narrow.ensures at c.in_ok-valid.ensures.ok in
-    canonical_short is.bytes c.in_ok-valid.valid is.read.short is.fit.spelled
+    λ _ _. canonical_short is.bytes c.in_ok-valid.valid is.read.short is.fit.spelled
 
 pub returns-clause-ended : goal.returns-clause-ended
 returns-clause-ended g c = λ words tools k.

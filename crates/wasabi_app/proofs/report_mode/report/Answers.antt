@@ -27,5 +27,4 @@ returns-clause-ended g c = λ words k.
 
 pub returns-clause-took : goal.returns-clause-took
 returns-clause-took g c = λ words k.
-    c.report_module.ensures.took words _ k (rw c.wide.ensures at c.in_ok-valid.ensures.ok)
-    (record { kept = c.load.ensures.kept; reads = c.load.ensures.read_count; writes = omega (arith, c.load.ensures.write_count) })
+    c.report_module.ensures.took words _ k (rw c.wide.ensures at c.in_ok-valid.ensures.ok) c.load.ensures.kept

@@ -17,7 +17,7 @@ returns-in_err-script-clause-ended g c = λ words before k loaded informed was.
     (unchanged_after _ _ _ was.kept c.in_err-script.ensures.kept))
 
 pub returns-in_err-script-clause-took : goal.returns-in_err-script-clause-took
-returns-in_err-script-clause-took g c = λ words before k loaded informed was.
+returns-in_err-script-clause-took g c = λ words held k loaded informed kept.
     let p = err_from_is_err_and c.from_residual.result c.from_residual.ensures.1 in
     rw p.1 (inl refl)
 
@@ -40,10 +40,10 @@ returns-in-Ok-clause-ended g c = λ words before k loaded informed was.
     c.told.ensures.status c.told.ensures.text c.told.ensures.reports c.told.ensures.no_memory
 
 pub returns-in-Ok-clause-took : goal.returns-in-Ok-clause-took
-returns-in-Ok-clause-took g c = λ words before k loaded informed was.
+returns-in-Ok-clause-took g c = λ words held k loaded informed kept.
     let line = report_line_of c.args.line.now in
     takes_reported words _ line c.args.m.now c.args.info.now c.in_ok-script.script _ c.in-Ok.played.tally _ _ c.told.result
-    (asks_report words _ _ line c.args.m.now c.args.info.now c.in_ok-script.script k loaded informed was.kept c.in_ok-script.ensures.ok)
+    (asks_report words _ _ line c.args.m.now c.args.info.now c.in_ok-script.script k loaded informed kept c.in_ok-script.ensures.ok)
     c.in-Ok.ensures.links
     (record { ended = c.in-Ok.ensures.ended; counted = c.in-Ok.ensures.counted; taken = c.in-Ok.ensures.fed; fresh = c.requires.fresh })
     c.told.ensures.no_memory
@@ -62,10 +62,10 @@ returns-clause-ended g c = λ words before k loaded informed was.
     (unchanged_after _ _ _ was.kept c.in_ok-script.ensures.kept) c.in-Err.ensures.refused c.unlinked.ensures
 
 pub returns-clause-took : goal.returns-clause-took
-returns-clause-took g c = λ words before k loaded informed was.
+returns-clause-took g c = λ words held k loaded informed kept.
     let line = report_line_of c.args.line.now in
     takes_part words _ line c.args.m.now c.args.info.now c.in_ok-script.script c.in-Err.fault _ _ c.unlinked.result
-    (asks_report words _ _ line c.args.m.now c.args.info.now c.in_ok-script.script k loaded informed was.kept c.in_ok-script.ensures.ok)
+    (asks_report words _ _ line c.args.m.now c.args.info.now c.in_ok-script.script k loaded informed kept c.in_ok-script.ensures.ok)
     c.in-Err.ensures.stands c.unlinked.ensures
 
 pub returns-clause-tagged : goal.returns-clause-tagged

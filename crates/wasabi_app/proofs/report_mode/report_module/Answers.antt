@@ -18,7 +18,7 @@ returns-in_err-info-clause-ended g c = λ words before k loaded was.
     (unchanged_after _ _ _ was.kept c.in_err-info.ensures.kept))
 
 pub returns-in_err-info-clause-took : goal.returns-in_err-info-clause-took
-returns-in_err-info-clause-took g c = λ words before k loaded was.
+returns-in_err-info-clause-took g c = λ words held k loaded kept.
     let p = err_from_is_err_and c.from_residual.result c.from_residual.ensures.1 in
     rw p.1 (inl refl)
 
@@ -43,12 +43,8 @@ returns-clause-ended g c = λ words before k loaded was.
     })
 
 pub returns-clause-took : goal.returns-clause-took
-returns-clause-took g c = λ words before k loaded was.
+returns-clause-took g c = λ words held k loaded kept.
     let line = report_line_of c.args.line.now in
-    c.report_informed.ensures.took words before k loaded
-    (informed_before _ _ line.info line.subject c.args.m.now c.in_ok-info.info was.kept (c.in_ok-info.ensures.ok line.subject))
-    (record {
-      kept = unchanged_after _ _ _ was.kept c.load_info.ensures.kept;
-      reads = omega (arith, was.reads, c.load_info.ensures.read_count);
-      writes = omega (arith, was.writes, c.load_info.ensures.write_count);
-    })
+    c.report_informed.ensures.took words held k loaded
+    (informed_before _ _ line.info line.subject c.args.m.now c.in_ok-info.info kept (c.in_ok-info.ensures.ok line.subject))
+    (unchanged_after _ _ _ kept c.load_info.ensures.kept)
