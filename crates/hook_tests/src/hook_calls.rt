@@ -2,11 +2,12 @@
 
 ghost use Rattle.std.specs.Prelude.{IfOk};
 ghost use Rattle.hook_events.specs.Words.{AreWords};
+ghost use Rattle.static_info.specs.Form.{IsWellFormed};
 
 use hook_events::read_hook;
 use hook_select::Event;
 use run_store::table::Table;
-use static_info::from_json;
+use static_info::{Info, from_json};
 use std::alloc::{AllocError, Global};
 use std::test::Fail;
 use wasm_num::{BlockKind, Value, Values};
@@ -67,67 +68,118 @@ fn is_const(event: &Event, wanted: u64) -> bool {
     }
 }
 
-// Index, label, its target, and how many ends follow.
-static JUMPS: [(u32, u32, i32, usize); 3] = [(0, 0, 6, 1), (1, 1, 7, 2), (4294967295, 2, 8, 3)];
+// The events of a hook call with these words, where the table has no slots.
+fn events_of(alloc: Global, info: &Info, hook: u32, list: &[u32]) -> Result<Vec<Event>, AllocError>
+    requires { IsWellFormed info.now }
+{
+    let table = Table::new(Vec::new(alloc));
+    let words = words(alloc, list)?;
+    read_hook(alloc, info, &table, hook, &words)
+}
+
+// A call of the br_table's hook: its index, the label and its target, and how many ends follow.
+struct Jump {
+    index: u32,
+    label: u32,
+    target: i32,
+    ends: usize,
+}
+
+static JUMPS: [Jump; 3] = [
+    Jump {
+        index: 0,
+        label: 0,
+        target: 6,
+        ends: 1,
+    },
+    Jump {
+        index: 1,
+        label: 1,
+        target: 7,
+        ends: 2,
+    },
+    Jump {
+        index: 4_294_967_295,
+        label: 2,
+        target: 8,
+        ends: 3,
+    },
+];
+
+// Whether the events are the jump, and the ends of the blocks that it leaves.
+fn are_of_jump(told: &[Event], jump: &Jump) -> bool {
+    match told {
+        [first, second, others @ ..] => {
+            others.len() + 1 == jump.ends
+                && is_jump(first, jump.label, jump.target)
+                && is_end(second, 5, 2)
+                && (jump.ends == 1 || others.first().is_some_and(|event| is_end(event, 6, 1)))
+        }
+        _ => false,
+    }
+}
+
+// Whether a call of the br_table's hook is read so.
+fn reads_jump(alloc: Global, info: &Info, jump: &Jump) -> Result<bool, AllocError>
+    requires { IsWellFormed info.now }
+{
+    let events = events_of(alloc, info, 0, &[0, 4, jump.index])?;
+    Ok(are_of_jump(events.as_slice(), jump))
+}
 
 #[test]
 fn labels_and_ends(rt: HostRuntime) -> Result<(), Fail> {
     let alloc = rt.alloc();
-    let table = Table::new(Vec::new(alloc));
     let Ok(info) = from_json(alloc, branches().as_bytes()) else {
-        assert!(rt; false, "the information is read");
-        return Ok(());
+        return Err("the information is read".into());
     };
-    for (index, label, target, ends) in &JUMPS {
-        let events = read_hook(alloc, &info, &table, 0, &words(alloc, &[0, 4, *index])?)?;
-        let told = events.as_slice();
-        assert!(rt; told.len() == ends + 1);
-        assert!(rt;
-            told.first()
-                .is_some_and(|event| is_jump(event, *label, *target))
-        );
-        assert!(rt; told.get(1).is_some_and(|event| is_end(event, 5, 2)));
-        assert!(rt; *ends == 1 || told.get(2).is_some_and(|event| is_end(event, 6, 1)));
+    for jump in &JUMPS {
+        assert!(rt; reads_jump(alloc, &info, jump)?);
     }
     Ok(())
+}
+
+// Whether a call of the br_table's hook from this function and position is a stray.
+fn reads_stray(alloc: Global, info: &Info, func: u32, position: u32) -> Result<bool, AllocError>
+    requires { IsWellFormed info.now }
+{
+    let events = events_of(alloc, info, 0, &[func, position, 0])?;
+    Ok(match events.as_slice() {
+        [event] => is_stray(event, 0),
+        _ => false,
+    })
+}
+
+// Whether the low word of a constant stands first.
+fn reads_long(alloc: Global, info: &Info) -> Result<bool, AllocError>
+    requires { IsWellFormed info.now }
+{
+    let events = events_of(alloc, info, 3, &[0, 0, 4_294_967_294, 4_294_967_295])?;
+    Ok(match events.as_slice() {
+        [event] => is_const(event, 18_446_744_073_709_551_614),
+        _ => false,
+    })
+}
+
+// Whether a call of a hook whose group is not selected says nothing.
+fn reads_nothing(alloc: Global, info: &Info) -> Result<bool, AllocError>
+    requires { IsWellFormed info.now }
+{
+    let events = events_of(alloc, info, 4, &[0, 0])?;
+    Ok(events.is_empty())
 }
 
 #[test]
 fn strays_and_values(rt: HostRuntime) -> Result<(), Fail> {
     let alloc = rt.alloc();
-    let table = Table::new(Vec::new(alloc));
     let Ok(info) = from_json(alloc, branches().as_bytes()) else {
-        assert!(rt; false, "the information is read");
-        return Ok(());
+        return Err("the information is read".into());
     };
     // no such function, and no br_table at that position
     for (func, position) in &[(1u32, 4u32), (0, 3)] {
-        let events = read_hook(
-            alloc,
-            &info,
-            &table,
-            0,
-            &words(alloc, &[*func, *position, 0])?,
-        )?;
-        assert!(rt; events.as_slice().iter().all(|event| is_stray(event, 0)));
-        assert!(rt; events.len() == 1);
+        assert!(rt; reads_stray(alloc, &info, *func, *position)?);
     }
-    // the low word stands first; nop is not selected
-    let events = read_hook(
-        alloc,
-        &info,
-        &table,
-        3,
-        &words(alloc, &[0, 0, 4294967294, 4294967295])?,
-    )?;
-    assert!(rt;
-        events
-            .as_slice()
-            .iter()
-            .all(|event| is_const(event, 18446744073709551614))
-    );
-    assert!(rt; events.len() == 1);
-    let events = read_hook(alloc, &info, &table, 4, &words(alloc, &[0, 0])?)?;
-    assert!(rt; events.is_empty());
+    assert!(rt; reads_long(alloc, &info)?);
+    assert!(rt; reads_nothing(alloc, &info)?);
     Ok(())
 }

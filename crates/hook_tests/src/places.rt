@@ -90,15 +90,19 @@ static PLACES: [(i32, bool, Option<Block>, usize); 13] = [
     (11, true, Some(FUNCTION), 0),
 ];
 
+// Whether the next place is so.
+fn is_next(walk: &mut Walk<'_>, wanted: (i32, bool, Option<Block>)) -> Result<bool, AllocError> {
+    let place = walk.next()?;
+    Ok(place.is_some_and(|p| (p.position, p.live, block_of(p.opcode)) == wanted))
+}
+
 #[test]
 fn places_in_order(rt: HostRuntime) -> Result<(), Fail> {
     let alloc = rt.alloc();
     let code = body(alloc)?;
     let mut walk = Walk::new(alloc, &code)?;
     for &(position, live, block, depth) in &PLACES {
-        let place = walk.next()?;
-        let found = place.map(|p| (p.position, p.live, block_of(p.opcode)));
-        assert!(rt; found == Some((position, live, block)));
+        assert!(rt; is_next(&mut walk, (position, live, block))?);
         assert_eq!(rt; walk.scopes().depth(), depth);
     }
     assert!(rt; walk.next()?.is_none());
