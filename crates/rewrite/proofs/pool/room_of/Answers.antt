@@ -1,4 +1,4 @@
-use Rattle.std.proofs.Common.{◌≡◌, ◌∙◌, ◌∷◌, sym, ap, subst, refl, Some}
+use Rattle.std.proofs.Common.{◌∙◌, ◌∷◌, sym, ap, subst, refl, Some}
 use Rattle.module_ast.specs.Positions as positions
 use Rattle.module_ast.specs.declared.module.Body.{Body}
 use Rattle.branch_resolve.specs.Walks.{IsNextPlace}

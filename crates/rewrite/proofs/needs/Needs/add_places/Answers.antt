@@ -1,8 +1,6 @@
 use Rattle.std.proofs.Common.{◌≡◌, ◌∙◌, ◌∷◌, sym, ap, subst, subst₂, length, Some}
-use Rattle.module_ast.specs.Positions as positions
 use Rattle.branch_resolve.specs.Scopes.{blocks_around}
 use Rattle.branch_resolve.specs.Walks.{IsNextPlace}
-use Rattle.module_ast.specs.declared.module.Body.{Body}
 use Rattle.rewrite.specs.declared.needs.Needs.{Needs}
 use Rattle.rewrite.proofs.Needing.{IsUnderway, underway_first, underway_next}
 use Rattle.rewrite.proofs.needs.Needs.add_places.Goals as goal

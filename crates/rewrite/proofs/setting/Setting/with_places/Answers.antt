@@ -1,4 +1,4 @@
-use Rattle.std.proofs.Common.{◌≡◌, ◌∙◌, ℕ, ◌+◌, ◌*◌, List, ◌∷◌, length, Some, sym, ap, subst, subst₂, arith}
+use Rattle.std.proofs.Common.{◌≡◌, ◌∙◌, ℕ, ◌+◌, ◌*◌, List, ◌∷◌, length, Some, sym, subst, subst₂, arith}
 use Rattle.module_ast.specs.Positions as positions
 use Rattle.branch_resolve.specs.Walks.{IsNextPlace}
 use Rattle.rewrite.specs.Sizes.{end_sums}
