@@ -1,6 +1,6 @@
 -- A body is locals and an expression that fill its bytes.
-use Rattle.std.proofs.Common.{◌≡◌, ℕ, ◌+◌, ◌^◌, ◌<◌, ◌≤◌, List, [], ◌∷◌, ◌++◌, refl, sym, ap, ◌∙◌, subst, append-nil, arith}
-use Rattle.std.specs.Prelude.{Bool, true, false, ◌||◌, map}
+use Rattle.std.proofs.Common.{◌≡◌, ℕ, ◌+◌, ◌^◌, ◌<◌, ◌≤◌, List, [], ◌∷◌, ◌++◌, sym, ap, ◌∙◌, subst, append-nil, arith}
+use Rattle.std.specs.Prelude.{true, map}
 use Rattle.std.proofs.lemmas.Bool.{or_left, or_right}
 use Rattle.leb_binary.specs.Leb.{IsFront, HasNoFront}
 use Rattle.leb_binary.specs.Fronts.{OneFront}

@@ -1,5 +1,5 @@
 -- What tokens make of what was read so far.
-use Rattle.std.specs.Prelude.{◌≡◌, ℕ, ◌+◌, ◌<◌, ◌≤◌, List, [], ◌∷◌, ◌++◌, length, take, drop, max, Bool, ◌||◌}
+use Rattle.std.specs.Prelude.{◌≡◌, ℕ, ◌+◌, ◌<◌, ◌≤◌, [], ◌∷◌, ◌++◌, length, take, drop, max, Bool, ◌||◌}
 use Rattle.module_ast.specs.Seen.{code_of}
 use Rattle.module_ast.specs.declared.code.BlockType.{BlockType}
 use Rattle.code_decode.specs.Opened.{closed_instr}
