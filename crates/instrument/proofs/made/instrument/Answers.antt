@@ -1,5 +1,7 @@
-use Rattle.std.proofs.Common.{◌≡◌, ◌≤◌, length, ap, sym, ◌∙◌, subst, arith}
+use Rattle.std.proofs.Common.{◌≡◌, ◌≤◌, ℕ, List, length, ap, sym, ◌∙◌, subst, arith}
+use Rattle.module_ast.specs.declared.module.Module.{Module}
 use Rattle.module_ast.specs.Fits.{Fits}
+use Rattle.hook_select.specs.declared.Hooks.{Hooks}
 use Rattle.wasm_sem.specs.Link.{IsFree}
 use Rattle.instrument.specs.Made.{longest_output, IsSound}
 use Rattle.instrument.specs.Output.{output_bytes}
@@ -9,11 +11,15 @@ use Rattle.instrument.specs.Accepted.{IsInstrumented}
 use Rattle.instrument.proofs.OutputSame.{sound, instrumented}
 use Rattle.instrument.proofs.made.instrument.Goals as goal
 
+-- the output of the plan's module
+written : (p : Plan) (m : Module) (hooks : Hooks) (bytes : List ℕ) → bytes ≡ output_bytes p.module p.hooks → p ≡ record { «module» = m; hooks = hooks } → bytes ≡ output_bytes m hooks
+written p m hooks bytes is of = is ∙ ap (λ (p : Plan). output_bytes p.module p.hooks) of
+
 pub returns-in-Ok-clause-sound : goal.returns-in-Ok-clause-sound
 returns-in-Ok-clause-sound g c =
     let m = c.args.m.now in
     let hooks = c.args.hooks in
-    let is : c.in-Ok.bytes.items ≡ output_bytes m hooks = c.in-Ok.ensures.ok ∙ ap (λ (p : Plan). output_bytes p.module p.hooks) c.in_ok-plan.ensures in
+    let is : c.in-Ok.bytes.items ≡ output_bytes m hooks = written c.in_ok-plan.plan m hooks c.in-Ok.bytes.items c.in-Ok.ensures.ok c.in_ok-plan.ensures in
     let few : length (output_bytes m hooks) ≤ longest_output = subst (λ l. length l ≤ longest_output) is (omega (arith, c.in-Ok.ensures.few, c.requires.most)) in
     let free : IsFree m = subst IsFree c.module.ensures.module (c.is_free.ensures.0 c.if-not-is_free.false) in
     let fits : Fits m = subst Fits c.module-2.ensures.module (c.encoded_length.ensures.fit (rw c.module-2.ensures.module (omega (arith, c.requires.short)))) in
@@ -23,7 +29,7 @@ pub returns-in-Ok-clause-instrumented : goal.returns-in-Ok-clause-instrumented
 returns-in-Ok-clause-instrumented g c =
     let m = c.args.m.now in
     let hooks = c.args.hooks in
-    let is : c.in-Ok.bytes.items ≡ output_bytes m hooks = c.in-Ok.ensures.ok ∙ ap (λ (p : Plan). output_bytes p.module p.hooks) c.in_ok-plan.ensures in
+    let is : c.in-Ok.bytes.items ≡ output_bytes m hooks = written c.in_ok-plan.plan m hooks c.in-Ok.bytes.items c.in-Ok.ensures.ok c.in_ok-plan.ensures in
     let few : length (output_bytes m hooks) ≤ longest_output = subst (λ l. length l ≤ longest_output) is (omega (arith, c.in-Ok.ensures.few, c.requires.most)) in
     let free : IsFree m = subst IsFree c.module.ensures.module (c.is_free.ensures.0 c.if-not-is_free.false) in
     λ file spelled short.
