@@ -243,22 +243,28 @@ fn taken_first(
     valid: &ValidModule,
     info: &Info,
     script: &Script,
-) -> Result<(Option<Tally>, Vec<u64>), LinkFault>
+) -> Option<(Option<Tally>, Vec<u64>)>
     requires range { IsScriptInRange script.now }
     requires formed { IsWellFormed info.now }
     requires belongs { Belongs info.now valid.now }
 {
     let mut tools: Vec<Box<dyn Analysis>> = Vec::new(alloc);
-    tools.push(Box::new(alloc, Blocks::new(alloc))?)?;
-    tools.push(Box::new(alloc, Branches::new(alloc))?)?;
-    tools.push(Box::new(alloc, CallGraph::new(alloc))?)?;
-    tools.push(Box::new(alloc, MemoryUse::new(alloc))?)?;
-    let tally = fed_first(alloc, valid, info, script, &mut tools)?;
+    tools.push(Box::new(alloc, Blocks::new(alloc)).ok()?).ok()?;
+    tools
+        .push(Box::new(alloc, Branches::new(alloc)).ok()?)
+        .ok()?;
+    tools
+        .push(Box::new(alloc, CallGraph::new(alloc)).ok()?)
+        .ok()?;
+    tools
+        .push(Box::new(alloc, MemoryUse::new(alloc)).ok()?)
+        .ok()?;
+    let tally = fed_first(alloc, valid, info, script, &mut tools).ok()?;
     let mut taken = Vec::new(alloc);
     for tool in &tools {
-        taken.push(tool.taken())?;
+        taken.push(tool.taken()).ok()?;
     }
-    Ok((tally, taken))
+    Some((tally, taken))
 }
 
 // A shelf with the function of a loop, and its output and information for begins, ends and branches.
@@ -282,9 +288,7 @@ fn a_hook_call_feeds_the_picked(rt: HostRuntime) -> Result<(), test::Fail> {
     let Ok(script) = read_script(alloc, CALL.as_bytes()) else {
         return Err("no script".into());
     };
-    let Ok((tally, taken)) = taken_first(alloc, &valid, &info, &script) else {
-        return Err("no step".into());
-    };
+    let (tally, taken) = taken_first(alloc, &valid, &info, &script).ok_or("no step")?;
     assert_eq!(rt;
         tally,
         Some(Tally {
