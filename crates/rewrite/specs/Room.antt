@@ -1,17 +1,18 @@
 -- How many temporaries of each type the templates of a body need at most, place by place.
-use Rattle.std.specs.Prelude.{ℕ, ◌+◌, ℤ, nat_abs, List, [], ◌∷◌, Bool, Option, None, Some, fold, max}
+use Rattle.std.specs.Prelude.{ℕ, ◌+◌, List, [], ◌∷◌, Bool, Option, None, Some, fold, max}
 use Rattle.wasm_num.specs.declared.ValType.{ValType}
 use Rattle.wasm_num.specs.declared.ValType.TheVariants.{I32, I64}
 use Rattle.module_ast.specs.declared.code.Instr.{Instr}
 use Rattle.module_ast.specs.Lists.{when}
 use Rattle.module_ast.specs.Plains.{plain_of}
-use Rattle.module_ast.specs.Tree.{Plain}
-use Rattle.branch_resolve.specs.declared.place.Opcode.{Opcode}
-use Rattle.branch_resolve.specs.declared.place.Opcode.TheVariants.{Enters, Acts, Opens, Alternates, Closes}
+use Rattle.module_ast.specs.Positions.{code_size, ends_live}
+use Rattle.module_ast.specs.Tree.{Tree, Plain}
 use Rattle.hook_select.specs.declared.Hooks.{Hooks}
 use Rattle.hook_mono.specs.Needed.{Site}
 use Rattle.i64_split.specs.Split.{ints_in, longs_in}
-use Rattle.rewrite.specs.Temporaries.{plain_temps, open_temps, close_temps}
+use Rattle.rewrite.specs.Live.{code_temps}
+use Rattle.rewrite.specs.Temporaries.{plain_temps}
+use Rattle.rewrite.specs.declared.pool.Measured.{Measured}
 use Rattle.rewrite.specs.declared.pool.Room.{Room}
 
 -- for these at once
@@ -47,9 +48,16 @@ plain_temps_of hooks s p (Some i) = plain_temps hooks s p i
 abbrev pub instr_temps : Hooks → Site → (p : ℕ) → Instr → List (List ValType)
 instr_temps hooks s p i = plain_temps_of hooks s p (plain_of i)
 
-abbrev pub temps_at : Hooks → Site → (p : ℤ) → Opcode → List (List ValType)
-temps_at hooks s p Enters = []
-temps_at hooks s p (Acts i) = instr_temps hooks s (nat_abs p) i.now
-temps_at hooks s p (Opens b) = open_temps hooks b.kind
-temps_at hooks s p (Alternates a b live) = []
-temps_at hooks s p (Closes b) = close_temps hooks s b.kind
+-- ---- a body gone over from a place on
+
+-- behind a sequence: enough for its templates too, where it is live
+abbrev pub behind_code : Hooks → Site → Tree → Measured → Measured
+behind_code hooks s k m = record {
+  room = widened m.room (when m.live (code_temps hooks s m.position k));
+  live = ends_live m.live k;
+  position = m.position + code_size k;
+}
+
+-- behind the end of a part
+abbrev pub behind_part : Hooks → Site → Tree → Measured → Measured
+behind_part hooks s k m = record { room = (behind_code hooks s k m).room; live = m.live; position = m.position + code_size k + 1 }

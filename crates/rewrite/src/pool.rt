@@ -1,21 +1,21 @@
 // The temporaries of a body.
 
-ghost use Rattle.std.specs.Prelude.{◌≡◌, ◌+◌, ◌<◌, ◌≤◌, ◌^◌, ◌++◌, [], ◌∷◌, length, nat_abs, IfOk};
+ghost use Rattle.std.specs.Prelude.{◌≡◌, ◌+◌, ◌<◌, ◌≤◌, ◌^◌, ◌++◌, ◌&&◌, [], ◌∷◌, length};
 ghost use Rattle.wasm_num.specs.declared.ValType.TheVariants.{I32};
 ghost use Rattle.wasm_num.specs.Shapes.{num_operands, num_result};
-ghost use Rattle.module_ast.specs.Lists.{when};
-ghost use Rattle.module_ast.specs.Positions.{code_size, code_nesting};
+ghost use Rattle.module_ast.specs.Plains.{IsPlainInstr};
+ghost use Rattle.module_ast.specs.Positions.{code_size};
+ghost use Rattle.module_ast.specs.Seen.{before};
+ghost use Rattle.module_ast.specs.Tree.{Tree, done};
 ghost use Rattle.rewrite.specs.Temporaries.{pool_of, body_temps};
-ghost use Rattle.rewrite.specs.Room.{room_for, with_one, wider, widened, widened_where, no_room, instr_temps, temps_at};
+ghost use Rattle.rewrite.specs.Room.{room_for, with_one, wider, widened, widened_where, no_room, instr_temps, behind_code, behind_part};
 
 use crate::site::Site;
 use crate::wanted::num_group;
-use branch_resolve::{Opcode, Place, Walk};
 use hook_select::{GroupName, Hooks};
 use i64_split::Pool;
-use module_ast::code::Instr;
-use std::alloc::Global;
-use wasm_num::{BlockKind, NoMemory, NumOp, ValType};
+use module_ast::code::{Code, Instr};
+use wasm_num::{NumOp, ValType};
 
 // How many temporaries of each type are needed at once.
 #[derive(Clone, Copy)]
@@ -151,59 +151,130 @@ impl Room {
             _ => self,
         }
     }
+}
 
-    // Enough for what stands at a place too, where it is live.
-    fn or_place(self, site: &Site, hooks: Hooks, place: &Place<'_>) -> Room
-        ensures { result ≡ widened self (when place.now.live (temps_at hooks site.now place.now.position place.now.opcode)) }
+// How far a body is gone over: enough for the templates before, and whether what comes next is live, and where it stands.
+#[derive(Clone, Copy)]
+pub struct Measured {
+    pub room: Room,
+    pub live: bool,
+    pub position: u32,
+}
+
+impl Measured {
+    // Enough for values of these types too, where they are wanted and what comes next is live.
+    fn or_types(self, wanted: bool, types: &[ValType]) -> Room
+        ensures { result ≡ widened_where (self.live && wanted) self.room types.now }
     {
-        if !place.live {
-            return self;
+        self.room.or_types(self.live && wanted, types)
+    }
+
+    // Behind an instruction with no sequence in it.
+    fn behind_plain(self, site: &Site, hooks: Hooks, instr: &Instr) -> Measured
+        requires few { self.position + 1 < 2 ^ 32 }
+        requires plain { IsPlainInstr instr.now }
+        ensures { (k : Tree) → behind_code hooks site.now k result ≡ behind_code hooks site.now (before instr.now k) self }
+    {
+        let position = self.position + 1;
+        if !self.live {
+            return Measured { position, ..self };
         }
-        match place.opcode {
-            Opcode::Acts(instr) => {
-                self.or_instr(site, hooks, place.position.unsigned_abs(), instr)
+        Measured {
+            room: self.room.or_instr(site, hooks, self.position, instr),
+            live: instr.goes_on(),
+            position,
+        }
+    }
+
+    // Behind an opcode with this room.
+    fn with_opcode(self, room: Room) -> Measured
+        requires { self.position + 1 < 2 ^ 32 }
+        ensures { result ≡ record self { room = room; position = self.position + 1 } }
+    {
+        Measured {
+            room,
+            live: self.live,
+            position: self.position + 1,
+        }
+    }
+
+    // From the first instruction of a part of a body to behind its end, which is as live as its begin.
+    #[cycle(measured)]
+    fn behind_part(self, site: &Site, hooks: Hooks, code: &Code) -> Measured
+        requires { self.position + code_size code.now + 1 < 2 ^ 32 }
+        ensures { result ≡ behind_part hooks site.now code.now self }
+    {
+        let inside = self.behind_code(site, hooks, code);
+        Measured {
+            room: inside.room,
+            live: self.live,
+            position: inside.position + 1,
+        }
+    }
+
+    // Behind a sequence.
+    #[cycle(measured)]
+    fn behind_code(self, site: &Site, hooks: Hooks, code: &Code) -> Measured
+        requires { self.position + code_size code.now < 2 ^ 32 }
+        ensures { result ≡ behind_code hooks site.now code.now self }
+    {
+        let mut here = self;
+        for instr in code.as_slice() {
+            here = here.behind_instr(site, hooks, instr);
+        }
+        here
+    }
+
+    // Behind an instruction.
+    #[cycle(measured)]
+    fn behind_instr(self, site: &Site, hooks: Hooks, instr: &Instr) -> Measured
+        requires { self.position + code_size (before instr.now done) < 2 ^ 32 }
+        ensures { (k : Tree) → behind_code hooks site.now k result ≡ behind_code hooks site.now (before instr.now k) self }
+    {
+        match instr {
+            Instr::Block(_, body) | Instr::Loop(_, body) => {
+                self.with_opcode(self.room).behind_part(site, hooks, body)
             }
-            Opcode::Opens(block) => match block.kind {
-                BlockKind::If => self.or_types(hooks.has(GroupName::If), &[ValType::I32]),
-                _ => self,
-            },
-            Opcode::Closes(block) => match block.kind {
-                BlockKind::Function => self.or_types(hooks.has(GroupName::Return), site.results()),
-                _ => self,
-            },
-            Opcode::Enters | Opcode::Alternates { .. } => self,
+            Instr::If(_, body, other) => {
+                let room = self.or_types(hooks.has(GroupName::If), &[ValType::I32]);
+                let opened = self.with_opcode(room);
+                let then_part = opened.behind_part(site, hooks, body);
+                match other {
+                    None => then_part,
+                    Some(other) => then_part.behind_part(site, hooks, other),
+                }
+            }
+            _ => self.behind_plain(site, hooks, instr),
         }
     }
 }
 
 // How many temporaries of each type one template of the function needs at most.
-fn room_of(alloc: Global, site: &Site, hooks: Hooks) -> Result<Room, NoMemory>
-    requires few { code_size site.now.body.code + 1 ≤ 268435456 }
-    requires flat { code_nesting site.now.body.code ≤ 1002 }
-    ensures { IfOk result (λ room. room ≡ widened no_room (body_temps hooks site.now)) }
+fn room_of(site: &Site, hooks: Hooks) -> Room
+    requires { code_size site.now.body.code + 1 ≤ 268435456 }
+    ensures { result ≡ widened no_room (body_temps hooks site.now) }
 {
-    let mut room = Room { ints: 0, longs: 0 };
-    let mut walk = Walk::new(alloc, &site.body().code)?;
-    while let Some(place) = walk.next()? {
-        room = room.or_place(site, hooks, &place);
-    }
-    Ok(room)
+    let entry = Measured {
+        room: Room { ints: 0, longs: 0 },
+        live: true,
+        position: 0,
+    };
+    let end = entry.behind_code(site, hooks, &site.body().code);
+    end.or_types(hooks.has(GroupName::Return), site.results())
 }
 
 /// The temporaries that the hooks of a function need where these groups are selected: behind the function's own locals, as
-/// many of each type as one template needs at most. The body has at most 2 ^ 28 positions and at most 1,002 blocks, loops
-/// and ifs around any place, and all locals with these have numbers below 2 ^ 32. It takes time in proportion to the body.
-/// An `Err` comes where there is no memory.
-pub(crate) fn pool_of(alloc: Global, site: &Site, hooks: Hooks) -> Result<Pool, NoMemory>
+/// many of each type as one template needs at most. The body has at most 2 ^ 28 positions, and all locals with these have
+/// numbers below 2 ^ 32. It takes time in proportion to the body.
+pub(crate) fn pool_of(site: &Site, hooks: Hooks) -> Pool
     requires few { code_size site.now.body.code + 1 ≤ 268435456 }
-    requires flat { code_nesting site.now.body.code ≤ 1002 }
     requires fits { let pool = pool_of hooks site.now in pool.base + pool.ints + pool.longs < 2 ^ 32 }
-    ensures { IfOk result (λ pool. pool ≡ pool_of hooks site.now) }
+    ensures { result ≡ pool_of hooks site.now }
 {
-    let room = room_of(alloc, site, hooks)?;
-    Ok(Pool {
+    let room = room_of(site, hooks);
+    Pool {
         base: site.local_count() as u32,
         ints: room.ints as u32,
         longs: room.longs as u32,
-    })
+    }
 }

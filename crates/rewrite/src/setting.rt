@@ -58,7 +58,7 @@ impl<'m> Setting<'m> {
         ensures ready { IfOk result IsReady }
     {
         let site = Site::of(alloc, body)?;
-        let pool = pool_of(alloc, &site, hooks)?;
+        let pool = pool_of(&site, hooks);
         Ok(Setting {
             hooks,
             table,

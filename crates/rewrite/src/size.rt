@@ -1,6 +1,6 @@
 // How many bytes a rewritten body has.
 
-ghost use Rattle.std.specs.Prelude.{◌≡◌, ◌+◌, ◌*◌, ◌++◌, ◌∷◌, [], pos, ◌<◌, ◌≤◌, ◌^◌, ℕ, List, length, option_map, slice_get, IfOk, OnOk, true, Some};
+ghost use Rattle.std.specs.Prelude.{◌≡◌, ◌+◌, ◌*◌, ◌++◌, ◌∷◌, [], pos, ◌<◌, ◌≤◌, ◌^◌, ℕ, List, length, option_map, slice_get, IfOk, OnOk, true, false, Some};
 ghost use Rattle.wasm_num.specs.declared.ValType.TheVariants.{I32};
 ghost use Rattle.module_ast.specs.Lists.{when, first_or};
 ghost use Rattle.module_ast.specs.Tree as tree;
@@ -25,7 +25,10 @@ ghost use Rattle.rewrite.specs.Templates.{template, tell_begin, tell_before, tel
 ghost use Rattle.rewrite.specs.Room.{instr_temps};
 ghost use Rattle.rewrite.specs.Emitted.{block_end_code, target_word, HasRoom};
 ghost use Rattle.hook_mono.specs.Needed.{Site, sites};
+ghost use Rattle.hook_select.specs.declared.GroupName.{GroupName};
+ghost use Rattle.hook_select.specs.Groups.{has};
 ghost use Rattle.rewrite.specs.Conditions.{CanRewrite};
+ghost use Rattle.rewrite.specs.Kept.{kept_group};
 ghost use Rattle.rewrite.specs.Rewrite.{entry_code, br_if_before, size_of, setting_of};
 ghost use Rattle.rewrite.specs.Sizes.{plains_length, end_sums, before_opening, live_length, dead_length, place_length, opcode_most, FitsPlace, IsNear, IsNarrow};
 ghost use Rattle.rewrite.specs.Sizing.{AreShortInstrs, HaveBytes, AreBelow, AreBlocksAround, IsAt, CanCount, IsCountable, IsBranchTable, IsStraightInstr, br_told, br_if_told, types_most, ends_most, place_most};
@@ -33,6 +36,7 @@ ghost use Rattle.rewrite.specs.Sizing.{AreShortInstrs, HaveBytes, AreBelow, AreB
 use crate::end_sums::EndSums;
 use crate::setting::Setting;
 use crate::templates::push_tee;
+use crate::wanted::kept_group;
 use branch_resolve::{Block, Opcode, Place, Scopes, Walk};
 use code_valid::TypedBody;
 use hook_mono::HookTable;
@@ -411,8 +415,42 @@ impl<'m> Setting<'m> {
         Ok(emitted_length(scratch) + sums.all())
     }
 
+    // Whether a live instruction stays as it is, for its group is not selected.
+    fn keeps(&self, instr: &Instr) -> bool
+        ensures { result ≡ true → (g : GroupName) × (kept_group instr.now ≡ Some g) × (has self.now.hooks g ≡ false) }
+    {
+        match kept_group(instr) {
+            Some(group) => !self.has(group),
+            None => false,
+        }
+    }
+
     // A live instruction that is no branch and no return.
     fn straight_length(
+        &self,
+        alloc: Global,
+        instr: &Instr,
+        scopes: &Scopes,
+        position: u32,
+        scratch: &mut Vec<Instr>,
+    ) -> Result<u64, AllocError>
+        requires low { position < 2 ^ 31 }
+        requires room { HasRoom self.now.pool (instr_temps self.now.hooks self.now.site position instr.now) }
+        requires maps { Maps (remap self.now) (before instr.now done) }
+        requires narrow { IsNarrow types_most self.now.site.context }
+        requires straight { IsStraightInstr instr.now }
+        requires around { (ss : List Scope) × (scopes.now ≡ blocks_around ss) }
+        ensures length { IfOk result (λ n. (ss : List Scope) (i : Plain) → plain_of instr.now ≡ Some i → scopes.now ≡ blocks_around ss → n ≡ live_length self.now (pos position) ss (positions.acts i)) }
+        ensures bound { IfOk result (λ n. n ≤ place_most) }
+    {
+        if self.keeps(instr) {
+            return Ok(plain_length(instr));
+        }
+        self.template_length(alloc, instr, scopes, position, scratch)
+    }
+
+    // The template of such an instruction.
+    fn template_length(
         &self,
         alloc: Global,
         instr: &Instr,

@@ -3,9 +3,11 @@
 ghost use Rattle.std.specs.Prelude.{◌≡◌};
 ghost use Rattle.wasm_num.specs.Shapes.{num_operands};
 ghost use Rattle.hook_mono.specs.Keys.{num_group, key_group, is_wanted};
+ghost use Rattle.rewrite.specs.Kept.{kept_group};
 
 use hook_mono::HookKey;
 use hook_select::{GroupName, Hooks};
+use module_ast::code::Instr;
 use wasm_num::NumOp;
 
 /// The group of a number instruction.
@@ -49,5 +51,28 @@ pub(crate) fn is_wanted(hooks: Hooks, key: &HookKey) -> bool
             hooks.has(GroupName::BrTable) || hooks.has(GroupName::End)
         }
         _ => hooks.has(key_group(key)),
+    }
+}
+
+/// The group of an instruction that stays as it is where its group is not selected: none of what has a sequence, of a branch,
+/// of a return, and of a call, whose function is remapped.
+pub(crate) fn kept_group(instr: &Instr) -> Option<GroupName>
+    ensures { result ≡ kept_group instr.now }
+{
+    match instr {
+        Instr::Unreachable => Some(GroupName::Unreachable),
+        Instr::Nop => Some(GroupName::Nop),
+        Instr::CallIndirect(_) => Some(GroupName::Call),
+        Instr::Drop => Some(GroupName::Drop),
+        Instr::Select => Some(GroupName::Select),
+        Instr::LocalGet(_) | Instr::LocalSet(_) | Instr::LocalTee(_) => Some(GroupName::Local),
+        Instr::GlobalGet(_) | Instr::GlobalSet(_) => Some(GroupName::Global),
+        Instr::Load(_, _) => Some(GroupName::Load),
+        Instr::Store(_, _) => Some(GroupName::Store),
+        Instr::MemorySize => Some(GroupName::MemorySize),
+        Instr::MemoryGrow => Some(GroupName::MemoryGrow),
+        Instr::I32Const(_) | Instr::I64Const(_) => Some(GroupName::Const),
+        Instr::Num(op) => Some(num_group(*op)),
+        _ => None,
     }
 }

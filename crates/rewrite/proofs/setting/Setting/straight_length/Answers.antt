@@ -1,34 +1,15 @@
-use Rattle.std.proofs.Common.{◌≡◌, ◌∙◌, ◌++◌, List, [], refl, ap, arith}
-use Rattle.module_ast.specs.declared.code.Instr.{Instr}
-use Rattle.module_ast.specs.Tree.{Plain}
-use Rattle.i64_split.specs.Pushing.{instrs}
-use Rattle.rewrite.proofs.Emitting.{few_of}
-use Rattle.rewrite.specs.Emitted.{template_of}
-use Rattle.rewrite.proofs.BranchBytes.{template_most, straight_bytes}
+use Rattle.std.proofs.Common.{arith}
+use Rattle.module_ast.specs.Tree.{done}
+use Rattle.rewrite.proofs.BranchBytes.{straight_bytes}
+use Rattle.rewrite.proofs.Kept.{kept_bytes}
 use Rattle.rewrite.proofs.setting.Setting.straight_length.Goals as goal
 
-emitted : (old new slice : List Instr) (is : List Plain) → old ≡ [] → new ≡ old ++ instrs is → slice ≡ new → slice ≡ instrs is
-emitted old new slice is empty added same = same ∙ added ∙ ap (λ (l : List Instr). l ++ instrs is) empty
-
-pub emitted_length-requires : goal.emitted_length-requires
-emitted_length-requires c =
+pub returns-then-keeps-clause-length : goal.returns-then-keeps-clause-length
+returns-then-keeps-clause-length c ss i e b =
     let w = c.args.self.now in
-    let ss = c.requires.around.0 in
-    let is = template_of w ss c.args.position c.args.instr.now in
-    few_of c.deref.result.now (instrs is) is (emitted _ _ _ is c.clear.ensures.items (c.in_ok-push_plain.ensures ss c.requires.around.1) c.deref.ensures.value) refl
-    (omega (arith, template_most w c.requires.narrow ss c.args.position c.args.instr.now c.requires.straight))
-
-pub returns-clause-length : goal.returns-clause-length
-returns-clause-length c ss i e b =
-    let w = c.args.self.now in
-    let is = template_of w ss c.args.position c.args.instr.now in
-    let bytes = c.emitted_length.ensures is (emitted _ _ _ is c.clear.ensures.items (c.in_ok-push_plain.ensures ss b) c.deref.ensures.value) in
-    straight_bytes w c.requires.narrow ss c.args.position c.args.instr.now c.requires.straight i c.emitted_length.result e bytes
-
-pub returns-clause-bound : goal.returns-clause-bound
-returns-clause-bound c =
-    let w = c.args.self.now in
-    let ss = c.requires.around.0 in
-    let is = template_of w ss c.args.position c.args.instr.now in
-    let bytes = c.emitted_length.ensures is (emitted _ _ _ is c.clear.ensures.items (c.in_ok-push_plain.ensures ss c.requires.around.1) c.deref.ensures.value) in
-    omega (arith, bytes.bound, template_most w c.requires.narrow ss c.args.position c.args.instr.now c.requires.straight)
+    let p = c.args.position in
+    let instr = c.args.instr.now in
+    let kept = c.keeps.ensures c.if-keeps.true in
+    let length = c.plain_length.ensures.length done in
+    let bytes = kept_bytes w ss p instr kept.0 c.plain_length.result kept.1 kept.2 (omega (arith, length)) c.plain_length.ensures.bound in
+    straight_bytes w c.requires.narrow ss p instr c.requires.straight i c.plain_length.result e bytes
