@@ -95,7 +95,7 @@ pub record AreSteps (rest : Tree) (p : ℕ) (levels : List Level) (sizes : List 
 
 -- the sequences of a walk are so
 abbrev pub AreStepsOf : Steps → Type 0
-AreStepsOf s = AreSteps (code_of s.rest.now) s.position (reverse s.levels.items) (drop s.unused s.sizes.items)
+AreStepsOf s = AreSteps (code_of s.rest.now) s.position (reverse s.levels.items) (drop s.unused s.sizes.now)
 
 abbrev pub steps_left : Steps → List positions.Place
 steps_left s = places_from (reverse s.levels.items) s.live s.position (code_of s.rest.now)

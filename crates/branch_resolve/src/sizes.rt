@@ -3,10 +3,12 @@
 ghost use Rattle.std.specs.Prelude.{◌≡◌, ◌+◌, ◌≤◌, ◌++◌, reverse, IfOk, OnOk};
 ghost use Rattle.module_ast.specs.Positions.{code_size, code_nesting};
 ghost use Rattle.branch_resolve.specs.Levels.{block_sizes};
+ghost use Rattle.branch_resolve.specs.Sizes.{sizes_of};
 ghost use Rattle.module_ast.specs.Seen.{before};
 ghost use Rattle.module_ast.specs.Tree.{done};
 
 use module_ast::code::{Code, Instr};
+use module_ast::seq::Seq;
 use std::alloc::{AllocError, Global};
 
 // Notes the sizes of the blocks of this instruction, the first one last, behind those that stand there, and answers how
@@ -51,23 +53,25 @@ fn note_sizes(code: &Code, sizes: &mut Vec<u32>) -> Result<u32, AllocError>
     Ok(size)
 }
 
-/// The size of a sequence, and those of the blocks in it.
+/// The size of a sequence, and those of the blocks in it in the order of their opcodes: how many positions stand between
+/// the opcode and its end. An `if` has two with an `else`.
 #[derive(Debug, Drop)]
 pub struct Sizes {
     pub whole: u32,
-    pub inside: Vec<u32>,
+    pub inside: Seq<u32>,
 }
 
-/// The size of the code, and those of the blocks in it in the order of their opcodes: how many positions stand between
-/// the opcode and its end. An `if` has two with an `else`. An `Err` comes where there is no memory.
+/// The sizes of the code, in one pass. An `Err` comes where there is no memory.
 pub fn sizes_of(alloc: Global, code: &Code) -> Result<Sizes, AllocError>
     requires few { code_size code.now + 1 ≤ 268435456 }
     requires flat { code_nesting code.now ≤ 1002 }
-    ensures whole { IfOk result (λ s. s.whole ≡ code_size code.now) }
-    ensures inside { IfOk result (λ s. s.inside.items ≡ block_sizes code.now) }
+    ensures { IfOk result (λ sizes. sizes ≡ sizes_of code.now) }
 {
     let mut inside = Vec::new(alloc);
     let whole = note_sizes(code, &mut inside)?;
     inside.reverse();
-    Ok(Sizes { whole, inside })
+    Ok(Sizes {
+        whole,
+        inside: Seq::from_vec(inside),
+    })
 }

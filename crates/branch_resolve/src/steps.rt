@@ -60,7 +60,7 @@ pub struct Steps<'m> {
     pub position: u32,
     pub live: bool,
     pub levels: Vec<Level<'m>>,
-    pub sizes: Vec<u32>,
+    pub sizes: &'m [u32],
     pub unused: usize,
 }
 

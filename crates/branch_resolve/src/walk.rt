@@ -3,12 +3,13 @@
 ghost use Rattle.std.specs.Prelude.{◌≡◌, ◌+◌, ◌≤◌, [], IfOk, OnOk, OnErr};
 ghost use Rattle.module_ast.specs.Positions.{code_size, code_nesting, places};
 ghost use Rattle.branch_resolve.specs.Levels.{with_opened, scopes_around, block_opened, CanFollow};
+ghost use Rattle.branch_resolve.specs.Sizes.{sizes_of};
 ghost use Rattle.branch_resolve.specs.Walks.{IsNextPlace};
 
 use crate::Block;
 use crate::place::{Opcode, Place};
 use crate::scopes::Scopes;
-use crate::sizes::sizes_of;
+use crate::sizes::Sizes;
 use crate::steps::{Level, Part, Steps};
 use module_ast::code::Code;
 use std::alloc::{AllocError, Global};
@@ -68,16 +69,16 @@ fn follow(scopes: &mut Scopes, opcode: &Opcode) -> Option<Block>
 }
 
 impl<'m> Walk<'m> {
-    /// A walk over the body with this code, with all its places left. The code has at most 2 ^ 28 positions, the greatest
-    /// number of bytes of a file, and at most 1,002 blocks, loops and ifs around any place. An `Err` comes where there is
-    /// no memory.
-    pub fn new(alloc: Global, code: &'m Code) -> Result<Walk<'m>, AllocError>
+    /// A walk over the body with this code and these sizes, with all its places left. The code has at most 2 ^ 28 positions,
+    /// the greatest number of bytes of a file, and at most 1,002 blocks, loops and ifs around any place. An `Err` comes where
+    /// there is no memory.
+    pub fn new(alloc: Global, code: &'m Code, sizes: &'m Sizes) -> Result<Walk<'m>, AllocError>
+        requires sizes { sizes.now ≡ sizes_of code.now }
         requires few { code_size code.now + 1 ≤ 268435456 }
         requires flat { code_nesting code.now ≤ 1002 }
         ensures left { IfOk result (λ walk. walk.left ≡ places code.now) }
         ensures scopes { IfOk result (λ walk. walk.scopes ≡ []) }
     {
-        let sizes = sizes_of(alloc, code)?;
         let function = Part {
             kind: BlockKind::Function,
             begin: -1,
@@ -96,7 +97,7 @@ impl<'m> Walk<'m> {
             position: 0,
             live: true,
             levels,
-            sizes: sizes.inside,
+            sizes: sizes.inside.as_slice(),
             unused: 0,
         };
         Ok(Walk {

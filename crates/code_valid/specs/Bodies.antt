@@ -8,6 +8,8 @@ use Rattle.module_ast.specs.Limits.{IsWhole}
 use Rattle.module_ast.specs.Typing.{Context, push, TypesCode}
 use Rattle.module_ast.specs.LiveMarks.{HasMarks}
 use Rattle.module_ast.specs.Validity.{KeepsRules, body_context, TypesBody, HasBodyMarks}
+use Rattle.branch_resolve.specs.declared.sizes.Sizes.{Sizes}
+use Rattle.branch_resolve.specs.Sizes.{sizes_of}
 use Rattle.code_valid.specs.declared.marks.Marks.{Marks}
 
 -- what a body names outside its blocks: a branch to the function takes its results
@@ -34,6 +36,10 @@ pub record IsTypedBody (m : Module) (defined : ℕ) (found : Marks) : Type 0 whe
   pub in_range : defined < length m.bodies
   pub typed : TypesBody m defined
   pub marks : HasBodyMarks m defined found.types found.height
+
+-- the sizes of the blocks of a body
+abbrev pub HasBodySizes : Module → (defined : ℕ) → Sizes → Type 0
+HasBodySizes m defined sizes = (b : Body) → slice_get m.bodies defined ≡ Some b → sizes ≡ sizes_of b.code
 
 -- such a body, by its module and its number
 pub record BodyTyping : Type 0 where

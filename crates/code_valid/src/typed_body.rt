@@ -2,6 +2,7 @@
 
 use crate::env::Env;
 use crate::marks::Marks;
+use branch_resolve::Sizes;
 use module_ast::module::{Body, Module};
 use module_ast::spaces::Spaces;
 use std::alloc::Global;
@@ -9,19 +10,20 @@ use std::marker::Model;
 use wasm_num::NoMemory;
 
 /// The body of a defined function that the rules of typing type, in a module that is whole and keeps the rules, with the
-/// marks and the height that it has. (Standard, 3.4.1)
+/// marks, the height and the sizes of blocks that it has. (Standard, 3.4.1)
 #[derive(Debug, Drop)]
 pub struct TypedBody<'m> {
     module: &'m Module,
     spaces: &'m Spaces,
     defined: u32,
     marks: &'m Marks,
+    sizes: &'m Sizes,
 }
 
 impl<'m> Model for TypedBody<'m> {
     ghost use Rattle.std.specs.Prelude.{◌≡◌};
     ghost use Rattle.module_ast.specs.Spaces.{spaces_of};
-    ghost use Rattle.code_valid.specs.Bodies.{BodyTyping, IsTypedBody};
+    ghost use Rattle.code_valid.specs.Bodies.{BodyTyping, IsTypedBody, HasBodySizes};
 
     ghost Value = { BodyTyping };
 
@@ -32,18 +34,25 @@ impl<'m> Model for TypedBody<'m> {
 
     ghost view = { λ a. record { «module» = a.module.now; defined = a.defined; marks = a.marks.now } };
 
-    ghost invariant = { λ a. IsTypedBody a.module.now a.defined a.marks.now × (a.spaces.now ≡ spaces_of a.module.now) };
+    ghost invariant = { λ a. IsTypedBody a.module.now a.defined a.marks.now × (a.spaces.now ≡ spaces_of a.module.now) × HasBodySizes a.module.now a.defined a.sizes.now };
 }
 
 impl<'m> TypedBody<'m> {
     ghost use Rattle.std.specs.Prelude.{◌≡◌, slice_get, Some, IfOk};
     ghost use Rattle.module_ast.specs.Spaces.{spaces_of};
-    ghost use Rattle.code_valid.specs.Bodies.{IsTypedBody, IsContextOf};
+    ghost use Rattle.code_valid.specs.Bodies.{IsTypedBody, IsContextOf, HasBodySizes};
 
     /// This body, which has been checked, of a module with these index spaces.
-    pub fn new(m: &'m Module, spaces: &'m Spaces, defined: u32, marks: &'m Marks) -> TypedBody<'m>
+    pub fn new(
+        m: &'m Module,
+        spaces: &'m Spaces,
+        defined: u32,
+        marks: &'m Marks,
+        sizes: &'m Sizes,
+    ) -> TypedBody<'m>
         requires typed { IsTypedBody m.now defined marks.now }
         requires spaces { spaces.now ≡ spaces_of m.now }
+        requires sizes { HasBodySizes m.now defined sizes.now }
         ensures of { result.module ≡ m.now }
         ensures at { result.defined ≡ defined }
         ensures has { result.marks ≡ marks.now }
@@ -53,6 +62,7 @@ impl<'m> TypedBody<'m> {
             spaces,
             defined,
             marks,
+            sizes,
         }
     }
 
@@ -98,5 +108,12 @@ impl<'m> TypedBody<'m> {
         ensures typed { IsTypedBody self.now.module self.now.defined self.now.marks }
     {
         self.marks
+    }
+
+    /// The sizes of its blocks.
+    pub fn sizes(&self) -> &'m Sizes
+        ensures { HasBodySizes self.now.module self.now.defined result.now }
+    {
+        self.sizes
     }
 }

@@ -1,6 +1,7 @@
 // Valid modules.
 
 use crate::data::have_bytes;
+use branch_resolve::Sizes;
 use code_valid::{Marks, TypedBody};
 use module_ast::module::Module;
 use module_ast::seq::Seq;
@@ -14,6 +15,7 @@ pub struct ValidModule {
     module: Module,
     spaces: Spaces,
     marks: Seq<Marks>,
+    sizes: Seq<Sizes>,
 }
 
 impl Model for ValidModule {
@@ -31,9 +33,10 @@ impl Model for ValidModule {
     ghost use Rattle.std.specs.Prelude.{◌≡◌};
     ghost use Rattle.module_ast.specs.Limits.{IsComplete};
     ghost use Rattle.module_ast.specs.Spaces.{spaces_of};
+    ghost use Rattle.wasm_valid.specs.Sized.{AreBodySizes};
     ghost use Rattle.wasm_valid.specs.Validated.{IsValidated};
 
-    ghost invariant = { λ a. IsValidated a.module a.marks × IsComplete a.module × (a.spaces ≡ spaces_of a.module) };
+    ghost invariant = { λ a. IsValidated a.module a.marks × IsComplete a.module × (a.spaces ≡ spaces_of a.module) × AreBodySizes a.module a.sizes };
 }
 
 impl ValidModule {
@@ -41,12 +44,19 @@ impl ValidModule {
     ghost use Rattle.module_ast.specs.Limits.{IsWhole, IsComplete};
     ghost use Rattle.module_ast.specs.Spaces.{spaces_of};
     ghost use Rattle.module_ast.specs.Validity.{IsValid};
+    ghost use Rattle.wasm_valid.specs.Sized.{AreBodySizes};
     ghost use Rattle.wasm_valid.specs.Validated.{IsValidated};
 
-    /// This module, with its index spaces and the marks of each body.
-    pub fn new(m: Module, spaces: Spaces, marks: Seq<Marks>) -> ValidModule
+    /// This module, with its index spaces, the marks and the sizes of each body.
+    pub fn new(
+        m: Module,
+        spaces: Spaces,
+        marks: Seq<Marks>,
+        sizes: Seq<Sizes>,
+    ) -> ValidModule
         requires validated { IsValidated m marks }
         requires spaces { spaces ≡ spaces_of m }
+        requires sizes { AreBodySizes m sizes }
         ensures { result ≡ m }
     {
         have_bytes(m.segments.as_slice());
@@ -54,6 +64,7 @@ impl ValidModule {
             module: m,
             spaces,
             marks,
+            sizes,
         }
     }
 
@@ -67,7 +78,7 @@ impl ValidModule {
         &self.module
     }
 
-    /// The body of a defined function, with its marks.
+    /// The body of a defined function, with its marks and its sizes.
     pub fn typed(&self, defined: u32) -> TypedBody<'_>
         requires { defined < length self.now.bodies }
         ensures of { result.module ≡ self.now }
@@ -78,6 +89,7 @@ impl ValidModule {
             &self.spaces,
             defined,
             &self.marks.as_slice()[defined as usize],
+            &self.sizes.as_slice()[defined as usize],
         )
     }
 }

@@ -16,16 +16,15 @@ returns-clause-ok c =
     let body = c.args.body.now in
     let k = code_of c.args.behind.now in
     let o = opening c.args.kind p code body k c.requires.at in
-    let n = size_of_opening c.args.kind p code body k ls s.sizes.items s.unused o c.requires.whole in
-    let fits = opening_fits c.args.kind p code body k ls s.sizes.items s.unused o c.requires.whole in
-    let size : c.index.result.now ≡ code_size body = c.index.ensures ∙ n.value _ in
+    let n = size_of_opening c.args.kind p code body k ls s.sizes.now s.unused o c.requires.whole in
+    let fits = opening_fits c.args.kind p code body k ls s.sizes.now s.unused o c.requires.whole in
     let part = c.part_of-part.result in
-    let e : scope_of part ≡ kind_scope c.args.kind p (code_size body) = c.part_of-part.ensures ∙ ap (kind_scope c.args.kind p) size in
+    let e : scope_of part ≡ kind_scope c.args.kind p (code_size body) = c.part_of-part.ensures ∙ ap (kind_scope c.args.kind p) (n.value _) in
     let l : Level = record { part = part; live = s.live; other = None; behind = c.args.behind } in
     let x = at p s.live (opens (scope_of part)) (level_scopes ls) in
     let pushed = c.in_ok-push_level.ensures.ok in (
       x,
-      open_places c.args.kind p code body k ls s.sizes.items s.unused o c.requires.whole l e refl refl s.live refl
+      open_places c.args.kind p code body k ls s.sizes.now s.unused o c.requires.whole l e refl refl s.live refl
           ∙ ap (λ z. x ∷ places_from z s.live (p + 1) body) (sym pushed)
           ∙ ap (λ z. x ∷ places_from (reverse c.push_level.new.levels.items) s.live (p + 1) z) (sym c.as_slice-self.ensures),
       (signed_is part.begin p (code_size code) (ap (λ z. z.begin) e ∙ o.begin) c.requires.whole.fits, refl, (scope_of part, c.block.ensures, refl)),

@@ -1,5 +1,5 @@
-use Rattle.std.proofs.Common.{◌≡◌, ◌+◌, ◌∙◌, ap, sym, reverse, refl, ◌∷◌, Some, drop, subst}
-use Rattle.module_ast.specs.Positions.{at, opens, code_size, then_scope, else_scope}
+use Rattle.std.proofs.Common.{◌≡◌, ◌+◌, ◌∙◌, ap, ap₂, sym, reverse, refl, ◌∷◌, Some, drop, subst}
+use Rattle.module_ast.specs.Positions.{at, opens, then_scope, else_scope}
 use Rattle.module_ast.specs.Tree.{if_else}
 use Rattle.module_ast.specs.Seen.{code_of}
 use Rattle.branch_resolve.specs.Scopes.{blocks_around}
@@ -18,19 +18,19 @@ returns-clause-ok c =
     let other = c.args.other.now in
     let k = code_of c.args.behind.now in
     let (ty, code) = c.requires.at in
-    let w : AreSteps (if_else ty body other k) p ls (drop s.unused s.sizes.items) = subst (λ z. AreSteps z p ls (drop s.unused s.sizes.items)) code c.requires.whole in
-    let first : c.index.result.now ≡ code_size body = c.index.ensures ∙ (sizes_of_two p body other k ls s.sizes.items s.unused ty w).value _ in
-    let second : c.index-2.result.now ≡ code_size other = c.index-2.ensures ∙ (second_of_two p body other k ls s.sizes.items s.unused ty w).value _ in
+    let w : AreSteps (if_else ty body other k) p ls (drop s.unused s.sizes.now) = subst (λ z. AreSteps z p ls (drop s.unused s.sizes.now)) code c.requires.whole in
+    let first = sizes_of_two p body other k ls s.sizes.now s.unused ty w in
+    let second = second_of_two p body other k ls s.sizes.now s.unused ty w in
     let sides = c.sides_of.result in
-    let e : scope_of sides.0 ≡ then_scope p body other = c.sides_of.ensures.then_part ∙ ap (λ n. then_side p n c.index-2.result.now) first ∙ ap (then_side p (code_size body)) second in
-    let f : scope_of sides.1 ≡ else_scope p body other = c.sides_of.ensures.else_part ∙ ap (λ n. else_side p n c.index-2.result.now) first ∙ ap (else_side p (code_size body)) second in
+    let e : scope_of sides.0 ≡ then_scope p body other = c.sides_of.ensures.then_part ∙ ap₂ (then_side p) (first.value _) (second.value _) in
+    let f : scope_of sides.1 ≡ else_scope p body other = c.sides_of.ensures.else_part ∙ ap₂ (else_side p) (first.value _) (second.value _) in
     let o : Other = record { part = sides.1; code = c.as_slice.result } in
     let l : Level = record { part = sides.0; live = s.live; other = Some o; behind = c.args.behind } in
     let x = at p s.live (opens (scope_of sides.0)) (level_scopes ls) in
     let pushed = c.in_ok-push_level.ensures.ok in (
       x,
       ap (places_from ls s.live p) code
-          ∙ two_places p body other k ls s.sizes.items s.unused ty w l o refl e f c.as_slice.ensures refl s.live refl
+          ∙ two_places p body other k ls s.sizes.now s.unused ty w l o refl e f c.as_slice.ensures refl s.live refl
           ∙ ap (λ z. x ∷ places_from z s.live (p + 1) body) (sym pushed)
           ∙ ap (λ z. x ∷ places_from (reverse c.push_level.new.levels.items) s.live (p + 1) z) (sym c.as_slice-self.ensures),
       (signed_is sides.0.begin p _ (ap (λ z. z.begin) e) w.fits, refl, (scope_of sides.0, c.block.ensures, refl)),
