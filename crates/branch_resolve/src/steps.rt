@@ -141,6 +141,7 @@ fn pop_level(levels: &mut Vec<Level>)
 
 impl<'m> Steps<'m> {
     // Reads the next place, if one is left. After an `AllocError` the same places are left.
+    #[inline(always)]
     pub fn read(&mut self) -> Result<Option<Place<'m>>, AllocError>
         requires { AreStepsOf self.old }
         ensures whole { AreStepsOf self.new }
@@ -161,6 +162,7 @@ impl<'m> Steps<'m> {
     }
 
     // An instruction with no sequence in it.
+    #[inline(always)]
     fn act(&mut self, first: &'m Instr, behind: &'m [Instr]) -> Place<'m>
         requires whole { AreStepsOf self.old }
         requires at { self.old.rest.now ≡ first.now ∷ behind.now }

@@ -38,6 +38,7 @@ impl<'m> Model for Walk<'m> {
 }
 
 // Enters the block that the place read last opens, if it opens one.
+#[inline(always)]
 fn enter_opened(scopes: &mut Scopes, opened: Option<Block>) -> Result<(), AllocError>
     ensures ok { OnOk result (scopes.new ≡ with_opened opened scopes.old) }
     ensures err { OnErr result (scopes.new ≡ scopes.old) }
@@ -49,6 +50,7 @@ fn enter_opened(scopes: &mut Scopes, opened: Option<Block>) -> Result<(), AllocE
 }
 
 // Leaves the block that this opcode ends, if it ends one, and answers the block that it opens.
+#[inline(always)]
 fn follow(scopes: &mut Scopes, opcode: &Opcode) -> Option<Block>
     requires { CanFollow opcode.now scopes.old }
     ensures opened { result ≡ block_opened opcode.now }
@@ -110,6 +112,7 @@ impl<'m> Walk<'m> {
 
     /// Reads the first of the places that are left, and none where none is left. After an `AllocError` the same places
     /// are left, and nothing is known of the blocks.
+    #[inline(always)]
     pub fn next(&mut self) -> Result<Option<Place<'m>>, AllocError>
         ensures ok { IfOk result (λ place. IsNextPlace self.old self.new place) }
         ensures err { OnErr result (self.new.left ≡ self.old.left) }

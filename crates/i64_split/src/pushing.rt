@@ -7,6 +7,7 @@ use module_ast::code::Instr;
 use std::alloc::AllocError;
 
 /// Adds these instructions. An `Err` comes where there is no memory; those that went before stand there then.
+#[inline(always)]
 pub fn push_each<const N: usize>(
     code: &mut Vec<Instr>,
     instrs: [Instr; N],

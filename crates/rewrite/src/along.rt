@@ -12,30 +12,30 @@ use std::marker::Model;
 
 /// The blocks around a place of a body, and the sizes of those that open behind it.
 #[derive(Drop)]
-pub(crate) struct Along {
+pub(crate) struct Along<'m> {
     pub(crate) scopes: Scopes,
-    pub(crate) sizes: SizesLeft,
+    pub(crate) sizes: SizesLeft<'m>,
 }
 
 /// The sizes of blocks in the order of their opcodes, which contracts see as the list of those that are left.
 #[derive(Drop)]
-pub(crate) struct SizesLeft {
-    sizes: Vec<u32>,
+pub(crate) struct SizesLeft<'m> {
+    sizes: &'m [u32],
     used: usize,
 }
 
-impl Model for SizesLeft {
+impl<'m> Model for SizesLeft<'m> {
     ghost use Rattle.std.specs.Prelude.{List, ℕ, drop};
 
     ghost Value = { List ℕ };
 
-    ghost view = { λ a. drop a.used a.sizes.items };
+    ghost view = { λ a. drop a.used a.sizes.now };
 }
 
-impl SizesLeft {
+impl<'m> SizesLeft<'m> {
     /// All of these are left.
-    pub fn new(sizes: Vec<u32>) -> SizesLeft
-        ensures { result ≡ sizes.items }
+    pub fn new(sizes: &'m [u32]) -> SizesLeft<'m>
+        ensures { result ≡ sizes.now }
     {
         SizesLeft { sizes, used: 0 }
     }

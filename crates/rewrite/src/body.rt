@@ -17,7 +17,7 @@ ghost use Rattle.rewrite.specs.Conditions.{CanRewrite, IsReady};
 
 use crate::along::{Along, SizesLeft};
 use crate::setting::Setting;
-use branch_resolve::{Block, Scopes, sizes_of};
+use branch_resolve::{Block, Scopes};
 use code_valid::TypedBody;
 use hook_mono::HookTable;
 use hook_select::{GroupName, Hooks};
@@ -77,11 +77,11 @@ impl<'m> Setting<'m> {
         ensures { IfOk result (λ code. code ≡ rewritten_code self.now self.now.site.body.code) }
     {
         let code = &self.site.body().code;
-        let sizes = sizes_of(alloc, code)?;
+        let sizes = self.site.sizes();
         let function = function_block(sizes.whole);
         let mut along = Along {
             scopes: Scopes::new(alloc),
-            sizes: SizesLeft::new(sizes.inside),
+            sizes: SizesLeft::new(sizes.inside.as_slice()),
         };
         along.scopes.enter(function)?;
         let mut items = Vec::with_capacity(alloc, code.as_slice().len())?;

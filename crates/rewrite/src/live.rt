@@ -82,7 +82,7 @@ impl<'m> Setting<'m> {
         code: &Code,
         block: Block,
         position: u32,
-        along: &mut Along,
+        along: &mut Along<'_>,
     ) -> Result<Code, AllocError>
         requires low { position + code_size code.now + 1 < 2 ^ 31 }
         requires room { HasRoom self.now.pool (code_temps self.now.hooks self.now.site position code.now) }
@@ -108,7 +108,7 @@ impl<'m> Setting<'m> {
         &self,
         alloc: Global,
         code: &Code,
-        along: &mut Along,
+        along: &mut Along<'_>,
         position: u32,
         out: &mut Vec<Instr>,
     ) -> Result<bool, AllocError>
@@ -142,7 +142,7 @@ impl<'m> Setting<'m> {
         &self,
         alloc: Global,
         instr: &Instr,
-        along: &mut Along,
+        along: &mut Along<'_>,
         position: u32,
         out: &mut Vec<Instr>,
     ) -> Result<u32, AllocError>
@@ -195,7 +195,7 @@ impl<'m> Setting<'m> {
         ty: BlockType,
         body: &Code,
         other: &Option<Code>,
-        along: &mut Along,
+        along: &mut Along<'_>,
         position: u32,
         out: &mut Vec<Instr>,
     ) -> Result<u32, AllocError>
@@ -222,7 +222,7 @@ impl<'m> Setting<'m> {
         alloc: Global,
         ty: BlockType,
         body: &Code,
-        along: &mut Along,
+        along: &mut Along<'_>,
         position: u32,
         out: &mut Vec<Instr>,
     ) -> Result<u32, AllocError>
@@ -253,7 +253,7 @@ impl<'m> Setting<'m> {
         ty: BlockType,
         body: &Code,
         other: &Code,
-        along: &mut Along,
+        along: &mut Along<'_>,
         position: u32,
         out: &mut Vec<Instr>,
     ) -> Result<u32, AllocError>

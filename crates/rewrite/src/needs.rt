@@ -332,16 +332,28 @@ impl Needs {
     }
 }
 
-// The keys that a function needs.
-fn table_of(alloc: Global, site: &Site, hooks: Hooks) -> Result<HookTable, NoMemory>
+// The keys that a function needs, gone over place by place.
+fn walked_table(alloc: Global, site: &Site, hooks: Hooks) -> Result<HookTable, NoMemory>
     requires few { code_size site.now.body.code + 1 ≤ 268435456 }
     requires flat { code_nesting site.now.body.code ≤ 1002 }
     ensures { IfOk result (λ table. table ≡ needs_of hooks site.now) }
 {
     let mut needs = Needs::new(alloc, hooks);
-    let mut walk = Walk::new(alloc, &site.body().code)?;
+    let mut walk = Walk::new(alloc, &site.body().code, site.sizes())?;
     needs.add_places(alloc, site, &mut walk)?;
     Ok(needs.table)
+}
+
+// The keys that a function needs: none where no group is selected.
+fn table_of(alloc: Global, site: &Site, hooks: Hooks) -> Result<HookTable, NoMemory>
+    requires few { code_size site.now.body.code + 1 ≤ 268435456 }
+    requires flat { code_nesting site.now.body.code ≤ 1002 }
+    ensures { IfOk result (λ table. table ≡ needs_of hooks site.now) }
+{
+    if hooks == Hooks::none() {
+        return Ok(HookTable::new(alloc));
+    }
+    walked_table(alloc, site, hooks)
 }
 
 /// The keys of the hooks that the body calls where these groups are selected, distinct, in the order of first need: by

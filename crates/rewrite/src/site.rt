@@ -4,9 +4,11 @@ ghost use Rattle.std.specs.Prelude.{◌≡◌, ◌+◌, ◌≤◌, length, slice
 ghost use Rattle.module_ast.specs.Marks.{mark_at, type_of_callee, indirect_type, type_of_local, type_of_global};
 ghost use Rattle.module_ast.specs.Positions.{code_size, code_nesting};
 ghost use Rattle.module_ast.specs.Start.{is_start};
+ghost use Rattle.branch_resolve.specs.Sizes.{sizes_of};
 ghost use Rattle.hook_mono.specs.Needed.{sites};
 ghost use Rattle.rewrite.specs.Rising.{MarksRiseFrom, type_in};
 
+use branch_resolve::Sizes;
 use code_valid::{Env, Mark, TypedBody};
 use module_ast::module::Body;
 use std::alloc::Global;
@@ -14,7 +16,7 @@ use std::marker::Model;
 use wasm_num::{NoMemory, ValType};
 
 /// A defined function as its hooks see it: its index, whether it is called at the start, what its body can name, its
-/// body, and the types of its live `drop`s and `select`s.
+/// body, the types of its live `drop`s and `select`s, and the sizes of its blocks.
 #[derive(Drop)]
 pub(crate) struct Site<'m> {
     func: u32,
@@ -22,11 +24,14 @@ pub(crate) struct Site<'m> {
     env: Env<'m>,
     body: &'m Body,
     marks: &'m [Mark],
+    sizes: &'m Sizes,
 }
 
 impl<'m> Model for Site<'m> {
     ghost use Rattle.hook_mono.specs.Needed.{Site as shown};
     ghost use Rattle.code_valid.specs.Bodies.{body_of};
+    ghost use Rattle.std.specs.Prelude.{◌≡◌};
+    ghost use Rattle.branch_resolve.specs.Sizes.{sizes_of};
     ghost use Rattle.rewrite.specs.Rising.{MarksRiseFrom};
     ghost use Rattle.module_ast.specs.contracts.module.Body as of_body;
     ghost use Rattle.std.specs.Coded.{codes};
@@ -44,7 +49,7 @@ impl<'m> Model for Site<'m> {
           marks = a.marks.now;
         } };
 
-    ghost invariant = { λ a. MarksRiseFrom 0 a.marks.now };
+    ghost invariant = { λ a. MarksRiseFrom 0 a.marks.now × (a.sizes.now ≡ sizes_of a.body.now.code) };
 }
 
 impl<'m> Site<'m> {
@@ -64,6 +69,7 @@ impl<'m> Site<'m> {
             env: body.env(alloc)?,
             body: body.body(),
             marks: marks.types.as_slice(),
+            sizes: body.sizes(),
         })
     }
 
@@ -86,6 +92,13 @@ impl<'m> Site<'m> {
         ensures { result.now ≡ self.now.body }
     {
         self.body
+    }
+
+    /// The sizes of the blocks of the body.
+    pub fn sizes(&self) -> &'m Sizes
+        ensures { result.now ≡ sizes_of self.now.body.code }
+    {
+        self.sizes
     }
 
     /// The types of the function's results.

@@ -635,7 +635,7 @@ impl<'m> Setting<'m> {
         ensures bound { IfOk result (λ n. n ≤ 2 ^ 36 * length (body_bytes self.now.site.body)) }
     {
         let locals = self.locals_length(alloc)?;
-        let mut walk = Walk::new(alloc, &self.site.body().code)?;
+        let mut walk = Walk::new(alloc, &self.site.body().code, self.site.sizes())?;
         let mut sums = EndSums::new(alloc);
         let mut scratch = Vec::new(alloc);
         self.with_places(alloc, locals, &mut walk, &mut sums, &mut scratch)

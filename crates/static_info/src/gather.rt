@@ -1,10 +1,10 @@
 // The information on a module.
 
 ghost use Rattle.std.specs.Prelude.{◌≡◌, ◌+◌, ◌≤◌, ◌++◌, map, IfOk, OnOk};
-ghost use Rattle.module_ast.specs.Limits.{IsWhole};
 ghost use Rattle.module_ast.specs.Lists.{when};
 ghost use Rattle.module_ast.specs.Positions.{code_size, code_nesting};
 ghost use Rattle.module_ast.specs.Spaces.{imported_funcs};
+ghost use Rattle.branch_resolve.specs.Sizes.{sizes_of};
 ghost use Rattle.hook_mono.specs.Needed.{needed_keys};
 ghost use Rattle.static_info.specs.Form.{IsWellFormed};
 ghost use Rattle.static_info.specs.Gathered.{begun_blocks, instr_tables, opcode_tables};
@@ -13,12 +13,11 @@ ghost use Rattle.static_info.specs.Info.{live_blocks, live_tables, type_of_index
 use crate::blocks::Blocks;
 use crate::keys::copy_keys;
 use crate::{FuncInfo, Info, TableInfo};
-use branch_resolve::{Block, Opcode, Place, Walk};
+use branch_resolve::{Block, Opcode, Place, Sizes, Walk};
 use hook_mono::HookTable;
 use hook_select::Hooks;
 use index_remap::{Part, copy_parts};
 use module_ast::code::{Code, Instr};
-use module_ast::counts::positions;
 use module_ast::module::{Body, FuncType, Item, Module};
 use module_ast::seq::Seq;
 use module_ast::spaces::Counts;
@@ -79,24 +78,25 @@ impl Gathered {
 }
 
 // The live blocks and br_tables of a body: the function from its entry, and then as they stand.
-fn gather(alloc: Global, code: &Code) -> Result<Gathered, NoMemory>
+fn gather(alloc: Global, code: &Code, sizes: &Sizes) -> Result<Gathered, NoMemory>
+    requires sizes { sizes.now ≡ sizes_of code.now }
     requires few { code_size code.now + 1 ≤ 268435456 }
     requires flat { code_nesting code.now ≤ 1002 }
     ensures blocks { IfOk result (λ all. all.blocks.items ≡ live_blocks code.now) }
     ensures tables { IfOk result (λ all. all.tables.items ≡ live_tables code.now) }
 {
-    let behind = positions(code) as i32;
+    let end = sizes.whole as i32;
     let function = Block {
         kind: BlockKind::Function,
         begin: -1,
-        end: behind - 1,
-        target: behind,
+        end,
+        target: end + 1,
     };
     let mut all = Gathered {
         blocks: Vec::from_slice(alloc, &[function])?,
         tables: Vec::new(alloc),
     };
-    let mut walk = Walk::new(alloc, code)?;
+    let mut walk = Walk::new(alloc, code, sizes)?;
     while let Some(place) = walk.next()? {
         all.add_place(alloc, &place)?;
     }
@@ -130,13 +130,19 @@ fn imported_info(alloc: Global, m: &Module, index: u32) -> Result<FuncInfo, NoMe
     })
 }
 
-// The information on a function of this type and body.
-fn defined_info(alloc: Global, ty: FuncType, body: &Body) -> Result<FuncInfo, NoMemory>
+// The information on a function of this type and body, whose blocks have these sizes.
+fn defined_info(
+    alloc: Global,
+    ty: FuncType,
+    body: &Body,
+    sizes: &Sizes,
+) -> Result<FuncInfo, NoMemory>
+    requires sizes { sizes.now ≡ sizes_of body.now.code }
     requires few { code_size body.now.code + 1 ≤ 268435456 }
     requires flat { code_nesting body.now.code ≤ 1002 }
     ensures { IfOk result (λ func. func ≡ defined_info ty body.now) }
 {
-    let all = gather(alloc, &body.code)?;
+    let all = gather(alloc, &body.code, sizes)?;
     Ok(FuncInfo {
         params: ty.params,
         results: ty.results,
@@ -159,35 +165,22 @@ fn add_imported(alloc: Global, m: &Module, functions: &mut Vec<FuncInfo>) -> Res
 }
 
 // Adds the information on the defined functions.
-fn add_defined(alloc: Global, m: &Module, functions: &mut Vec<FuncInfo>) -> Result<(), NoMemory>
-    requires { IsWhole m.now }
+fn add_defined(
+    alloc: Global,
+    m: &ValidModule,
+    functions: &mut Vec<FuncInfo>,
+) -> Result<(), NoMemory>
     ensures { OnOk result (functions.new.items ≡ functions.old.items ++ defined_infos m.now m.now.funcs m.now.bodies) }
 {
-    let types = m.funcs.as_slice();
-    let bodies = m.bodies.as_slice();
+    let module = m.module();
+    let types = module.funcs.as_slice();
+    let bodies = module.bodies.as_slice();
     for (defined, body) in bodies.iter().enumerate() {
-        let ty = type_at(alloc, m, types[defined])?;
-        functions.push(defined_info(alloc, ty, body)?)?;
+        let ty = type_at(alloc, module, types[defined])?;
+        let sizes = m.typed(defined as u32).sizes();
+        functions.push(defined_info(alloc, ty, body, sizes)?)?;
     }
     Ok(())
-}
-
-// The information on a module with these groups, whose keys are in the table.
-fn module_info(alloc: Global, m: &Module, hooks: Hooks, table: &HookTable) -> Result<Info, NoMemory>
-    requires whole { IsWhole m.now }
-    requires keys { table.now ≡ needed_keys m.now hooks }
-    ensures { IfOk result (λ info. info ≡ info_of m.now hooks) }
-{
-    let mut functions = Vec::new(alloc);
-    add_imported(alloc, m, &mut functions)?;
-    add_defined(alloc, m, &mut functions)?;
-    Ok(Info {
-        groups: hooks,
-        imports: Counts::of_imports(m.imports.as_slice()).funcs as u32,
-        hooks: copy_keys(alloc, table.as_slice())?,
-        functions: Seq::from_vec(functions),
-        dropped: copy_parts(alloc, &m.customs)?,
-    })
 }
 
 /// The information that the module's hook calls are read with, where these groups are selected: `table` has the keys of
@@ -203,5 +196,15 @@ pub fn info_of(
     ensures is { IfOk result (λ info. info ≡ info_of m.now hooks) }
     ensures formed { IfOk result IsWellFormed }
 {
-    module_info(alloc, m.module(), hooks, table)
+    let module = m.module();
+    let mut functions = Vec::new(alloc);
+    add_imported(alloc, module, &mut functions)?;
+    add_defined(alloc, m, &mut functions)?;
+    Ok(Info {
+        groups: hooks,
+        imports: Counts::of_imports(module.imports.as_slice()).funcs as u32,
+        hooks: copy_keys(alloc, table.as_slice())?,
+        functions: Seq::from_vec(functions),
+        dropped: copy_parts(alloc, &module.customs)?,
+    })
 }

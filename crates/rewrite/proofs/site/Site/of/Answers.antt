@@ -29,7 +29,7 @@ pub invariant_of-result : goal.invariant_of-result
 invariant_of-result c =
     let m = c.args.body.now.module in
     let marks = c.as_slice.ensures ∙ ap (λ (t : Marks). t.types) c.marks-marks.ensures.marks in
-    subst (MarksRiseFrom 0) (sym marks) (marks_rise m c.args.body.now.defined c.args.body.now.marks c.marks-marks.ensures.typed c.body.result.now c.body.ensures)
+    (subst (MarksRiseFrom 0) (sym marks) (marks_rise m c.args.body.now.defined c.args.body.now.marks c.marks-marks.ensures.typed c.body.result.now c.body.ensures), c.sizes.ensures c.body.result.now c.body.ensures)
 
 pub returns : goal.returns
 returns c =
