@@ -183,6 +183,29 @@ fn add_defined(
     Ok(())
 }
 
+// The information on a module with these groups, whose keys are in the table.
+fn module_info(
+    alloc: Global,
+    m: &ValidModule,
+    hooks: Hooks,
+    table: &HookTable,
+) -> Result<Info, NoMemory>
+    requires { table.now ≡ needed_keys m.now hooks }
+    ensures { IfOk result (λ info. info ≡ info_of m.now hooks) }
+{
+    let module = m.module();
+    let mut functions = Vec::new(alloc);
+    add_imported(alloc, module, &mut functions)?;
+    add_defined(alloc, m, &mut functions)?;
+    Ok(Info {
+        groups: hooks,
+        imports: Counts::of_imports(module.imports.as_slice()).funcs as u32,
+        hooks: copy_keys(alloc, table.as_slice())?,
+        functions: Seq::from_vec(functions),
+        dropped: copy_parts(alloc, &module.customs)?,
+    })
+}
+
 /// The information that the module's hook calls are read with, where these groups are selected: `table` has the keys of
 /// the hooks that the module needs then, in the order of first need. It is of the form of all information. Each body is gone
 /// over once. An `Err` comes where there is no memory.
@@ -196,15 +219,7 @@ pub fn info_of(
     ensures is { IfOk result (λ info. info ≡ info_of m.now hooks) }
     ensures formed { IfOk result IsWellFormed }
 {
-    let module = m.module();
-    let mut functions = Vec::new(alloc);
-    add_imported(alloc, module, &mut functions)?;
-    add_defined(alloc, m, &mut functions)?;
-    Ok(Info {
-        groups: hooks,
-        imports: Counts::of_imports(module.imports.as_slice()).funcs as u32,
-        hooks: copy_keys(alloc, table.as_slice())?,
-        functions: Seq::from_vec(functions),
-        dropped: copy_parts(alloc, &module.customs)?,
-    })
+    // It is valid and whole.
+    let _ = m.module();
+    module_info(alloc, m, hooks, table)
 }
