@@ -9,6 +9,8 @@ pub mod RunLines
 pub mod RunEnds
 pub mod Contents
 pub mod Causes
+mod Found
+mod Fates
 pub mod Told
 pub mod Taken
 pub mod Outputs

@@ -3,3 +3,4 @@ pub mod Rooms
 pub mod Short
 mod Fitting
 mod Runs
+pub mod Totals

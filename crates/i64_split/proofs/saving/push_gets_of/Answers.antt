@@ -1,4 +1,5 @@
 use Rattle.std.proofs.Common.{[], ◌∷◌, ◌++◌, arith, ap, ◌∙◌}
+use Rattle.std.proofs.lemmas.Grind.{common_steps}
 use Rattle.wasm_num.specs.declared.ValType.TheVariants.{I32}
 use Rattle.module_ast.specs.declared.code.Instr.TheVariants.{LocalGet}
 use Rattle.i64_split.proofs.Adding.{on_next}
@@ -32,3 +33,9 @@ loop-ty-preserved c = elim c.match-ty.branch [
         longs = omega arith;
       })
 ]
+
+pub returns-clause-added : goal.returns-clause-added
+returns-clause-added c = grind (arith, common_steps)
+
+pub returns-clause-prefix : goal.returns-clause-prefix
+returns-clause-prefix c = grind (arith, common_steps)

@@ -3,7 +3,8 @@ use Rattle.std.proofs.Common.{◌≡◌, None, arith}
 use Rattle.wasabi_app.specs.Files.{IsNoModule, IsUnfit, IsInvalid}
 use Rattle.wasabi_app.specs.Ends.{IsAboveCap}
 use Rattle.wasabi_app.proofs.Causes.{ends_inverted, why_of, memory_left, check_keeps, run_keeps, report_keeps, is_written, is_kept, is_ran, is_ran_part, is_reported, is_reported_part, is_trapped, is_unfinished}
-use Rattle.wasabi_app.proofs.Told.{none, over, malformed, unfit, invalid, decides, decides_file, decides_taken, decides_too_large, decides_script, decides_info, decides_linking, checks_all, completes, runs_all, reports_all}
+use Rattle.wasabi_app.proofs.Found.{none, over, malformed, unfit, invalid}
+use Rattle.wasabi_app.proofs.Told.{decides, decides_file, decides_taken, decides_too_large, decides_script, decides_info, decides_linking, checks_all, completes, runs_all, reports_all}
 use Rattle.wasabi_app.proofs.Taken.{told_by, took_all, took_part, took_none, others_none}
 use Rattle.wasabi_app.proofs.app.run_app.Goals as goal
 
