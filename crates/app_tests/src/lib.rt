@@ -4,6 +4,8 @@
 #[cfg(test)]
 mod commands;
 #[cfg(test)]
-mod reports;
+mod faults;
 #[cfg(test)]
-mod runs;
+mod feeding;
+#[cfg(test)]
+mod reports;

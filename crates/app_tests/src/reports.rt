@@ -1,21 +1,27 @@
 // Commands of the mode `report`, from the words to what is printed and what the analyses took.
 
-ghost use Rattle.std.specs.Prelude.{◌≡◌};
+ghost use Rattle.std.specs.Prelude.{◌≡◌, IfOk, map};
 ghost use Rattle.analyses.specs.Tools.{fresh_tool};
 ghost use Rattle.analyses.specs.declared.Kind.TheVariants as kinds;
+ghost use Rattle.wasabi_app.specs.Feeding.{fresh_tools};
 
-use crate::commands::{ONE_NOP, fails_of, status_of};
+use crate::commands::{CALL, ONE_NOP, fails_of, status_of, taken_by, words_of};
 use analyses::{Analysis, Blocks, Branches, CallGraph, Kind, MemoryUse, Row};
 use hook_select::Event;
 use outside_io::{Fail, MemoryShelf, MemorySink};
 use std::alloc::{AllocError, Global};
+use std::process::Abort;
 use std::test;
 use std::thread::Threads;
 use wasabi_app::run_app;
 
-const CALL: &str = r#"{"calls":[{"export":"f","args":[]}]}"#;
+const INSTRUMENT: &str = "instrument a.wasm --out b.wasm --info b.json";
 
-const INSTRUMENT: &str = "instrument a.wasm --out b.wasm --info i.json";
+const REPORT: &str = "report b.wasm --info b.json --script s.json --reports blocks,calls";
+
+// What the report prints.
+const WHOLE: &str =
+    "call 0 f: ok\npages 0\nhost 0\nreport blocks 1\nblock 0:-1 function 1\nreport calls 0\nevents 4 stray 0\n";
 
 // An analysis of calls that has no memory for a third event.
 #[derive(Drop)]
@@ -56,52 +62,41 @@ impl Analysis for TwoEvents {
     }
 }
 
-// A shelf with the function of one nop, a script that calls it, and its output and information for all groups.
-fn shelf_of<R: Threads + Sync>(rt: &R, alloc: Global) -> Result<MemoryShelf, AllocError> {
-    let mut shelf = MemoryShelf::new(alloc, fails_of(alloc, None)?);
-    shelf.add("a.wasm", ONE_NOP.as_slice())?;
+// A shelf with the function of one nop, a script that calls it, and its output and information for all groups. Three calls of
+// it are made then, and one of the others fails.
+fn shelf_of<R: Threads + Sync>(
+    rt: &R,
+    alloc: Global,
+    fail: Option<Fail>,
+) -> Result<MemoryShelf, AllocError> {
+    let mut shelf = MemoryShelf::new(alloc, fails_of(alloc, fail)?);
+    shelf.add("a.wasm", &ONE_NOP)?;
     shelf.add("s.json", CALL.as_bytes())?;
     let mut sink = MemorySink::new(alloc, fails_of(alloc, None)?);
     status_of(rt, alloc, INSTRUMENT, &mut shelf, &mut sink)?;
     Ok(shelf)
 }
 
-#[test]
-fn reports_are_printed(rt: HostRuntime) -> Result<(), test::Fail> {
-    let alloc = rt.alloc();
-    let mut shelf = shelf_of(&rt, alloc)?;
-    for (words, status, printed) in [
-        (
-            "report b.wasm --info i.json --script s.json",
-            0,
-            "call 0 f: ok\npages 0\nhost 0\nreport blocks 1\nblock 0:-1 function 1\nreport branches 0\nreport calls 0\nreport memory 0\nevents 4 stray 0\n",
-        ),
-        (
-            "report b.wasm --info i.json --script s.json --reports memory,blocks",
-            0,
-            "call 0 f: ok\npages 0\nhost 0\nreport blocks 1\nblock 0:-1 function 1\nreport memory 0\nevents 4 stray 0\n",
-        ),
-        (
-            "report a.wasm --info i.json --script s.json",
-            16,
-            "error 16: information does not belong to the module\n",
-        ),
-    ] {
-        let mut sink = MemorySink::new(alloc, fails_of(alloc, None)?);
-        assert_eq!(rt;
-            status_of(&rt, alloc, words, &mut shelf, &mut sink)?,
-            status
-        );
-        assert_eq!(rt; sink.bytes(), printed.as_bytes());
-    }
+// Tries a report over a shelf.
+fn try_report<R: Threads + Sync + Abort>(
+    rt: &R,
+    alloc: Global,
+    shelf: &mut MemoryShelf,
+    fail: Option<Fail>,
+    status: u8,
+    printed: &str,
+) -> Result<(), test::Fail> {
+    let mut sink = MemorySink::new(alloc, fails_of(alloc, fail)?);
+    assert_eq!(rt; status_of(rt, alloc, REPORT, shelf, &mut sink)?, status);
+    assert_eq!(rt; sink.bytes(), printed.as_bytes());
     Ok(())
 }
 
 #[test]
 fn the_sink_fails_at_each_print(rt: HostRuntime) -> Result<(), test::Fail> {
     let alloc = rt.alloc();
-    let mut shelf = shelf_of(&rt, alloc)?;
-    let words = "report b.wasm --info i.json --script s.json --reports blocks,calls";
+    let mut shelf = shelf_of(&rt, alloc, None)?;
+    try_report(&rt, alloc, &mut shelf, None, 0, WHOLE)?;
     for (call, printed) in [
         (0, "ca"),
         (1, "call 0 f: ok\npages 0\nhost 0\nre"),
@@ -116,37 +111,61 @@ fn the_sink_fails_at_each_print(rt: HostRuntime) -> Result<(), test::Fail> {
         ),
     ] {
         let fail = Some(Fail { call, kept: 2 });
-        let mut sink = MemorySink::new(alloc, fails_of(alloc, fail)?);
-        assert_eq!(rt; status_of(&rt, alloc, words, &mut shelf, &mut sink)?, 15);
-        assert_eq!(rt; sink.bytes(), printed.as_bytes());
+        try_report(&rt, alloc, &mut shelf, fail, 15, printed)?;
     }
+    Ok(())
+}
+
+#[test]
+fn the_shelf_fails_at_each_read(rt: HostRuntime) -> Result<(), test::Fail> {
+    let alloc = rt.alloc();
+    for (call, printed) in [
+        (3, "error 4: b.wasm can't be read\n"),
+        (4, "error 4: b.json can't be read\n"),
+        (5, "error 4: s.json can't be read\n"),
+    ] {
+        let mut shelf = shelf_of(&rt, alloc, Some(Fail { call, kept: 0 }))?;
+        try_report(&rt, alloc, &mut shelf, None, 4, printed)?;
+    }
+    Ok(())
+}
+
+// Four fresh analyses, that of calls without memory for a third event.
+fn analyses_of_two(alloc: Global) -> Result<Vec<Box<dyn Analysis>>, AllocError>
+    ensures { IfOk result (λ tools. map state tools.items ≡ fresh_tools) }
+{
+    let mut tools: Vec<Box<dyn Analysis>> = Vec::new(alloc);
+    tools.push(Box::new(alloc, Blocks::new(alloc))?)?;
+    tools.push(Box::new(alloc, Branches::new(alloc))?)?;
+    tools.push(Box::new(alloc, TwoEvents::new(alloc))?)?;
+    tools.push(Box::new(alloc, MemoryUse::new(alloc))?)?;
+    Ok(tools)
+}
+
+// Tries a report with analyses, one of which has no memory.
+fn try_analyses<R: Threads + Sync + Abort>(
+    rt: &R,
+    alloc: Global,
+    words: &[String],
+    shelf: &mut MemoryShelf,
+    tools: &mut Vec<Box<dyn Analysis>>,
+) -> Result<(), AllocError>
+    requires fresh { map state tools.old.items ≡ fresh_tools }
+{
+    let mut sink = MemorySink::new(alloc, fails_of(alloc, None)?);
+    assert_eq!(rt; run_app(rt, alloc, words, shelf, &mut sink, tools), 14);
+    assert_eq!(rt; sink.bytes(), "error 14: out of memory\n".as_bytes());
     Ok(())
 }
 
 #[test]
 fn an_analysis_has_no_memory(rt: HostRuntime) -> Result<(), test::Fail> {
     let alloc = rt.alloc();
-    let mut shelf = shelf_of(&rt, alloc)?;
-    let mut words = Vec::new(alloc);
-    for word in "wasabi report b.wasm --info i.json --script s.json --reports blocks,calls".split_whitespace()
-    {
-        words.push(String::from_str(alloc, word)?)?;
-    }
-    let mut tools: Vec<Box<dyn Analysis>> = Vec::new(alloc);
-    tools.push(Box::new(alloc, Blocks::new(alloc))?)?;
-    tools.push(Box::new(alloc, Branches::new(alloc))?)?;
-    tools.push(Box::new(alloc, TwoEvents::new(alloc))?)?;
-    tools.push(Box::new(alloc, MemoryUse::new(alloc))?)?;
-    let mut sink = MemorySink::new(alloc, fails_of(alloc, None)?);
-    assert_eq!(rt;
-        run_app(&rt, alloc, &words, &mut shelf, &mut sink, &mut tools),
-        14
-    );
-    assert_eq!(rt; sink.bytes(), "error 14: out of memory\n".as_bytes());
-    let mut taken = Vec::new(alloc);
-    for tool in &tools {
-        taken.push(tool.taken())?;
-    }
+    let mut shelf = shelf_of(&rt, alloc, None)?;
+    let words = words_of(alloc, REPORT)?;
+    let mut tools = analyses_of_two(alloc)?;
+    try_analyses(&rt, alloc, &words, &mut shelf, &mut tools)?;
+    let taken = taken_by(alloc, &tools)?;
     assert_eq!(rt; taken.as_slice(), [3, 0, 2, 0].as_slice());
     Ok(())
 }
