@@ -54,25 +54,6 @@ fn names_lead_back(rt: HostRuntime) -> Result<(), Fail> {
     Ok(())
 }
 
-// Texts that name no hook.
-#[test]
-fn other_names(rt: HostRuntime) -> Result<(), Fail> {
-    let alloc = rt.alloc();
-    for name in [
-        "",
-        "begin",
-        "memory_grow",
-        "global.tee_i",
-        "drop_",
-        "drop_il",
-        "return_ix",
-        "f32.add",
-    ] {
-        assert_eq!(rt; key_of(alloc, name)?, None);
-    }
-    Ok(())
-}
-
 // Keys of one body that comes to each twice.
 #[test]
 fn numbers_stay(rt: HostRuntime) -> Result<(), Fail> {
