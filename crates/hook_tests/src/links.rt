@@ -72,24 +72,25 @@ fn link_fault<R: Threads + Sync>(
     file: &[u8],
     script: &str,
 ) -> Result<Option<LinkFault>, Fail> {
-    let valid = valid_of(rt, alloc, file)?;
+    let valid = valid_of(rt, alloc, file).ok_or("no module")?;
     fault_by(alloc, &valid, script)
 }
 
+// Whether the first turn of a session says that it is over.
+fn is_over(session: &mut Session<'_>) -> bool {
+    let _slot = session.table().slot(0);
+    matches!(session.call(), Ok(Turn::Over))
+}
+
 // The outcome of a run whose first turn says that it is over.
-fn run_over(
-    alloc: Global,
-    valid: &ValidModule,
-    script: &Script,
-) -> Result<Option<Outcome>, LinkFault>
+fn run_over(alloc: Global, valid: &ValidModule, script: &Script) -> Result<Outcome, Fail>
     requires range { IsScriptInRange script.now }
 {
     let mut session = Session::link(alloc, valid, script)?;
-    let _slot = session.table().slot(0);
-    match session.call()? {
-        Turn::Over => Ok(Some(session.finish()?)),
-        _ => Ok(None),
+    if !is_over(&mut session) {
+        return Err("not over".into());
     }
+    Ok(session.finish()?)
 }
 
 // Whether nothing was called, and nothing is there.
@@ -138,13 +139,17 @@ fn modules_and_scripts(rt: HostRuntime) -> Result<(), Fail> {
 fn comes_to_nothing(alloc: Global, valid: &ValidModule, script: &str) -> Result<bool, Fail> {
     let script = read_script(alloc, script.as_bytes())?;
     let outcome = run_over(alloc, valid, &script)?;
-    Ok(outcome.is_some_and(|o| is_nothing(&o)))
+    Ok(is_nothing(&outcome))
+}
+
+// The same of the module of nothing.
+fn runs_to_nothing<R: Threads + Sync>(rt: &R, alloc: Global) -> Result<bool, Fail> {
+    let valid = valid_of(rt, alloc, &NOTHING).ok_or("no module")?;
+    comes_to_nothing(alloc, &valid, "{\"calls\":[],\"pages\":1}")
 }
 
 #[test]
 fn a_run_of_nothing(rt: HostRuntime) -> Result<(), Fail> {
-    let alloc = rt.alloc();
-    let valid = valid_of(&rt, alloc, &NOTHING)?;
-    assert!(rt; comes_to_nothing(alloc, &valid, "{\"calls\":[],\"pages\":1}")?);
+    assert!(rt; runs_to_nothing(&rt, rt.alloc())?);
     Ok(())
 }

@@ -287,7 +287,7 @@ fn comes_to<R: Threads + Sync>(
     script: &str,
     ran: &Ran,
 ) -> Result<bool, Fail> {
-    let valid = valid_of(rt, alloc, file)?;
+    let valid = valid_of(rt, alloc, file).ok_or("no module")?;
     does_come_to(alloc, &valid, script, ran)
 }
 
@@ -296,7 +296,10 @@ fn modules_and_the_same_with_hooks(rt: HostRuntime) -> Result<(), Fail> {
     let alloc = rt.alloc();
     for (row, (module, told, script, ran)) in ROWS.iter().enumerate() {
         assert!(rt; comes_to(&rt, alloc, module, script, ran)?, "{row}");
-        assert!(rt; comes_to(&rt, alloc, told, script, ran)?, "{row} with hooks");
+        assert!(rt;
+            comes_to(&rt, alloc, told, script, ran)?,
+            "{row} with hooks"
+        );
     }
     Ok(())
 }
