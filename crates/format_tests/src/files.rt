@@ -1,12 +1,8 @@
 // Files of modules from hex digits.
 
 use leb_binary::put_u32;
-use module_ast::module::Limits;
 use std::alloc::{AllocError, Global};
 use std::test::Fail;
-use std::thread::Threads;
-use wasm_decode::decode;
-use wasm_valid::{Invalid, ValidModule, validate};
 
 // The bytes that hex digits spell, whatever stands between them.
 pub(crate) fn bytes_of(alloc: Global, text: &str) -> Result<Vec<u8>, AllocError> {
@@ -60,21 +56,4 @@ pub(crate) fn put_section(
     }
     file.push(id)?;
     put_sized(file, &bytes)
-}
-
-// What validation says of a file with as many locals as there can be; `None` where it is no module.
-pub(crate) fn validated<R: Threads + Sync>(
-    rt: &R,
-    alloc: Global,
-    file: &[u8],
-) -> Option<Result<ValidModule, Invalid>> {
-    if file.len() > 268_435_456 {
-        return None;
-    }
-    let limits = Limits {
-        locals: 4_294_967_295,
-        ..Limits::wide()
-    };
-    let module = decode(alloc, file, &limits).ok()?;
-    Some(validate(rt, alloc, module, 1))
 }

@@ -12,6 +12,4 @@ mod encoding;
 #[cfg(test)]
 mod files;
 #[cfg(test)]
-mod rules;
-#[cfg(test)]
 mod typing;

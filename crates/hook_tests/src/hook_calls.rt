@@ -127,16 +127,16 @@ fn reads_jump(alloc: Global, info: &Info, jump: &Jump) -> Result<bool, AllocErro
     Ok(are_of_jump(events.as_slice(), jump))
 }
 
-#[test]
-fn labels_and_ends(rt: HostRuntime) -> Result<(), Fail> {
-    let alloc = rt.alloc();
-    let Ok(info) = from_json(alloc, branches().as_bytes()) else {
-        return Err("the information is read".into());
-    };
+// Whether each call of the br_table's hook is read so.
+fn reads_jumps(alloc: Global, info: &Info) -> Result<bool, AllocError>
+    requires { IsWellFormed info.now }
+{
     for jump in &JUMPS {
-        assert!(rt; reads_jump(alloc, &info, jump)?);
+        if !reads_jump(alloc, info, jump)? {
+            return Ok(false);
+        }
     }
-    Ok(())
+    Ok(true)
 }
 
 // Whether a call of the br_table's hook from this function and position is a stray.
@@ -169,17 +169,23 @@ fn reads_nothing(alloc: Global, info: &Info) -> Result<bool, AllocError>
     Ok(events.is_empty())
 }
 
+// Whether hook calls are read so: those of the br_table, of no such function, of no br_table at that position, and others.
+fn reads_calls(alloc: Global, info: &Info) -> Result<bool, AllocError>
+    requires { IsWellFormed info.now }
+{
+    Ok(
+        reads_jumps(alloc, info)?
+            && reads_stray(alloc, info, 1, 4)?
+            && reads_stray(alloc, info, 0, 3)?
+            && reads_long(alloc, info)?
+            && reads_nothing(alloc, info)?,
+    )
+}
+
 #[test]
-fn strays_and_values(rt: HostRuntime) -> Result<(), Fail> {
+fn labels_ends_strays_and_values(rt: HostRuntime) -> Result<(), Fail> {
     let alloc = rt.alloc();
-    let Ok(info) = from_json(alloc, branches().as_bytes()) else {
-        return Err("the information is read".into());
-    };
-    // no such function, and no br_table at that position
-    for (func, position) in &[(1u32, 4u32), (0, 3)] {
-        assert!(rt; reads_stray(alloc, &info, *func, *position)?);
-    }
-    assert!(rt; reads_long(alloc, &info)?);
-    assert!(rt; reads_nothing(alloc, &info)?);
+    let info = from_json(alloc, branches().as_bytes())?;
+    assert!(rt; reads_calls(alloc, &info)?);
     Ok(())
 }

@@ -54,42 +54,29 @@ fn names_lead_back(rt: HostRuntime) -> Result<(), Fail> {
     Ok(())
 }
 
-// Texts that name no hook.
-#[test]
-fn other_names(rt: HostRuntime) -> Result<(), Fail> {
-    let alloc = rt.alloc();
-    for name in [
-        "",
-        "begin",
-        "memory_grow",
-        "global.tee_i",
-        "drop_",
-        "drop_il",
-        "return_ix",
-        "f32.add",
-    ] {
-        assert_eq!(rt; key_of(alloc, name)?, None);
-    }
-    Ok(())
-}
-
-// Keys of one body that comes to each twice.
-#[test]
-fn numbers_stay(rt: HostRuntime) -> Result<(), Fail> {
-    let alloc = rt.alloc();
-    let mut table = HookTable::new(alloc);
-    for (kind, want) in [
+// Whether keys have their numbers in a fresh table, where a body comes to one of them twice.
+fn has_numbers(table: &mut HookTable) -> Result<bool, NoMemory> {
+    for (kind, number) in [
         (BlockKind::Function, 0),
         (BlockKind::Loop, 1),
         (BlockKind::Function, 0),
         (BlockKind::Else, 2),
     ] {
-        assert!(rt; table.len() < 3);
-        assert_eq!(rt; table.need(HookKey::Begin(kind))?, want);
+        if table.len() > 2 || table.need(HookKey::Begin(kind))? != number {
+            return Ok(false);
+        }
     }
-    assert_eq!(rt; table.len(), 3);
-    assert_eq!(rt; table.find(&HookKey::Begin(BlockKind::Else)), Some(2));
-    assert_eq!(rt; table.find(&HookKey::End(BlockKind::Else)), None);
-    assert_eq!(rt; table.key_at(1), Some(&HookKey::Begin(BlockKind::Loop)));
+    Ok(
+        table.len() == 3
+            && table.find(&HookKey::Begin(BlockKind::Else)) == Some(2)
+            && table.find(&HookKey::End(BlockKind::Else)).is_none()
+            && table.key_at(1) == Some(&HookKey::Begin(BlockKind::Loop)),
+    )
+}
+
+#[test]
+fn numbers_stay(rt: HostRuntime) -> Result<(), Fail> {
+    let mut table = HookTable::new(rt.alloc());
+    assert!(rt; has_numbers(&mut table)?);
     Ok(())
 }

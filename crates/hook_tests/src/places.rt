@@ -4,7 +4,7 @@ ghost use Rattle.std.specs.Prelude.{◌≡◌, IfOk};
 ghost use Rattle.module_ast.specs.Positions.{code_size, code_nesting};
 ghost use Rattle.module_ast.specs.Seen.{code_of};
 
-use branch_resolve::{Block, EndOf, Opcode, Scopes, Walk};
+use branch_resolve::{Block, EndOf, Opcode, Scopes, Walk, sizes_of};
 use module_ast::code::{BlockType, Code, Instr};
 use module_ast::labels::Labels;
 use std::alloc::{AllocError, Global};
@@ -100,7 +100,8 @@ fn is_next(walk: &mut Walk<'_>, wanted: (i32, bool, Option<Block>)) -> Result<bo
 fn places_in_order(rt: HostRuntime) -> Result<(), Fail> {
     let alloc = rt.alloc();
     let code = body(alloc)?;
-    let mut walk = Walk::new(alloc, &code)?;
+    let sizes = sizes_of(alloc, &code)?;
+    let mut walk = Walk::new(alloc, &code, &sizes)?;
     for &(position, live, block, depth) in &PLACES {
         assert!(rt; is_next(&mut walk, (position, live, block))?);
         assert_eq!(rt; walk.scopes().depth(), depth);

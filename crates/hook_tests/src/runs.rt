@@ -3,7 +3,7 @@
 ghost use Rattle.std.specs.Prelude.{OnOk};
 ghost use Rattle.wasm_sem.specs.Link.{IsScriptInRange, Links};
 
-use crate::links::valid_of;
+use crate::files::valid_of;
 use run_session::{LinkFault, Session, read_script};
 use std::alloc::Global;
 use std::test::Fail;
@@ -274,11 +274,9 @@ fn runs_and_plays_to(
 }
 
 // The same by the text of the script.
-fn does_come_to(alloc: Global, valid: &ValidModule, script: &str, ran: &Ran) -> bool {
-    match read_script(alloc, script.as_bytes()) {
-        Ok(script) => matches!(runs_and_plays_to(alloc, valid, &script, ran), Ok(true)),
-        Err(_) => false,
-    }
+fn does_come_to(alloc: Global, valid: &ValidModule, script: &str, ran: &Ran) -> Result<bool, Fail> {
+    let script = read_script(alloc, script.as_bytes())?;
+    Ok(runs_and_plays_to(alloc, valid, &script, ran)?)
 }
 
 // The same of the module with these bytes.
@@ -288,19 +286,20 @@ fn comes_to<R: Threads + Sync>(
     file: &[u8],
     script: &str,
     ran: &Ran,
-) -> bool {
-    match valid_of(rt, alloc, file) {
-        Some(valid) => does_come_to(alloc, &valid, script, ran),
-        None => false,
-    }
+) -> Result<bool, Fail> {
+    let valid = valid_of(rt, alloc, file).ok_or("no module")?;
+    does_come_to(alloc, &valid, script, ran)
 }
 
 #[test]
 fn modules_and_the_same_with_hooks(rt: HostRuntime) -> Result<(), Fail> {
     let alloc = rt.alloc();
     for (row, (module, told, script, ran)) in ROWS.iter().enumerate() {
-        assert!(rt; comes_to(&rt, alloc, module, script, ran), "{row}");
-        assert!(rt; comes_to(&rt, alloc, told, script, ran), "{row} with hooks");
+        assert!(rt; comes_to(&rt, alloc, module, script, ran)?, "{row}");
+        assert!(rt;
+            comes_to(&rt, alloc, told, script, ran)?,
+            "{row} with hooks"
+        );
     }
     Ok(())
 }

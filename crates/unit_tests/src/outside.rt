@@ -4,27 +4,40 @@ use outside_io::{
     Fail, HostShelf, HostSink, MemoryShelf, MemorySink, ReadFault, Shelf, Sink, SinkFault,
     WriteFault,
 };
+use std::alloc::{AllocError, Global};
 use std::{fs, test};
 
+// Whether a shelf has these bytes under a name, where at most so many are asked for.
+fn has<S: Shelf>(alloc: Global, shelf: &mut S, name: &str, cap: u64, bytes: &[u8]) -> bool {
+    match shelf.read(alloc, name, cap) {
+        Ok(found) => found.as_slice() == bytes,
+        Err(_) => false,
+    }
+}
+
+// Whether a shelf refuses a read so.
+fn refuses<S: Shelf>(alloc: Global, shelf: &mut S, name: &str, cap: u64, fault: ReadFault) -> bool {
+    match shelf.read(alloc, name, cap) {
+        Ok(_) => false,
+        Err(found) => found == fault,
+    }
+}
+
+// Whether a shelf takes twelve bytes under a name and gives them back, and says how many they are where fewer are asked for.
+fn keeps<S: Shelf>(alloc: Global, shelf: &mut S, name: &str) -> bool {
+    shelf.write(name, b"twelve bytes").is_ok()
+        && has(alloc, shelf, name, 12, b"twelve bytes")
+        && refuses(alloc, shelf, name, 11, ReadFault::TooLong { length: 12 })
+}
+
 #[test]
-fn host_shelf_has_a_file(rt: HostRuntime) -> Result<(), test::Fail> {
+fn host_shelf_has_a_file(rt: HostRuntime) {
     let name = "outside_io_test.bin";
     let mut shelf = HostShelf::new(&rt);
-    assert_eq!(rt; shelf.write(name, b"twelve bytes"), Ok(()));
-    for (cap, want) in [(12, None), (11, Some(12))] {
-        let answer = shelf.read(rt.alloc(), name, cap);
-        match want {
-            None => assert_eq!(rt; answer?.as_slice(), b"twelve bytes".as_slice()),
-            Some(length) => assert_eq!(rt; answer, Err(ReadFault::TooLong { length })),
-        }
-    }
-    fs::remove_file(&rt, name)?;
-    assert_eq!(rt; shelf.read(rt.alloc(), name, 12), Err(ReadFault::Missing));
-    assert_eq!(rt;
-        shelf.write("no such folder/name", b""),
-        Err(WriteFault::Failed)
-    );
-    Ok(())
+    assert!(rt; keeps(rt.alloc(), &mut shelf, name));
+    assert!(rt; fs::remove_file(&rt, name).is_ok());
+    assert!(rt; refuses(rt.alloc(), &mut shelf, name, 12, ReadFault::Missing));
+    assert!(rt; shelf.write("no such folder/name", b"") == Err(WriteFault::Failed));
 }
 
 #[test]
@@ -33,23 +46,30 @@ fn host_sink_prints(rt: HostRuntime) {
     assert_eq!(rt; sink.put(b"printed\n"), Ok(()));
 }
 
+// Whether a write of `b` ends so, and leaves these bytes there.
+fn leaves(shelf: &mut MemoryShelf, answer: Result<(), WriteFault>, bytes: &[u8]) -> bool {
+    shelf.write("b", b"written") == answer && shelf.bytes_of("b") == Some(bytes)
+}
+
+// Whether a shelf whose third and fourth calls fail, and the third keeps three bytes, does so and is whole again then.
+fn fails_as_told(alloc: Global, shelf: &mut MemoryShelf) -> Result<bool, AllocError> {
+    shelf.add("a", b"added")?;
+    Ok(
+        has(alloc, shelf, "a", 5, b"added")
+            && refuses(alloc, shelf, "a", 4, ReadFault::TooLong { length: 5 })
+            && leaves(shelf, Err(WriteFault::Failed), b"wri")
+            && refuses(alloc, shelf, "a", 5, ReadFault::Failed)
+            && leaves(shelf, Ok(()), b"written")
+            && refuses(alloc, shelf, "c", 5, ReadFault::Missing),
+    )
+}
+
 #[test]
 fn memory_shelf_fails_as_told(rt: HostRuntime) -> Result<(), test::Fail> {
     let alloc = rt.alloc();
     let fails = vec![in alloc; Fail { call: 2, kept: 3 }, Fail { call: 3, kept: 0 }]?;
     let mut shelf = MemoryShelf::new(alloc, fails);
-    shelf.add("a", b"added")?;
-    assert_eq!(rt; shelf.read(alloc, "a", 5)?.as_slice(), b"added".as_slice());
-    assert_eq!(rt;
-        shelf.read(alloc, "a", 4),
-        Err(ReadFault::TooLong { length: 5 })
-    );
-    assert_eq!(rt; shelf.write("b", b"written"), Err(WriteFault::Failed));
-    assert_eq!(rt; shelf.bytes_of("b"), Some(b"wri".as_slice()));
-    assert_eq!(rt; shelf.read(alloc, "a", 5), Err(ReadFault::Failed));
-    assert_eq!(rt; shelf.write("b", b"written"), Ok(()));
-    assert_eq!(rt; shelf.bytes_of("b"), Some(b"written".as_slice()));
-    assert_eq!(rt; shelf.read(alloc, "c", 5), Err(ReadFault::Missing));
+    assert!(rt; fails_as_told(alloc, &mut shelf)?);
     Ok(())
 }
 
