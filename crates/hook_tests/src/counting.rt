@@ -8,33 +8,56 @@ use std::alloc::Global;
 use std::test::Fail;
 use wasm_num::{BlockKind, NoMemory, Value, Values};
 
-// Function, position, tag, the number beside it, count, least and greatest address.
-type Entry = (u32, i32, u8, u64, u64, u64, u64);
+// A row with addresses.
+fn row(func: u32, instr: i32, tag: u8, other: u64, count: u64, least: u64, greatest: u64) -> Row {
+    Row {
+        func,
+        instr,
+        tag,
+        other,
+        count,
+        least,
+        greatest,
+    }
+}
 
-static BLOCKS: [Entry; 3] = [
-    (1, 3, 4, 0, 1, 0, 0),
-    (2, -1, 0, 0, 1, 0, 0),
-    (2, 3, 2, 0, 2, 0, 0),
-];
+// A row without addresses.
+fn counted(func: u32, instr: i32, tag: u8, other: u64, count: u64) -> Row {
+    row(func, instr, tag, other, count, 0, 0)
+}
 
-static BRANCHES: [Entry; 5] = [
-    (1, 5, 2, 1, 1, 0, 0),
-    (1, 7, 3, 2, 1, 0, 0),
-    (2, 4, 0, 0, 1, 0, 0),
-    (2, 4, 0, 1, 2, 0, 0),
-    (2, 6, 1, 1, 1, 0, 0),
-];
+fn blocks() -> [Row; 3] {
+    [
+        counted(1, 3, 4, 0, 1),
+        counted(2, -1, 0, 0, 1),
+        counted(2, 3, 2, 0, 2),
+    ]
+}
 
-static CALLS: [Entry; 3] = [
-    (1, -1, 0, 0, 1, 0, 0),
-    (1, -1, 0, 1, 2, 0, 0),
-    (1, -1, 0, 5, 1, 0, 0),
-];
+fn branches() -> [Row; 5] {
+    [
+        counted(1, 5, 2, 1, 1),
+        counted(1, 7, 3, 2, 1),
+        counted(2, 4, 0, 0, 1),
+        counted(2, 4, 0, 1, 2),
+        counted(2, 6, 1, 1, 1),
+    ]
+}
 
-static MEMORY: [Entry; 2] = [
-    (1, 2, 0x28, 0, 3, 28, 8_589_934_590),
-    (1, 2, 0x3C, 0, 1, 5, 5),
-];
+fn calls() -> [Row; 3] {
+    [
+        counted(1, -1, 0, 0, 1),
+        counted(1, -1, 0, 1, 2),
+        counted(1, -1, 0, 5, 1),
+    ]
+}
+
+fn memory() -> [Row; 2] {
+    [
+        row(1, 2, 0x28, 0, 3, 28, 8_589_934_590),
+        row(1, 2, 0x3C, 0, 1, 5, 5),
+    ]
+}
 
 // What an event shows.
 #[derive(Clone, Copy)]
@@ -137,13 +160,8 @@ fn event(alloc: Global, loc: Loc, shown: Shown) -> Event {
     }
 }
 
-// Whether an analysis takes the events and has these rows then.
-fn has_rows<A: Analysis>(
-    mut analysis: A,
-    alloc: Global,
-    kind: Kind,
-    wanted: &[Entry],
-) -> Result<bool, NoMemory> {
+// Whether an analysis takes the events.
+fn takes<A: Analysis>(analysis: &mut A, alloc: Global) -> Result<bool, NoMemory> {
     for (func, instr, shown) in &EVENTS {
         if analysis.taken() == u64::MAX {
             return Ok(false);
@@ -154,37 +172,31 @@ fn has_rows<A: Analysis>(
         };
         analysis.take(&event(alloc, loc, *shown))?;
     }
-    let rows = analysis.rows()?;
-    Ok(
-        analysis.kind() == kind
-            && analysis.taken() == EVENTS.len() as u64
-            && rows.len() == wanted.len()
-            && rows
-                .iter()
-                .zip(wanted)
-                .all(|(row, entry)| is_entry(row, entry)),
-    )
+    Ok(analysis.taken() == EVENTS.len() as u64)
 }
 
-fn is_entry(row: &Row, entry: &Entry) -> bool {
-    let shown = (
-        row.func,
-        row.instr,
-        row.tag,
-        row.other,
-        row.count,
-        row.least,
-        row.greatest,
-    );
-    shown == *entry
+// Whether an analysis has these rows.
+fn has_rows<A: Analysis>(analysis: &A, kind: Kind, wanted: &[Row]) -> Result<bool, NoMemory> {
+    let rows = analysis.rows()?;
+    Ok(analysis.kind() == kind && rows.as_slice() == wanted)
+}
+
+// Whether a fresh analysis takes the events and has these rows then.
+fn counts<A: Analysis>(
+    mut analysis: A,
+    alloc: Global,
+    kind: Kind,
+    wanted: &[Row],
+) -> Result<bool, NoMemory> {
+    Ok(takes(&mut analysis, alloc)? && has_rows(&analysis, kind, wanted)?)
 }
 
 #[test]
 fn counts_events(rt: HostRuntime) -> Result<(), Fail> {
     let alloc = rt.alloc();
-    assert!(rt; has_rows(Blocks::new(alloc), alloc, Kind::Blocks, &BLOCKS)?);
-    assert!(rt; has_rows(Branches::new(alloc), alloc, Kind::Branches, &BRANCHES)?);
-    assert!(rt; has_rows(CallGraph::new(alloc), alloc, Kind::Calls, &CALLS)?);
-    assert!(rt; has_rows(MemoryUse::new(alloc), alloc, Kind::Memory, &MEMORY)?);
+    assert!(rt; counts(Blocks::new(alloc), alloc, Kind::Blocks, &blocks())?);
+    assert!(rt; counts(Branches::new(alloc), alloc, Kind::Branches, &branches())?);
+    assert!(rt; counts(CallGraph::new(alloc), alloc, Kind::Calls, &calls())?);
+    assert!(rt; counts(MemoryUse::new(alloc), alloc, Kind::Memory, &memory())?);
     Ok(())
 }
