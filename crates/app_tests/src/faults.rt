@@ -2,7 +2,7 @@
 
 use crate::commands::{CALL, ONE_NOP, fails_of, status_of};
 use outside_io::{Fail, MemoryShelf, MemorySink};
-use std::alloc::Global;
+use std::alloc::{AllocError, Global};
 use std::process::Abort;
 use std::test;
 use std::thread::Threads;
@@ -187,25 +187,41 @@ fn front_of(bytes: &[u8], kept: Option<usize>) -> Option<&[u8]> {
     bytes.get(..kept?)
 }
 
-// Runs the command of a case over a shelf with a module and scripts.
-fn try_case<R: Threads + Sync + Abort>(
-    rt: &R,
-    alloc: Global,
-    case: &Case,
-) -> Result<(), test::Fail> {
-    let mut shelf = MemoryShelf::new(alloc, fails_of(alloc, case.shelf_fail)?);
+// A shelf with a module and scripts, of which a call fails.
+fn shelf_of(alloc: Global, fail: Option<Fail>) -> Result<MemoryShelf, AllocError> {
+    let mut shelf = MemoryShelf::new(alloc, fails_of(alloc, fail)?);
     shelf.add("a.wasm", &ONE_NOP)?;
     shelf.add("s.json", CALL.as_bytes())?;
     shelf.add("few.json", FEW.as_bytes())?;
-    let mut sink = MemorySink::new(alloc, fails_of(alloc, case.sink_fail)?);
-    let status = status_of(rt, alloc, case.words, &mut shelf, &mut sink)?;
+    Ok(shelf)
+}
+
+// Asserts what a case says of the status and of the text.
+fn assert_answer(rt: &impl Abort, case: &Case, status: u8, printed: &[u8]) {
     assert_eq!(rt; status, case.status);
-    assert_eq!(rt; sink.bytes(), case.printed.as_bytes());
+    assert_eq!(rt; printed, case.printed.as_bytes());
+}
+
+// Asserts what a case says of the output and of the information.
+fn assert_files(rt: &impl Abort, case: &Case, shelf: &MemoryShelf) {
     assert_eq!(rt; shelf.bytes_of("b.wasm"), front_of(&TOLD, case.written));
     assert_eq!(rt;
         shelf.bytes_of("b.json"),
         front_of(INFORMATION.as_bytes(), case.informed)
     );
+}
+
+// Runs the command of a case.
+fn try_case<R: Threads + Sync + Abort>(
+    rt: &R,
+    alloc: Global,
+    case: &Case,
+) -> Result<(), AllocError> {
+    let mut shelf = shelf_of(alloc, case.shelf_fail)?;
+    let mut sink = MemorySink::new(alloc, fails_of(alloc, case.sink_fail)?);
+    let status = status_of(rt, alloc, case.words, &mut shelf, &mut sink)?;
+    assert_answer(rt, case, status, sink.bytes());
+    assert_files(rt, case, &shelf);
     Ok(())
 }
 

@@ -140,15 +140,29 @@ fn loop_shelf<R: Threads + Sync>(rt: &R, alloc: Global) -> Result<MemoryShelf, A
     Ok(shelf)
 }
 
+// Feeds by the output and the information on a shelf.
+fn fed_shelf<R: Threads + Sync>(rt: &R, alloc: Global, shelf: &MemoryShelf) -> Option<Fed> {
+    let output = shelf.bytes_of("b.wasm")?;
+    let text = shelf.bytes_of("b.json")?;
+    fed_output(rt, alloc, output, text)
+}
+
+// Feeds by those of the function of a loop.
+fn fed_loop<R: Threads + Sync>(rt: &R, alloc: Global) -> Result<Option<Fed>, AllocError> {
+    let shelf = loop_shelf(rt, alloc)?;
+    Ok(fed_shelf(rt, alloc, &shelf))
+}
+
 #[test]
 fn a_hook_call_feeds_the_picked(rt: HostRuntime) -> Result<(), test::Fail> {
-    let alloc = rt.alloc();
-    let shelf = loop_shelf(&rt, alloc)?;
-    let output = shelf.bytes_of("b.wasm").ok_or("no output")?;
-    let text = shelf.bytes_of("b.json").ok_or("no information")?;
-    let fed = fed_output(&rt, alloc, output, text).ok_or("no hook call")?;
-    assert_eq!(rt; fed.tally.events, 1);
-    assert_eq!(rt; fed.tally.strays, 0);
+    let fed = fed_loop(&rt, rt.alloc())?.ok_or("no hook call")?;
+    assert_eq!(rt;
+        fed.tally,
+        Tally {
+            events: 1,
+            strays: 0
+        }
+    );
     assert_eq!(rt; fed.taken.as_slice(), [1, 0, 1, 0].as_slice());
     Ok(())
 }
