@@ -1,8 +1,5 @@
 // Commands over a shelf and a sink in memory.
 
-ghost use Rattle.std.specs.Prelude.{◌≡◌, IfOk, map};
-ghost use Rattle.wasabi_app.specs.Feeding.{fresh_tools};
-
 use analyses::{Analysis, Blocks, Branches, CallGraph, MemoryUse};
 use outside_io::{Fail, MemoryShelf, MemorySink};
 use std::alloc::{AllocError, Global};
@@ -40,18 +37,6 @@ pub(crate) fn words_of(alloc: Global, words: &str) -> Result<Vec<String>, AllocE
     Ok(owned)
 }
 
-// Four fresh analyses.
-pub(crate) fn fresh_analyses(alloc: Global) -> Result<Vec<Box<dyn Analysis>>, AllocError>
-    ensures { IfOk result (λ tools. map state tools.items ≡ fresh_tools) }
-{
-    let mut tools: Vec<Box<dyn Analysis>> = Vec::new(alloc);
-    tools.push(Box::new(alloc, Blocks::new(alloc))?)?;
-    tools.push(Box::new(alloc, Branches::new(alloc))?)?;
-    tools.push(Box::new(alloc, CallGraph::new(alloc))?)?;
-    tools.push(Box::new(alloc, MemoryUse::new(alloc))?)?;
-    Ok(tools)
-}
-
 // The status of a command, given with its words, over four fresh analyses.
 fn status_of_words<R: Threads + Sync>(
     rt: &R,
@@ -60,7 +45,11 @@ fn status_of_words<R: Threads + Sync>(
     shelf: &mut MemoryShelf,
     sink: &mut MemorySink,
 ) -> Result<u8, AllocError> {
-    let mut tools = fresh_analyses(alloc)?;
+    let mut tools: Vec<Box<dyn Analysis>> = Vec::new(alloc);
+    tools.push(Box::new(alloc, Blocks::new(alloc))?)?;
+    tools.push(Box::new(alloc, Branches::new(alloc))?)?;
+    tools.push(Box::new(alloc, CallGraph::new(alloc))?)?;
+    tools.push(Box::new(alloc, MemoryUse::new(alloc))?)?;
     Ok(run_app(rt, alloc, words, shelf, sink, &mut tools))
 }
 

@@ -5,9 +5,10 @@ ghost use Rattle.wasm_sem.specs.Link.{IsScriptInRange};
 ghost use Rattle.static_info.specs.Belongs.{Belongs};
 ghost use Rattle.static_info.specs.Form.{IsWellFormed};
 ghost use Rattle.analyses.specs.Tools.{ToolState};
+ghost use Rattle.wasabi_app.specs.Feeding.{fresh_tools};
 
-use crate::commands::{CALL, fails_of, fresh_analyses, status_of, taken_by};
-use analyses::{Analysis, Kind};
+use crate::commands::{CALL, fails_of, status_of, taken_by};
+use analyses::{Analysis, Blocks, Branches, CallGraph, Kind, MemoryUse};
 use module_ast::module::Limits;
 use outside_io::{MemoryShelf, MemorySink};
 use run_session::{Session, read_script};
@@ -68,15 +69,39 @@ fn fed_tally(
     Ok(None)
 }
 
+// The same, and what the analyses have taken then.
+fn fed_tools(
+    alloc: Global,
+    session: &mut Session<'_>,
+    info: &Info,
+    tools: &mut Vec<Box<dyn Analysis>>,
+) -> Option<Fed>
+    requires formed { IsWellFormed info.now }
+    requires belongs { Belongs info.now session.old.module }
+    requires fresh { map state tools.old.items ≡ fresh_tools }
+{
+    let tally = fed_tally(alloc, session, info, tools).ok()??;
+    let taken = taken_by(alloc, tools).ok()?;
+    Some(Fed { tally, taken })
+}
+
 // The same over four fresh analyses.
 fn fed_session(alloc: Global, session: &mut Session<'_>, info: &Info) -> Option<Fed>
     requires formed { IsWellFormed info.now }
     requires belongs { Belongs info.now session.old.module }
 {
-    let mut tools = fresh_analyses(alloc).ok()?;
-    let tally = fed_tally(alloc, session, info, &mut tools).ok()??;
-    let taken = taken_by(alloc, &tools).ok()?;
-    Some(Fed { tally, taken })
+    let mut tools: Vec<Box<dyn Analysis>> = Vec::new(alloc);
+    tools.push(Box::new(alloc, Blocks::new(alloc)).ok()?).ok()?;
+    tools
+        .push(Box::new(alloc, Branches::new(alloc)).ok()?)
+        .ok()?;
+    tools
+        .push(Box::new(alloc, CallGraph::new(alloc)).ok()?)
+        .ok()?;
+    tools
+        .push(Box::new(alloc, MemoryUse::new(alloc)).ok()?)
+        .ok()?;
+    fed_tools(alloc, session, info, &mut tools)
 }
 
 // The same from the opening of a run.

@@ -1,6 +1,6 @@
 // Commands of the mode `report`, from the words to what is printed and what the analyses took.
 
-ghost use Rattle.std.specs.Prelude.{◌≡◌, IfOk, map};
+ghost use Rattle.std.specs.Prelude.{◌≡◌, map};
 ghost use Rattle.analyses.specs.Tools.{fresh_tool};
 ghost use Rattle.analyses.specs.declared.Kind.TheVariants as kinds;
 ghost use Rattle.wasabi_app.specs.Feeding.{fresh_tools};
@@ -130,32 +130,35 @@ fn the_shelf_fails_at_each_read(rt: HostRuntime) -> Result<(), test::Fail> {
     Ok(())
 }
 
-// Four fresh analyses, that of calls without memory for a third event.
-fn analyses_of_two(alloc: Global) -> Result<Vec<Box<dyn Analysis>>, AllocError>
-    ensures { IfOk result (λ tools. map state tools.items ≡ fresh_tools) }
-{
-    let mut tools: Vec<Box<dyn Analysis>> = Vec::new(alloc);
-    tools.push(Box::new(alloc, Blocks::new(alloc))?)?;
-    tools.push(Box::new(alloc, Branches::new(alloc))?)?;
-    tools.push(Box::new(alloc, TwoEvents::new(alloc))?)?;
-    tools.push(Box::new(alloc, MemoryUse::new(alloc))?)?;
-    Ok(tools)
-}
-
-// Tries a report with analyses, one of which has no memory.
+// Tries a report with analyses, one of which has no memory; how many events each has taken then.
 fn try_analyses<R: Threads + Sync + Abort>(
     rt: &R,
     alloc: Global,
     words: &[String],
     shelf: &mut MemoryShelf,
     tools: &mut Vec<Box<dyn Analysis>>,
-) -> Result<(), AllocError>
+) -> Result<Vec<u64>, AllocError>
     requires fresh { map state tools.old.items ≡ fresh_tools }
 {
     let mut sink = MemorySink::new(alloc, fails_of(alloc, None)?);
     assert_eq!(rt; run_app(rt, alloc, words, shelf, &mut sink, tools), 14);
     assert_eq!(rt; sink.bytes(), "error 14: out of memory\n".as_bytes());
-    Ok(())
+    taken_by(alloc, tools)
+}
+
+// The same with four fresh analyses, that of calls without memory for a third event.
+fn try_two_events<R: Threads + Sync + Abort>(
+    rt: &R,
+    alloc: Global,
+    words: &[String],
+    shelf: &mut MemoryShelf,
+) -> Result<Vec<u64>, AllocError> {
+    let mut tools: Vec<Box<dyn Analysis>> = Vec::new(alloc);
+    tools.push(Box::new(alloc, Blocks::new(alloc))?)?;
+    tools.push(Box::new(alloc, Branches::new(alloc))?)?;
+    tools.push(Box::new(alloc, TwoEvents::new(alloc))?)?;
+    tools.push(Box::new(alloc, MemoryUse::new(alloc))?)?;
+    try_analyses(rt, alloc, words, shelf, &mut tools)
 }
 
 #[test]
@@ -163,9 +166,7 @@ fn an_analysis_has_no_memory(rt: HostRuntime) -> Result<(), test::Fail> {
     let alloc = rt.alloc();
     let mut shelf = shelf_of(&rt, alloc, None)?;
     let words = words_of(alloc, REPORT)?;
-    let mut tools = analyses_of_two(alloc)?;
-    try_analyses(&rt, alloc, &words, &mut shelf, &mut tools)?;
-    let taken = taken_by(alloc, &tools)?;
+    let taken = try_two_events(&rt, alloc, &words, &mut shelf)?;
     assert_eq!(rt; taken.as_slice(), [3, 0, 2, 0].as_slice());
     Ok(())
 }
