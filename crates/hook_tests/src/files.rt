@@ -22,7 +22,10 @@ fn module_of(alloc: Global, file: &[u8]) -> Option<Module>
     if file.len() > 256 {
         return None;
     }
-    decode(alloc, file, &Limits::narrow()).ok()
+    match decode(alloc, file, &Limits::narrow()) {
+        Ok(module) => Some(module),
+        Err(_) => None,
+    }
 }
 
 // The same, where it is valid.
