@@ -48,7 +48,7 @@ same_hooks a b e =
     let p18 = both _ _ p17.1 in
     let p19 = both _ _ p18.1 in
     let p20 = both _ _ p19.1 in
-    λ i. record { start = same a.start b.start p0.0 i; nop = same a.nop b.nop p1.0 i; unreachable = same a.unreachable b.unreachable p2.0 i; if_ = same a.if_ b.if_ p3.0 i; br = same a.br b.br p4.0 i; br_if = same a.br_if b.br_if p5.0 i; br_table = same a.br_table b.br_table p6.0 i; begin = same a.begin b.begin p7.0 i; end = same a.end b.end p8.0 i; const_ = same a.const_ b.const_ p9.0 i; unary = same a.unary b.unary p10.0 i; binary = same a.binary b.binary p11.0 i; drop = same a.drop b.drop p12.0 i; select = same a.select b.select p13.0 i; local = same a.local b.local p14.0 i; global = same a.global b.global p15.0 i; load = same a.load b.load p16.0 i; store = same a.store b.store p17.0 i; memory_size = same a.memory_size b.memory_size p18.0 i; memory_grow = same a.memory_grow b.memory_grow p19.0 i; call = same a.call b.call p20.0 i; return_ = same a.return_ b.return_ p20.1 i; }
+    λ i. record { start = same a.start b.start p0.0 i; nop = same a.nop b.nop p1.0 i; unreachable = same a.unreachable b.unreachable p2.0 i; if_ = same a.if_ b.if_ p3.0 i; br = same a.br b.br p4.0 i; br_if = same a.br_if b.br_if p5.0 i; br_table = same a.br_table b.br_table p6.0 i; begin = same a.begin b.begin p7.0 i; end = same a.end b.end p8.0 i; const_ = same a.const_ b.const_ p9.0 i; unary = same a.unary b.unary p10.0 i; binary = same a.binary b.binary p11.0 i; drop = same a.drop b.drop p12.0 i; select = same a.select b.select p13.0 i; local = same a.local b.local p14.0 i; global = same a.global b.global p15.0 i; load = same a.load b.load p16.0 i; store = same a.store b.store p17.0 i; memory_size = same a.memory_size b.memory_size p18.0 i; memory_grow = same a.memory_grow b.memory_grow p19.0 i; call = same a.call b.call p20.0 i; return_ = same a.return_ b.return_ p20.1 i }
 
 none_has : (g : GroupName) → has none g ≡ false
 none_has groups.Start = refl

@@ -48,12 +48,7 @@ impl ValidModule {
     ghost use Rattle.wasm_valid.specs.Validated.{IsValidated};
 
     /// This module, with its index spaces, the marks and the sizes of each body.
-    pub fn new(
-        m: Module,
-        spaces: Spaces,
-        marks: Seq<Marks>,
-        sizes: Seq<Sizes>,
-    ) -> ValidModule
+    pub fn new(m: Module, spaces: Spaces, marks: Seq<Marks>, sizes: Seq<Sizes>) -> ValidModule
         requires validated { IsValidated m marks }
         requires spaces { spaces ≡ spaces_of m }
         requires sizes { AreBodySizes m sizes }
