@@ -1,5 +1,5 @@
 -- What the parser says of the command, and what is made of its answer.
-use Rattle.std.proofs.Common.{◌≡◌, ◌∙◌, Bool, true, false, true≢false, refl, sym, ap, List, [], ◌∷◌, Option, Some, None, option_map, Result, Ok, Err, IfOk, IsErrOf}
+use Rattle.std.proofs.Common.{◌≡◌, ◌∙◌, Bool, true, false, true≢false, refl, sym, ap, [], ◌∷◌, Option, Some, None, option_map, Result, Ok, Err, IfOk, IsErrOf}
 use Rattle.std.specs.Option.{ok_or}
 use Rattle.clap.specs.Words.{IsAmong, Kinds, is_simple, is_simple_and_free}
 use Rattle.clap.specs.declared.error.ErrorKind.{ErrorKind}
@@ -7,7 +7,6 @@ use Rattle.clap.proofs.OnLiterals.{clap_on_literals}
 use Rattle.command_line.specs.Lines.{Line, unless, wasabi}
 use Rattle.command_line.specs.Reading.{line_of}
 use Rattle.command_line.specs.declared.words.Line.{Line as ReadLine}
-use Rattle.command_line.specs.declared.words.LineFault.{LineFault}
 use Rattle.command_line.specs.declared.words.LineFault.TheVariants.{Refused}
 
 -- the parser's promises are exact for this command

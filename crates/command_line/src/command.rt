@@ -8,6 +8,12 @@ use clap::builder::ValueParser;
 use clap::{Arg, Command};
 use std::alloc::{AllocError, Global};
 
+/// The most threads that a command may ask for.
+pub(crate) const MOST_JOBS: u64 = 64;
+
+/// The most bytes that an output may be allowed.
+pub(crate) const LONGEST_OUTPUT: u64 = 268_435_456;
+
 // A word that stands by itself, and has to be there.
 fn wanted<'w>(alloc: Global, id: &'static str) -> Arg<'w>
     ensures rule { rule_of result ≡ wanted id.entry.now }
@@ -55,6 +61,6 @@ pub(crate) fn wasabi<'w>(alloc: Global) -> Result<Command<'w>, AllocError>
         .arg(text_option(alloc, "script"))?
         .arg(list_option(alloc, "hooks"))?
         .arg(list_option(alloc, "reports"))?
-        .arg(number_option(alloc, "jobs", 64, "1"))?
-        .arg(number_option(alloc, "max-output", 268_435_456, "268435456"))
+        .arg(number_option(alloc, "jobs", MOST_JOBS, "1"))?
+        .arg(number_option(alloc, "max-output", LONGEST_OUTPUT, "268435456"))
 }

@@ -5,7 +5,7 @@ ghost use Rattle.clap.specs.Words.{first_of, found_of, kind_of, one_of, rows_of}
 ghost use Rattle.command_line.specs.Lines.{IsLine, IsRefused, line_in, number_in, texts};
 ghost use Rattle.command_line.specs.Reading.{IsPassed, line_of};
 
-use crate::command::wasabi;
+use crate::command::{LONGEST_OUTPUT, MOST_JOBS, wasabi};
 use clap::error::ErrorKind;
 use clap::{ArgMatches, Error};
 use std::alloc::{AllocError, Global};
@@ -28,7 +28,7 @@ pub struct Line<'w> {
     /// `--reports`, a list of kinds of reports, `all` where it is not given.
     pub reports: &'w str,
     /// `--jobs`, how many threads may work, 1 to 64, 1 where it is not given.
-    pub jobs: u64,
+    pub jobs: u32,
     /// `--max-output`, how many bytes the output may have, 1 to 268,435,456, which it is where it is not given.
     pub max_output: u64,
 }
@@ -95,8 +95,8 @@ fn line_in<'w>(found: &ArgMatches<'w>) -> Option<Line<'w>>
         script: text_in(found, "script"),
         hooks: text_in(found, "hooks")?,
         reports: text_in(found, "reports")?,
-        jobs: number_in(found, "jobs", 64)?,
-        max_output: number_in(found, "max-output", 268_435_456)?,
+        jobs: number_in(found, "jobs", MOST_JOBS)? as u32,
+        max_output: number_in(found, "max-output", LONGEST_OUTPUT)?,
     })
 }
 

@@ -1,0 +1,181 @@
+// The module that is made of a number.
+
+ghost use Rattle.std.specs.Prelude.{◌≡◌, ◌≤◌, ◌<◌, ◌+◌, ℕ, true, IfOk, [], ◌∷◌, ◌++◌, codes, map, string_bytes};
+ghost use Rattle.module_ast.specs.Limits.{IsWhole, narrow};
+ghost use Rattle.module_ast.specs.Profile.{IsWithin};
+ghost use Rattle.module_ast.specs.Validity.{IsValid};
+ghost use Rattle.module_gen.specs.Made.{counter, env_text, exports, func_types, functions, made, main_body, main_text, memory_text, module_of, note_import, note_text, slots, type_indices, zero_code};
+
+use crate::bodies::{bodies, type_index, type_of};
+use crate::draws::Draws;
+use module_ast::code::{Code, Instr};
+use module_ast::module::{
+    Body, Element, Export, ExportKind, FuncType, GlobalDef, GlobalType, Import, Item, Module, Range,
+};
+use module_ast::name::Name;
+use module_ast::seq::Seq;
+use std::alloc::{AllocError, Global};
+use wasm_num::ValType;
+
+/// The module of 17 to 1,025 functions that the number makes, which is valid and within the limits of a module that gets
+/// hooks. It takes time linear in the size of the module, at most 16,777,216 bytes. An `Err` comes where there is no memory.
+pub fn make(alloc: Global, number: u64) -> Result<Module, AllocError>
+    ensures made { IfOk result (λ m. m ≡ made number) }
+    ensures valid { IfOk result IsValid }
+    ensures narrow { IfOk result (IsWithin narrow) }
+    ensures whole { IfOk result IsWhole }
+{
+    let mut draws = Draws { state: number };
+    let count = 16 + draws.draw(1009);
+    let bodies = bodies(alloc, count, &mut draws)?;
+    module_of(alloc, count, bodies)
+}
+
+// The module of `count` functions with these bodies, and a last one.
+fn module_of(alloc: Global, count: u32, mut bodies: Vec<Body>) -> Result<Module, AllocError>
+    requires { (1 ≤ count) × (count < 50000) }
+    ensures { IfOk result (λ m. m ≡ module_of count bodies.items) }
+{
+    bodies.push(main_body(alloc, count)?)?;
+    let whole = Range {
+        min: count,
+        max: Some(count),
+    };
+    let pages = Range {
+        min: 1,
+        max: Some(4),
+    };
+    Ok(Module {
+        types: Seq::from_vec(func_types(alloc)?),
+        imports: Seq::from_vec(Vec::from_array(alloc, [note(alloc)?])?),
+        funcs: Seq::from_vec(type_indices(alloc, count)?),
+        tables: Seq::from_vec(Vec::from_array(alloc, [whole])?),
+        memories: Seq::from_vec(Vec::from_array(alloc, [pages])?),
+        globals: Seq::from_vec(Vec::from_array(alloc, [counter(alloc)?])?),
+        exports: Seq::from_vec(exports(alloc, count)?),
+        start: None,
+        elements: Seq::from_vec(Vec::from_array(alloc, [slots(alloc, count)?])?),
+        bodies: Seq::from_vec(bodies),
+        segments: Seq::from_vec(Vec::new(alloc)),
+        customs: Seq::from_vec(Vec::new(alloc)),
+    })
+}
+
+// The type of a function of one parameter.
+fn func_type(alloc: Global, param: ValType, results: Vec<ValType>) -> Result<FuncType, AllocError>
+    ensures { IfOk result (λ ty. ty ≡ record { params = param ∷ []; results = results.items }) }
+{
+    Ok(FuncType {
+        params: Seq::from_vec(Vec::from_array(alloc, [param])?),
+        results: Seq::from_vec(results),
+    })
+}
+
+fn func_types(alloc: Global) -> Result<Vec<FuncType>, AllocError>
+    ensures { IfOk result (λ types. types.items ≡ func_types) }
+{
+    let note = func_type(alloc, ValType::I32, Vec::new(alloc))?;
+    let narrow = func_type(alloc, ValType::I32, Vec::from_array(alloc, [ValType::I32])?)?;
+    let wide = func_type(alloc, ValType::I64, Vec::from_array(alloc, [ValType::I64])?)?;
+    Ok(Vec::from_array(alloc, [note, narrow, wide])?)
+}
+
+// A text as a name.
+fn name(alloc: Global, text: &str) -> Result<Name, AllocError>
+    ensures { IfOk result (λ name. name.bytes ≡ text.now) }
+{
+    Ok(Name::from_string(String::from_str(alloc, text)?))
+}
+
+// The import, which is called with a number.
+fn note(alloc: Global) -> Result<Import, AllocError>
+    ensures { IfOk result (λ import. import ≡ note_import) }
+{
+    Ok(Import {
+        module: name(alloc, "env")?,
+        name: name(alloc, "note")?,
+        item: Item::Func(0),
+    })
+}
+
+// The types of the functions, and of the last one.
+#[tactic(auto, using(crate::proofs::Steps::indices_more))]
+fn type_indices(alloc: Global, count: u32) -> Result<Vec<u32>, AllocError>
+    requires { count < 50000 }
+    ensures { IfOk result (λ types. types.items ≡ type_indices count) }
+{
+    let mut types = Vec::new(alloc);
+    for before in 0..count {
+        types.push(type_index(type_of(before + 1)))?;
+    }
+    types.push(1)?;
+    Ok(types)
+}
+
+// The constant 0.
+fn zero_code(alloc: Global) -> Result<Code, AllocError>
+    ensures { IfOk result (λ code. code ≡ zero_code) }
+{
+    Code::from_vec(alloc, Vec::from_array(alloc, [Instr::I32Const(0)])?)
+}
+
+// A global that is 0 at first and may change.
+fn counter(alloc: Global) -> Result<GlobalDef, AllocError>
+    ensures { IfOk result (λ global. global ≡ counter) }
+{
+    Ok(GlobalDef {
+        ty: GlobalType {
+            ty: ValType::I32,
+            mutable: true,
+        },
+        init: zero_code(alloc)?,
+    })
+}
+
+// The last function and the memory.
+fn exports(alloc: Global, count: u32) -> Result<Vec<Export>, AllocError>
+    requires { count < 50000 }
+    ensures { IfOk result (λ all. all.items ≡ exports count) }
+{
+    let main = Export {
+        name: name(alloc, "main")?,
+        kind: ExportKind::Func,
+        index: count + 1,
+    };
+    let memory = Export {
+        name: name(alloc, "memory")?,
+        kind: ExportKind::Memory,
+        index: 0,
+    };
+    Ok(Vec::from_array(alloc, [main, memory])?)
+}
+
+// The functions in the table.
+#[tactic(auto, using(crate::proofs::Steps::numbers_more))]
+fn slots(alloc: Global, count: u32) -> Result<Element, AllocError>
+    requires { count < 50000 }
+    ensures { IfOk result (λ element. element ≡ slots count) }
+{
+    let mut funcs = Vec::new(alloc);
+    for before in 0..count {
+        funcs.push(before + 1)?;
+    }
+    Ok(Element {
+        table: 0,
+        offset: zero_code(alloc)?,
+        funcs: Seq::from_vec(funcs),
+    })
+}
+
+// The body of the last function, which calls the last one of its own type.
+fn main_body(alloc: Global, count: u32) -> Result<Body, AllocError>
+    requires { (1 ≤ count) × (count < 50000) }
+    ensures { IfOk result (λ body. body ≡ main_body count) }
+{
+    let last = count - 1 + count % 2;
+    let code = Vec::from_array(alloc, [Instr::LocalGet(0), Instr::Call(last)])?;
+    Ok(Body {
+        groups: Seq::from_vec(Vec::new(alloc)),
+        code: Code::from_vec(alloc, code)?,
+    })
+}
