@@ -1,11 +1,12 @@
 // The bodies of a made module. Function 0 is the import; a function of an even index has a parameter and a result of i64.
 
 ghost use Rattle.std.specs.Prelude.{◌≡◌, ◌≤◌, ◌<◌, ◌+◌, ℕ, IfOk, OnOk};
-ghost use Rattle.module_gen.specs.Bodies.{bodies, body_drawn, call_of, last_part, locals, type_index, type_of};
+ghost use Rattle.module_gen.specs.Bodies.{bodies, body_drawn, call_of, front, last_part, locals, param_type, type_index};
+ghost use Rattle.module_gen.specs.Codes.{pieces_code};
 
 use crate::codes::pieces_code;
 use crate::draws::Draws;
-use crate::pieces::pieces;
+use crate::pieces::drawn_pieces;
 use module_ast::code::{Code, Instr};
 use module_ast::module::{Body, Group};
 use module_ast::seq::Seq;
@@ -13,8 +14,8 @@ use std::alloc::{AllocError, Global};
 use wasm_num::ValType;
 
 /// The type of a function's parameter and of its result.
-pub(crate) fn type_of(func: u32) -> ValType
-    ensures { result ≡ type_of func }
+pub(crate) fn param_type(func: u32) -> ValType
+    ensures { result ≡ param_type func }
 {
     if func % 2 == 0 {
         ValType::I64
@@ -57,7 +58,7 @@ fn call_of(alloc: Global, func: u32, choice: u32) -> Result<Vec<Instr>, AllocErr
         return Ok(Vec::from_array(alloc, [Instr::LocalGet(0), Instr::Call(func - 2)])?);
     }
     let slot = Instr::I32Const((func - 3) as i32);
-    let call = Instr::CallIndirect(type_index(type_of(func)));
+    let call = Instr::CallIndirect(type_index(param_type(func)));
     Ok(Vec::from_array(alloc, [Instr::LocalGet(0), slot, call])?)
 }
 
@@ -74,16 +75,23 @@ fn last_part(alloc: Global, func: u32, draws: &mut Draws) -> Result<Vec<Instr>, 
     call_of(alloc, func, choice)
 }
 
-// The body of a function: as many pieces as are drawn, and the last part.
+// The code of as many pieces as are drawn.
+fn front(alloc: Global, ty: ValType, draws: &mut Draws) -> Result<Vec<Instr>, AllocError>
+    ensures code { IfOk result (λ code. code.items ≡ pieces_code ty (front ty draws.old.state).made) }
+    ensures state { OnOk result (draws.new.state ≡ (front ty draws.old.state).state) }
+{
+    let count = 8 + draws.draw(25);
+    let pieces = drawn_pieces(alloc, ty, count, draws)?;
+    pieces_code(alloc, ty, pieces.as_slice())
+}
+
+// The body of a function: pieces, and the last part.
 fn body(alloc: Global, func: u32, draws: &mut Draws) -> Result<Body, AllocError>
     requires { func < 60000 }
     ensures body { IfOk result (λ body. body ≡ (body_drawn func draws.old.state).made) }
     ensures state { OnOk result (draws.new.state ≡ (body_drawn func draws.old.state).state) }
 {
-    let ty = type_of(func);
-    let count = 8 + draws.draw(25);
-    let pieces = pieces(alloc, ty, count, draws)?;
-    let mut code = pieces_code(alloc, ty, pieces.as_slice())?;
+    let mut code = front(alloc, param_type(func), draws)?;
     code.append(&mut last_part(alloc, func, draws)?)?;
     Ok(Body {
         groups: Seq::from_vec(locals(alloc)?),

@@ -3,8 +3,9 @@
 ghost use Rattle.std.specs.Prelude.{◌≡◌, ◌<◌, ◌^◌, [], ◌∷◌, IfOk, All};
 ghost use Rattle.module_ast.specs.Seen.{code_of};
 ghost use Rattle.module_gen.specs.declared.pieces.Piece.{Piece};
-ghost use Rattle.module_gen.specs.Codes.{condition, constant, count_code, load, piece_code, pieces_code, repeat_code, store, table_block, turn};
-ghost use Rattle.module_gen.specs.Pieces.{IsPiece};
+ghost use Rattle.wasm_num.specs.declared.ValType.{ValType};
+ghost use Rattle.module_gen.specs.Codes.{condition, constant_of, count_code, load, piece_code, pieces_code, repeat_code, store, table_block, turn};
+ghost use Rattle.module_gen.specs.Pieces.{IsDrawable};
 
 use crate::pieces::Piece;
 use module_ast::code::{BlockType, Code, Instr};
@@ -22,7 +23,7 @@ const AT_ADDRESS: MemArg = MemArg {
 // A constant of a type.
 fn constant(ty: ValType, number: u32) -> Instr
     requires { number < 2 ^ 31 }
-    ensures { result ≡ constant ty number }
+    ensures { result ≡ constant_of ty number }
 {
     match ty {
         ValType::I32 => Instr::I32Const(number as i32),
@@ -66,7 +67,7 @@ fn condition(alloc: Global, ty: ValType) -> Result<Vec<Instr>, AllocError>
 // A constant as code.
 fn constant_code(alloc: Global, ty: ValType, number: u32) -> Result<Code, AllocError>
     requires { number < 2 ^ 31 }
-    ensures { IfOk result (λ code. code ≡ code_of (constant ty number ∷ [])) }
+    ensures { IfOk result (λ code. code ≡ code_of (constant_of ty number ∷ [])) }
 {
     let code = Vec::from_array(alloc, [constant(ty, number)])?;
     Code::from_vec(alloc, code)
@@ -171,35 +172,66 @@ fn memory(alloc: Global, ty: ValType, address: u32) -> Result<Vec<Instr>, AllocE
     )?)
 }
 
+// An operator between the parameter and a constant.
+fn binary(alloc: Global, ty: ValType, operand: u32, op: NumOp) -> Result<Vec<Instr>, AllocError>
+    requires { operand < 2 ^ 31 }
+    ensures { IfOk result (λ code. code.items ≡ piece_code ty (Piece.Binary operand op)) }
+{
+    let operand = constant(ty, operand);
+    let op = Instr::Num(op);
+    Ok(Vec::from_array(alloc, [Instr::LocalGet(0), operand, op, Instr::LocalSet(0)])?)
+}
+
+// An operator on the parameter.
+fn unary(alloc: Global, op: NumOp) -> Result<Vec<Instr>, AllocError>
+    ensures { IfOk result (λ code. code.items ≡ piece_code ValType.I32 (Piece.Unary op)) }
+{
+    Ok(Vec::from_array(
+        alloc,
+        [Instr::LocalGet(0), Instr::Num(op), Instr::LocalSet(0)],
+    )?)
+}
+
+// A choice between the ends of two blocks.
+fn table(alloc: Global, ty: ValType) -> Result<Vec<Instr>, AllocError>
+    ensures { IfOk result (λ code. code.items ≡ piece_code ty Piece.Table) }
+{
+    let outer = Instr::Block(BlockType::Empty, table_block(alloc, ty)?);
+    Ok(Vec::from_array(alloc, [outer])?)
+}
+
+// A call of the import.
+fn note(alloc: Global, argument: u32) -> Result<Vec<Instr>, AllocError>
+    requires { argument < 2 ^ 31 }
+    ensures { IfOk result (λ code. code.items ≡ piece_code ValType.I32 (Piece.Note argument)) }
+{
+    let argument = constant(ValType::I32, argument);
+    Ok(Vec::from_array(alloc, [argument, Instr::Call(0)])?)
+}
+
+// The size of the memory, which is dropped.
+fn size(alloc: Global) -> Result<Vec<Instr>, AllocError>
+    ensures { IfOk result (λ code. code.items ≡ piece_code ValType.I32 Piece.Size) }
+{
+    Ok(Vec::from_array(alloc, [Instr::MemorySize, Instr::Drop, Instr::Nop])?)
+}
+
 // The code of a piece for a parameter of a type.
 fn piece_code(alloc: Global, ty: ValType, piece: Piece) -> Result<Vec<Instr>, AllocError>
-    requires { IsPiece ty piece }
+    requires { IsDrawable ty piece }
     ensures { IfOk result (λ code. code.items ≡ piece_code ty piece) }
 {
     match piece {
-        Piece::Binary { operand, op } => {
-            let operand = constant(ty, operand);
-            let op = Instr::Num(op);
-            Ok(Vec::from_array(alloc, [Instr::LocalGet(0), operand, op, Instr::LocalSet(0)])?)
-        }
-        Piece::Unary { op } => Ok(Vec::from_array(
-            alloc,
-            [Instr::LocalGet(0), Instr::Num(op), Instr::LocalSet(0)],
-        )?),
+        Piece::Binary { operand, op } => binary(alloc, ty, operand, op),
+        Piece::Unary { op } => unary(alloc, op),
         Piece::Memory { address } => memory(alloc, ty, address),
         Piece::Repeat { turns } => repeat(alloc, turns),
-        Piece::Table => {
-            let outer = Instr::Block(BlockType::Empty, table_block(alloc, ty)?);
-            Ok(Vec::from_array(alloc, [outer])?)
-        }
+        Piece::Table => table(alloc, ty),
         Piece::Choice { if_so, if_not } => choice(alloc, ty, if_so, if_not),
         Piece::Pick { first, second } => pick(alloc, ty, first, second),
         Piece::Count => count(alloc),
-        Piece::Note { argument } => {
-            let argument = constant(ValType::I32, argument);
-            Ok(Vec::from_array(alloc, [argument, Instr::Call(0)])?)
-        }
-        Piece::Size => Ok(Vec::from_array(alloc, [Instr::MemorySize, Instr::Drop, Instr::Nop])?),
+        Piece::Note { argument } => note(alloc, argument),
+        Piece::Size => size(alloc),
     }
 }
 
@@ -209,7 +241,7 @@ pub(crate) fn pieces_code(
     ty: ValType,
     pieces: &[Piece],
 ) -> Result<Vec<Instr>, AllocError>
-    requires { All (IsPiece ty) pieces.now }
+    requires { All (IsDrawable ty) pieces.now }
     ensures { IfOk result (λ code. code.items ≡ pieces_code ty pieces.now) }
 {
     let mut code = Vec::new(alloc);

@@ -1,7 +1,7 @@
 // The pieces of a body, and how they are drawn.
 
 ghost use Rattle.std.specs.Prelude.{◌≡◌, ◌<◌, IfOk, OnOk, All};
-ghost use Rattle.module_gen.specs.Pieces.{IsPiece, binary_op, drawn_piece, piece_of, pieces, unary_op};
+ghost use Rattle.module_gen.specs.Pieces.{IsDrawable, binary_op, drawn_piece, drawn_pieces, piece_of, unary_op};
 
 use crate::draws::Draws;
 use std::alloc::{AllocError, Global};
@@ -134,15 +134,15 @@ fn drawn_piece(ty: ValType, draws: &mut Draws) -> Piece
 
 /// So many pieces for a parameter of a type, one after another. An `Err` comes where there is no memory.
 #[tactic(auto, using(crate::proofs::Steps::pieces_made, crate::proofs::Steps::pieces_state))]
-pub(crate) fn pieces(
+pub(crate) fn drawn_pieces(
     alloc: Global,
     ty: ValType,
     count: u32,
     draws: &mut Draws,
 ) -> Result<Vec<Piece>, AllocError>
-    ensures pieces { IfOk result (λ all. all.items ≡ (pieces ty count draws.old.state).made) }
-    ensures drawn { IfOk result (λ all. All (IsPiece ty) all.items) }
-    ensures state { OnOk result (draws.new.state ≡ (pieces ty count draws.old.state).state) }
+    ensures pieces { IfOk result (λ all. all.items ≡ (drawn_pieces ty count draws.old.state).made) }
+    ensures drawn { IfOk result (λ all. All (IsDrawable ty) all.items) }
+    ensures state { OnOk result (draws.new.state ≡ (drawn_pieces ty count draws.old.state).state) }
 {
     let mut all = Vec::new(alloc);
     for _ in 0..count {

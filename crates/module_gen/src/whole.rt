@@ -4,9 +4,9 @@ ghost use Rattle.std.specs.Prelude.{◌≡◌, ◌≤◌, ◌<◌, ◌+◌, ℕ,
 ghost use Rattle.module_ast.specs.Limits.{IsWhole, narrow};
 ghost use Rattle.module_ast.specs.Profile.{IsWithin};
 ghost use Rattle.module_ast.specs.Validity.{IsValid};
-ghost use Rattle.module_gen.specs.Made.{counter, env_text, exports, func_types, functions, made, main_body, main_text, memory_text, module_of, note_import, note_text, slots, type_indices, zero_code};
+ghost use Rattle.module_gen.specs.Made.{counter, env_text, exports, func_types, functions, made, main_body, main_text, memory_text, module_with, note_import, note_text, slots, type_indices, zero_code};
 
-use crate::bodies::{bodies, type_index, type_of};
+use crate::bodies::{bodies, param_type, type_index};
 use crate::draws::Draws;
 use module_ast::code::{Code, Instr};
 use module_ast::module::{
@@ -28,37 +28,67 @@ pub fn make(alloc: Global, number: u64) -> Result<Module, AllocError>
     let mut draws = Draws { state: number };
     let count = 16 + draws.draw(1009);
     let bodies = bodies(alloc, count, &mut draws)?;
-    module_of(alloc, count, bodies)
+    module_with(alloc, count, bodies)
 }
 
 // The module of `count` functions with these bodies, and a last one.
-fn module_of(alloc: Global, count: u32, mut bodies: Vec<Body>) -> Result<Module, AllocError>
+fn module_with(alloc: Global, count: u32, mut bodies: Vec<Body>) -> Result<Module, AllocError>
     requires { (1 ≤ count) × (count < 50000) }
-    ensures { IfOk result (λ m. m ≡ module_of count bodies.items) }
+    ensures { IfOk result (λ m. m ≡ module_with count bodies.items) }
 {
     bodies.push(main_body(alloc, count)?)?;
-    let whole = Range {
-        min: count,
-        max: Some(count),
-    };
-    let pages = Range {
-        min: 1,
-        max: Some(4),
-    };
+    with_bodies(alloc, count, bodies)
+}
+
+// The same module with these bodies alone.
+fn with_bodies(alloc: Global, count: u32, bodies: Vec<Body>) -> Result<Module, AllocError>
+    requires { count < 50000 }
+    ensures { IfOk result (λ m. m ≡ record (module_with count []) { bodies = bodies.items }) }
+{
+    let types = func_types(alloc)?;
+    let imports = imports(alloc)?;
+    let funcs = type_indices(alloc, count)?;
+    let tables = tables(alloc, count)?;
+    let memories = memories(alloc)?;
+    let globals = globals(alloc)?;
+    let exports = exports(alloc, count)?;
+    let elements = elements(alloc, count)?;
     Ok(Module {
-        types: Seq::from_vec(func_types(alloc)?),
-        imports: Seq::from_vec(Vec::from_array(alloc, [note(alloc)?])?),
-        funcs: Seq::from_vec(type_indices(alloc, count)?),
-        tables: Seq::from_vec(Vec::from_array(alloc, [whole])?),
-        memories: Seq::from_vec(Vec::from_array(alloc, [pages])?),
-        globals: Seq::from_vec(Vec::from_array(alloc, [counter(alloc)?])?),
-        exports: Seq::from_vec(exports(alloc, count)?),
+        types: Seq::from_vec(types),
+        imports: Seq::from_vec(imports),
+        funcs: Seq::from_vec(funcs),
+        tables: Seq::from_vec(tables),
+        memories: Seq::from_vec(memories),
+        globals: Seq::from_vec(globals),
+        exports: Seq::from_vec(exports),
         start: None,
-        elements: Seq::from_vec(Vec::from_array(alloc, [slots(alloc, count)?])?),
+        elements: Seq::from_vec(elements),
         bodies: Seq::from_vec(bodies),
         segments: Seq::from_vec(Vec::new(alloc)),
         customs: Seq::from_vec(Vec::new(alloc)),
     })
+}
+
+// A table that is full.
+fn tables(alloc: Global, count: u32) -> Result<Vec<Range>, AllocError>
+    ensures { IfOk result (λ tables. tables.items ≡ (module_with count []).tables) }
+{
+    let whole = Range {
+        min: count,
+        max: Some(count),
+    };
+    Ok(Vec::from_array(alloc, [whole])?)
+}
+
+// A memory of one page, which may grow to four.
+fn memories(alloc: Global) -> Result<Vec<Range>, AllocError>
+    ensures { IfOk result (λ memories. memories.items ≡ (module_with 0 []).memories) }
+{
+    let pages = Range {
+        min: 1,
+        max: Some(4),
+    };
+    Ok(Vec::from_array(alloc, [pages])?)
 }
 
 // The type of a function of one parameter.
@@ -88,6 +118,12 @@ fn name(alloc: Global, text: &str) -> Result<Name, AllocError>
 }
 
 // The import, which is called with a number.
+fn imports(alloc: Global) -> Result<Vec<Import>, AllocError>
+    ensures { IfOk result (λ all. all.items ≡ note_import ∷ []) }
+{
+    Ok(Vec::from_array(alloc, [note(alloc)?])?)
+}
+
 fn note(alloc: Global) -> Result<Import, AllocError>
     ensures { IfOk result (λ import. import ≡ note_import) }
 {
@@ -106,7 +142,7 @@ fn type_indices(alloc: Global, count: u32) -> Result<Vec<u32>, AllocError>
 {
     let mut types = Vec::new(alloc);
     for before in 0..count {
-        types.push(type_index(type_of(before + 1)))?;
+        types.push(type_index(param_type(before + 1)))?;
     }
     types.push(1)?;
     Ok(types)
@@ -120,16 +156,17 @@ fn zero_code(alloc: Global) -> Result<Code, AllocError>
 }
 
 // A global that is 0 at first and may change.
-fn counter(alloc: Global) -> Result<GlobalDef, AllocError>
-    ensures { IfOk result (λ global. global ≡ counter) }
+fn globals(alloc: Global) -> Result<Vec<GlobalDef>, AllocError>
+    ensures { IfOk result (λ all. all.items ≡ counter ∷ []) }
 {
-    Ok(GlobalDef {
+    let counter = GlobalDef {
         ty: GlobalType {
             ty: ValType::I32,
             mutable: true,
         },
         init: zero_code(alloc)?,
-    })
+    };
+    Ok(Vec::from_array(alloc, [counter])?)
 }
 
 // The last function and the memory.
@@ -148,6 +185,14 @@ fn exports(alloc: Global, count: u32) -> Result<Vec<Export>, AllocError>
         index: 0,
     };
     Ok(Vec::from_array(alloc, [main, memory])?)
+}
+
+// One segment for the whole table.
+fn elements(alloc: Global, count: u32) -> Result<Vec<Element>, AllocError>
+    requires { count < 50000 }
+    ensures { IfOk result (λ all. all.items ≡ slots count ∷ []) }
+{
+    Ok(Vec::from_array(alloc, [slots(alloc, count)?])?)
 }
 
 // The functions in the table.
