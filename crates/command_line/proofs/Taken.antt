@@ -16,7 +16,7 @@ use Rattle.clap.specs.declared.parser.matches.ValueSource.TheVariants.{DefaultVa
 use Rattle.clap.proofs.OnLiterals.{clap_on_literals}
 use Rattle.clap.proofs.WalkLemmas.{find-map}
 use Rattle.command_line.specs.Lines.{IsLine, Line, line_in, number_in, unless, wasabi}
-use Rattle.command_line.specs.Pairs.{AreUses, IsNumber, IsOption, IsValue, Says, Use, has, value_of, words_of}
+use Rattle.command_line.specs.Pairs.{AreUses, IsOption, IsValue, Says, Use, Writes, has_option, value_given, words_with}
 use Rattle.command_line.proofs.Walks.{Goes, accepted, goes, missing_row, passes_if, row_for, standing, starts, starts_well, subject_kept, top}
 
 -- ---- the defaults give no fault
@@ -155,7 +155,7 @@ abbrev pub all_of : (mode subject : Text) → List Use → List Use
 all_of mode subject uses = record { id = codes "mode"; value = mode } ∷ record { id = codes "subject"; value = subject } ∷ uses
 
 gone : (mode subject : Text) (uses : List Use) → IsValue mode → IsValue subject → AreUses (all_of mode subject []) uses
-    → Goes (standing (row_for (record { id = codes "mode"; value = mode }) ∷ []) (record { id = codes "subject"; value = subject })) (all_of mode subject uses) (words_of uses)
+    → Goes (standing (row_for (record { id = codes "mode"; value = mode }) ∷ []) (record { id = codes "subject"; value = subject })) (all_of mode subject uses) (words_with uses)
 gone mode subject uses m s are =
     goes (record { id = codes "mode"; value = mode } ∷ []) (record { id = codes "subject"; value = subject }) uses
     (passes_if (record { id = codes "mode"; value = mode } ∷ []) (record { id = codes "subject"; value = subject }) (subject_kept subject) refl) are
@@ -174,7 +174,7 @@ widened : (mode subject : Text) (before uses : List Use) → AreUses before uses
 widened mode subject before [] are = tt
 widened mode subject before (u ∷ us) are =
     let other = other_name u.id u.value are.0 in
-    (are.0, are.1, ap₂ (λ a b. a || (b || has before u.id)) other.0 other.1 ∙ are.2, widened mode subject (before ++ u ∷ []) us are.3)
+    (are.0, are.1, ap₂ (λ a b. a || (b || has_option before u.id)) other.0 other.1 ∙ are.2, widened mode subject (before ++ u ∷ []) us are.3)
 
 -- an option that was found takes its value
 option_in : (before uses : List Use) → AreUses before uses → (id : Text) (u : Use) → find (λ w. bytes_eq w.id id) uses ≡ Some u
@@ -189,7 +189,7 @@ option_in before (n ∷ ns) are id u e = go (bytes_eq n.id id) refl e (option_in
         subst (λ (w : Use). (bytes_eq w.id id ≡ true) × IsOption w.id w.value) same (s, are.0)
     go false s e next = next e
 
-jobs_number : (id value : Text) → bytes_eq id (codes "jobs") ≡ true → IsOption id value → (n : ℕ) × IsNumber 64 value n
+jobs_number : (id value : Text) → bytes_eq id (codes "jobs") ≡ true → IsOption id value → (n : ℕ) × Writes 64 value n
 jobs_number id value e (inl is) = absurd (true≢false (sym e ∙ ap (λ i. bytes_eq i (codes "jobs")) is))
 jobs_number id value e (inr (inl is)) = absurd (true≢false (sym e ∙ ap (λ i. bytes_eq i (codes "jobs")) is))
 jobs_number id value e (inr (inr (inl is))) = absurd (true≢false (sym e ∙ ap (λ i. bytes_eq i (codes "jobs")) is))
@@ -198,7 +198,7 @@ jobs_number id value e (inr (inr (inr (inr (inl is))))) = absurd (true≢false (
 jobs_number id value e (inr (inr (inr (inr (inr (inl is)))))) = is.1
 jobs_number id value e (inr (inr (inr (inr (inr (inr is)))))) = absurd (true≢false (sym e ∙ ap (λ i. bytes_eq i (codes "jobs")) is.0))
 
-output_number : (id value : Text) → bytes_eq id (codes "max-output") ≡ true → IsOption id value → (n : ℕ) × IsNumber 268435456 value n
+output_number : (id value : Text) → bytes_eq id (codes "max-output") ≡ true → IsOption id value → (n : ℕ) × Writes 268435456 value n
 output_number id value e (inl is) = absurd (true≢false (sym e ∙ ap (λ i. bytes_eq i (codes "max-output")) is))
 output_number id value e (inr (inl is)) = absurd (true≢false (sym e ∙ ap (λ i. bytes_eq i (codes "max-output")) is))
 output_number id value e (inr (inr (inl is))) = absurd (true≢false (sym e ∙ ap (λ i. bytes_eq i (codes "max-output")) is))
@@ -211,28 +211,28 @@ abbrev number_of : Text → ℕ
 number_of text = digits_value 10 (without_leading_plus text)
 
 -- the text of a number option writes its number
-jobs_text : (uses : List Use) → AreUses [] uses → IsNumber 64 (unwrap_or (value_of uses (codes "jobs")) (codes "1")) (number_of (unwrap_or (value_of uses (codes "jobs")) (codes "1")))
+jobs_text : (uses : List Use) → AreUses [] uses → Writes 64 (unwrap_or (value_given uses (codes "jobs")) (codes "1")) (number_of (unwrap_or (value_given uses (codes "jobs")) (codes "1")))
 jobs_text uses are = go (find (λ u. bytes_eq u.id (codes "jobs")) uses) refl
   where
     go : (o : Option Use) → find (λ u. bytes_eq u.id (codes "jobs")) uses ≡ o
-        → IsNumber 64 (unwrap_or (option_map (λ (u : Use). u.value) o) (codes "1")) (number_of (unwrap_or (option_map (λ (u : Use). u.value) o) (codes "1")))
+        → Writes 64 (unwrap_or (option_map (λ (u : Use). u.value) o) (codes "1")) (number_of (unwrap_or (option_map (λ (u : Use). u.value) o) (codes "1")))
     go None e = record { numeral = (omega arith, (omega arith, tt)); value = refl; least = omega arith; at_most = omega arith }
     go (Some u) e =
         let at = option_in [] uses are (codes "jobs") u e in
         let n = jobs_number u.id u.value at.0 at.1 in
-        subst (IsNumber 64 u.value) n.1.value n.1
+        subst (Writes 64 u.value) n.1.value n.1
 
 output_text : (uses : List Use) → AreUses [] uses
-    → IsNumber 268435456 (unwrap_or (value_of uses (codes "max-output")) (codes "268435456")) (number_of (unwrap_or (value_of uses (codes "max-output")) (codes "268435456")))
+    → Writes 268435456 (unwrap_or (value_given uses (codes "max-output")) (codes "268435456")) (number_of (unwrap_or (value_given uses (codes "max-output")) (codes "268435456")))
 output_text uses are = go (find (λ u. bytes_eq u.id (codes "max-output")) uses) refl
   where
     go : (o : Option Use) → find (λ u. bytes_eq u.id (codes "max-output")) uses ≡ o
-        → IsNumber 268435456 (unwrap_or (option_map (λ (u : Use). u.value) o) (codes "268435456")) (number_of (unwrap_or (option_map (λ (u : Use). u.value) o) (codes "268435456")))
+        → Writes 268435456 (unwrap_or (option_map (λ (u : Use). u.value) o) (codes "268435456")) (number_of (unwrap_or (option_map (λ (u : Use). u.value) o) (codes "268435456")))
     go None e = record { numeral = (omega arith, (omega arith, (omega arith, (omega arith, (omega arith, (omega arith, (omega arith, (omega arith, (omega arith, (omega arith, tt)))))))))); value = refl; least = omega arith; at_most = omega arith }
     go (Some u) e =
         let at = option_in [] uses are (codes "max-output") u e in
         let n = output_number u.id u.value at.0 at.1 in
-        subst (IsNumber 268435456 u.value) n.1.value n.1
+        subst (Writes 268435456 u.value) n.1.value n.1
 
 text_given : (o : Option Use) → option_and_then (λ (r : Row). slice_get r.values 0) (option_or (option_map row_for o) None) ≡ option_map (λ (u : Use). u.value) o
 text_given None = refl
@@ -252,13 +252,13 @@ abbrev line_of : (mode subject : Text) → List Use → Line
 line_of mode subject uses = record {
   mode = mode;
   subject = subject;
-  out = value_of uses (codes "out");
-  info = value_of uses (codes "info");
-  script = value_of uses (codes "script");
-  hooks = unwrap_or (value_of uses (codes "hooks")) (codes "all");
-  reports = unwrap_or (value_of uses (codes "reports")) (codes "all");
-  jobs = number_of (unwrap_or (value_of uses (codes "jobs")) (codes "1"));
-  max_output = number_of (unwrap_or (value_of uses (codes "max-output")) (codes "268435456"));
+  out = value_given uses (codes "out");
+  info = value_given uses (codes "info");
+  script = value_given uses (codes "script");
+  hooks = unwrap_or (value_given uses (codes "hooks")) (codes "all");
+  reports = unwrap_or (value_given uses (codes "reports")) (codes "all");
+  jobs = number_of (unwrap_or (value_given uses (codes "jobs")) (codes "1"));
+  max_output = number_of (unwrap_or (value_given uses (codes "max-output")) (codes "268435456"));
 }
 
 abbrev use_of : List Use → Text → Option Use
@@ -277,10 +277,10 @@ record Has (found : List Row) (line : Line) : Type 0 where
   max_output : number_in 268435456 (one_of (codes "max-output") found) ≡ Some line.max_output
 
 has_line : (found : List Row) (line : Line) → Has found line → line_in found ≡ Some line
-has_line found line has =
-    rw (has.mode, has.subject, has.hooks, has.reports, has.jobs, has.max_output, has.out, has.info, has.script) refl
+has_line found line parts =
+    rw (parts.mode, parts.subject, parts.hooks, parts.reports, parts.jobs, parts.max_output, parts.out, parts.info, parts.script) refl
 
-number_of_text : (most : ℕ) (o : Option Text) (text : Text) → most < 2 ^ 64 → o ≡ Some text → IsNumber most text (number_of text) → number_in most o ≡ Some (number_of text)
+number_of_text : (most : ℕ) (o : Option Text) (text : Text) → most < 2 ^ 64 → o ≡ Some text → Writes most text (number_of text) → number_in most o ≡ Some (number_of text)
 number_of_text most o text small is number =
     ap (number_in most) is ∙ ap (λ b. cond b (Some (number_of text)) None) (accepted most (number_of text) text small number)
 
@@ -319,14 +319,14 @@ ended w found =
     (or_else (defaults_fault (settled top.rules w.held).rows top.rules) (check_fault top (finished top.rules w.held) (is_some (entered (built wasabi) w.stopped))))))
 
 pub pairs_taken : (program mode subject : Text) (uses : List Use) → IsValue mode → IsValue subject → AreUses [] uses
-    → IsLine (program ∷ mode ∷ subject ∷ words_of uses) (line_of mode subject uses)
+    → IsLine (program ∷ mode ∷ subject ∷ words_with uses) (line_of mode subject uses)
 unfolding clap_on_literals
 pairs_taken program mode subject uses m s are =
     let g = gone mode subject uses m s (widened mode subject [] uses are) in
-    let words = mode ∷ subject ∷ words_of uses in
+    let words = mode ∷ subject ∷ words_with uses in
     let final = standing (map row_for g.before) g.last in
-    let stand : fold (walked top.rules []) (walk_from nothing_held) words ≡ final = ap (λ w. fold (walked top.rules []) w (words_of uses)) (starts mode subject m s) ∙ g.end in
-    let faultless : walk_fault top [] (walk_from nothing_held) words ≡ [] = starts_well mode subject m s (words_of uses) ∙ g.no_fault in
+    let stand : fold (walked top.rules []) (walk_from nothing_held) words ≡ final = ap (λ w. fold (walked top.rules []) w (words_with uses)) (starts mode subject m s) ∙ g.end in
+    let faultless : walk_fault top [] (walk_from nothing_held) words ≡ [] = starts_well mode subject m s (words_with uses) ∙ g.no_fault in
     let ends : ended final [] ≡ [] =
     ap (λ k. or_else k (or_else (defaults_fault (settled top.rules final.held).rows top.rules) (check_fault top (finished top.rules final.held) false))) g.fault
     ∙ ap (λ k. or_else k (check_fault top (finished top.rules final.held) false)) (defaults_pass top.rules (settled top.rules final.held).rows are_fine)
@@ -336,7 +336,7 @@ pairs_taken program mode subject uses m s are =
     ap₂ unless (ap₂ ended stand faultless ∙ ends) (ap line_in rows) ∙ has_line _ _ (holds mode subject uses are)
 
 pub pairs_say : (program mode subject : Text) (uses : List Use) → IsValue mode → IsValue subject → AreUses [] uses
-    → (line : Line) × IsLine (program ∷ mode ∷ subject ∷ words_of uses) line × Says mode subject uses line
+    → (line : Line) × IsLine (program ∷ mode ∷ subject ∷ words_with uses) line × Says mode subject uses line
 pairs_say program mode subject uses m s are = (
   line_of mode subject uses,
   pairs_taken program mode subject uses m s are,

@@ -15,7 +15,7 @@ use Rattle.clap.specs.ValueTests.{accepts}
 use Rattle.clap.specs.declared.builder.value_parser.ValueParser.TheVariants as parser
 use Rattle.clap.proofs.OnLiterals.{clap_on_literals}
 use Rattle.command_line.specs.Lines.{wasabi}
-use Rattle.command_line.specs.Pairs.{AreUses, IsNumber, IsOption, IsValue, Use, has, words_of}
+use Rattle.command_line.specs.Pairs.{AreUses, IsOption, IsValue, Use, Writes, has_option, words_with}
 
 abbrev pub top : Shape
 top = (built wasabi).top
@@ -258,7 +258,7 @@ record Pair (u : Use) : Type 0 where
   known : Known u.id
   kept : Kept u.id u.value
 
-pub accepted : (most n : ℕ) (v : Text) → most < 2 ^ 64 → IsNumber most v n → accepts false (parser.Unsigned 1 most) v ≡ true
+pub accepted : (most n : ℕ) (v : Text) → most < 2 ^ 64 → Writes most v n → accepts false (parser.Unsigned 1 most) v ≡ true
 accepted most n v small is =
     Accepts-accepts false (parser.Unsigned 1 most) v
     (is.numeral, omega (arith, is.value, is.at_most), subst (λ k. 1 ≤ k) is.value is.least, subst (λ k. k ≤ most) is.value is.at_most)
@@ -277,7 +277,7 @@ pair_of u (inr (inr (inr (inr (inr (inl is)))))) =
 pair_of u (inr (inr (inr (inr (inr (inr is)))))) =
     pair_as (codes "max-output") u is.0 max_output_known (max_output_kept u.value (accepted 268435456 is.1.0 u.value (omega arith) is.1.1))
 
-has_rows : (uses : List Use) (id : Text) → has_row id (map row_for uses) ≡ has uses id
+has_rows : (uses : List Use) (id : Text) → has_row id (map row_for uses) ≡ has_option uses id
 has_rows [] id = refl
 has_rows (u ∷ us) id = ap (λ b. bytes_eq u.id id || b) (has_rows us id)
 
@@ -286,7 +286,7 @@ pub record Passes (before : List Use) (u : Use) : Type 0 where
   pub rows : settled_rows top.rules (Some (u.id, u.value ∷ [])) (map row_for before) ≡ map row_for (before ++ u ∷ [])
   pub fault : settle_fault top.rules false (standing (map row_for before) u).held ≡ []
 
-pub passes_if : (before : List Use) (u : Use) → Kept u.id u.value → has before u.id ≡ false → Passes before u
+pub passes_if : (before : List Use) (u : Use) → Kept u.id u.value → has_option before u.id ≡ false → Passes before u
 passes_if before u kept new =
     let absent = has_rows before u.id ∙ new in
     record {
@@ -304,7 +304,7 @@ pub record Goes (start : Walk) (all : List Use) (words : List Text) : Type 0 whe
   pub no_fault : walk_fault top [] start words ≡ []
 
 pub goes : (before : List Use) (u : Use) (uses : List Use) → Passes before u → AreUses (before ++ u ∷ []) uses
-    → Goes (standing (map row_for before) u) (before ++ u ∷ uses) (words_of uses)
+    → Goes (standing (map row_for before) u) (before ++ u ∷ uses) (words_with uses)
 unfolding clap_on_literals
 goes before u [] passes are =
     record { before = before; last = u; rows = passes.rows; fault = passes.fault; end = refl; no_fault = refl }
@@ -325,8 +325,8 @@ goes before u (n ∷ ns) passes are =
       last = rest.last;
       rows = rest.rows ∙ ap (map row_for) (append_assoc before (u ∷ []) (n ∷ ns));
       fault = rest.fault;
-      end = ap (λ w. fold (walked top.rules []) w (words_of ns)) here ∙ rest.end;
+      end = ap (λ w. fold (walked top.rules []) w (words_with ns)) here ∙ rest.end;
       no_fault =
-          ap₂ (λ a b. or_else a (or_else b (walk_fault top [] (walked top.rules [] (walked top.rules [] (standing rows u) (45 ∷ 45 ∷ n.id)) n.value) (words_of ns)))) first second
-          ∙ ap (λ w. walk_fault top [] w (words_of ns)) here ∙ rest.no_fault;
+          ap₂ (λ a b. or_else a (or_else b (walk_fault top [] (walked top.rules [] (walked top.rules [] (standing rows u) (45 ∷ 45 ∷ n.id)) n.value) (words_with ns)))) first second
+          ∙ ap (λ w. walk_fault top [] w (words_with ns)) here ∙ rest.no_fault;
     }
