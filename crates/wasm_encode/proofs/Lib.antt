@@ -1,3 +1,4 @@
+mod Adding
 pub mod Outlines
 pub mod Rooms
 pub mod Short

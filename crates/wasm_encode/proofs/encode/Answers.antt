@@ -1,4 +1,4 @@
-use Rattle.std.proofs.Common.{◌<◌, ◌^◌, length, subst, sym, arith}
+use Rattle.std.proofs.Common.{◌≡◌, ◌<◌, ◌^◌, length, subst, sym, ◌∙◌, arith}
 use Rattle.module_ast.specs.Grammar.{IsModule}
 use Rattle.module_ast.specs.Profile.{tree_of}
 use Rattle.module_ast.specs.Canonical.{module_bytes, without_customs}
@@ -14,3 +14,8 @@ returns-clause-grammar c =
     let m = c.args.m.now in
     let short : length (module_bytes m) < 2 ^ 32 = omega (arith, c.module_length-length.ensures.length, c.requires.most, c.if-length-max.false) in
     subst (λ bytes. IsModule bytes (tree_of (without_customs m))) (sym c.in_ok-spell_module.ensures) (module_spelled m (c.module_length-length.ensures.fit short))
+
+pub returns-then-length-max-clause-large : goal.returns-then-length-max-clause-large
+returns-then-length-max-clause-large c = λ n e.
+    let same : c.module_length-length.result ≡ n = cc in
+    (sym same ∙ c.module_length-length.ensures.length, omega (arith, same, c.if-length-max.true))
