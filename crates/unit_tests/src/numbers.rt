@@ -51,26 +51,39 @@ fn reads_signed(rt: HostRuntime) {
         assert_eq!(rt; Cursor::new(bytes).read_s32(), Ok(want));
         assert_eq!(rt; Cursor::new(bytes).read_s64(), Ok(i64::from(want)));
     }
+}
+
+// The least number of 64 bits, and what is none of 32.
+#[test]
+fn reads_the_least(rt: HostRuntime) {
     let least = [0x80, 0x80, 0x80, 0x80, 0x80, 0x80, 0x80, 0x80, 0x80, 0x7F];
     assert_eq!(rt; Cursor::new(&least).read_s64(), Ok(i64::MIN));
-    assert_eq!(rt; Cursor::new(&least).read_s32(), Err(Bad));
-    assert_eq!(rt;
-        Cursor::new(&[0x80, 0x80, 0x80, 0x80, 0x70]).read_s32(),
-        Err(Bad)
-    );
+    for bytes in [least.as_slice(), &[0x80, 0x80, 0x80, 0x80, 0x70]] {
+        assert_eq!(rt; Cursor::new(bytes).read_s32(), Err(Bad));
+    }
+}
+
+// Whether a name, a byte and no name are read, up to place 4.
+fn reads_the_first(cursor: &mut Cursor) -> bool {
+    cursor.read_name() == Ok("hi")
+        && cursor.byte() == Ok(0xFF)
+        && cursor.read_name() == Err(Bad)
+        && cursor.place() == 4
+}
+
+// Whether two bytes can be taken and not five, and no name is read behind them.
+fn takes_two(cursor: &mut Cursor) -> bool {
+    cursor.take(5).is_err()
+        && cursor.take(2).is_ok()
+        && cursor.read_name() == Err(Bad)
+        && cursor.left() == 2
 }
 
 #[test]
 fn reads_bytes_and_names(rt: HostRuntime) {
     let mut cursor = Cursor::new(&[0x02, 0x68, 0x69, 0xFF, 0x01, 0xFF, 0x05, 0x61]);
-    assert_eq!(rt; cursor.read_name(), Ok("hi"));
-    assert_eq!(rt; cursor.byte(), Ok(0xFF));
-    assert_eq!(rt; cursor.read_name(), Err(Bad));
-    assert_eq!(rt; cursor.place(), 4_usize);
-    assert_eq!(rt; cursor.take(5).is_err(), true);
-    assert_eq!(rt; cursor.take(2).is_ok(), true);
-    assert_eq!(rt; cursor.read_name(), Err(Bad));
-    assert_eq!(rt; cursor.left(), 2_usize);
+    assert!(rt; reads_the_first(&mut cursor));
+    assert!(rt; takes_two(&mut cursor));
 }
 
 #[test]
