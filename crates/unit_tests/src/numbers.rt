@@ -37,30 +37,40 @@ fn refuses_unsigned(rt: HostRuntime) {
     }
 }
 
+// Signed numbers, each the same in 32 bits and in 64.
+static SIGNED: [(&[u8], i32); 6] = [
+    (&[0xC0, 0xBB, 0x78], -123_456),
+    (&[0x7F], -1),
+    (&[0x3F], 63),
+    (&[0xC0, 0x00], 64),
+    (&[0xFE, 0xFF, 0x7F], -2),
+    (&[0x80, 0x80, 0x80, 0x80, 0x78], i32::MIN),
+];
+
+fn reads_both(bytes: &[u8], want: i32) -> bool {
+    Cursor::new(bytes).read_s32() == Ok(want)
+        && Cursor::new(bytes).read_s64() == Ok(i64::from(want))
+}
+
 #[test]
 fn reads_signed(rt: HostRuntime) {
-    let good: [(&[u8], i32); 6] = [
-        (&[0xC0, 0xBB, 0x78], -123_456),
-        (&[0x7F], -1),
-        (&[0x3F], 63),
-        (&[0xC0, 0x00], 64),
-        (&[0xFE, 0xFF, 0x7F], -2),
-        (&[0x80, 0x80, 0x80, 0x80, 0x78], i32::MIN),
-    ];
-    for (bytes, want) in good {
-        assert_eq!(rt; Cursor::new(bytes).read_s32(), Ok(want));
-        assert_eq!(rt; Cursor::new(bytes).read_s64(), Ok(i64::from(want)));
+    for &(bytes, want) in &SIGNED {
+        assert!(rt; reads_both(bytes, want), "{want}");
     }
 }
 
-// The least number of 64 bits, and what is none of 32.
+// The least number of 64 bits.
+static LEAST: [u8; 10] = [0x80, 0x80, 0x80, 0x80, 0x80, 0x80, 0x80, 0x80, 0x80, 0x7F];
+
+// Whether these bytes are no number of 32 bits.
+fn is_long(bytes: &[u8]) -> bool {
+    Cursor::new(bytes).read_s32() == Err(Bad)
+}
+
 #[test]
 fn reads_the_least(rt: HostRuntime) {
-    let least = [0x80, 0x80, 0x80, 0x80, 0x80, 0x80, 0x80, 0x80, 0x80, 0x7F];
-    assert_eq!(rt; Cursor::new(&least).read_s64(), Ok(i64::MIN));
-    for bytes in [least.as_slice(), &[0x80, 0x80, 0x80, 0x80, 0x70]] {
-        assert_eq!(rt; Cursor::new(bytes).read_s32(), Err(Bad));
-    }
+    assert!(rt; Cursor::new(&LEAST).read_s64() == Ok(i64::MIN));
+    assert!(rt; is_long(&LEAST) && is_long(&[0x80, 0x80, 0x80, 0x80, 0x70]));
 }
 
 // Whether a name, a byte and no name are read, up to place 4.
