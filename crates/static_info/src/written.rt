@@ -154,16 +154,12 @@ fn write_groups(alloc: Global, hooks: &Hooks) -> Result<Value, NoMemory>
 fn value_of(alloc: Global, info: &Info) -> Result<Value, NoMemory>
     ensures { IfOk result (λ v. view v ≡ info_data info.now) }
 {
-    let dropped = write_list::<NameData>(alloc, info.dropped.as_slice())?;
-    let functions = write_list::<FuncData>(alloc, info.functions.as_slice())?;
-    let groups = write_groups(alloc, &info.groups)?;
-    let hooks = write_list::<HookData>(alloc, info.hooks.as_slice())?;
     let imports = info.imports;
     json!(in alloc; {
-        "dropped": dropped,
-        "functions": functions,
-        "groups": groups,
-        "hooks": hooks,
+        "dropped": (write_list::<NameData>(alloc, info.dropped.as_slice())?),
+        "functions": (write_list::<FuncData>(alloc, info.functions.as_slice())?),
+        "groups": (write_groups(alloc, &info.groups)?),
+        "hooks": (write_list::<HookData>(alloc, info.hooks.as_slice())?),
         "imports": imports,
         "version": 1u32
     })

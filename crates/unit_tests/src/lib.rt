@@ -4,8 +4,6 @@
 #[cfg(test)]
 mod forms;
 #[cfg(test)]
-mod groups;
-#[cfg(test)]
 mod numbers;
 #[cfg(test)]
 mod outside;

@@ -37,40 +37,63 @@ fn refuses_unsigned(rt: HostRuntime) {
     }
 }
 
+// Signed numbers, each the same in 32 bits and in 64.
+static SIGNED: [(&[u8], i32); 6] = [
+    (&[0xC0, 0xBB, 0x78], -123_456),
+    (&[0x7F], -1),
+    (&[0x3F], 63),
+    (&[0xC0, 0x00], 64),
+    (&[0xFE, 0xFF, 0x7F], -2),
+    (&[0x80, 0x80, 0x80, 0x80, 0x78], i32::MIN),
+];
+
+fn reads_both(bytes: &[u8], want: i32) -> bool {
+    Cursor::new(bytes).read_s32() == Ok(want)
+        && Cursor::new(bytes).read_s64() == Ok(i64::from(want))
+}
+
 #[test]
 fn reads_signed(rt: HostRuntime) {
-    let good: [(&[u8], i32); 6] = [
-        (&[0xC0, 0xBB, 0x78], -123_456),
-        (&[0x7F], -1),
-        (&[0x3F], 63),
-        (&[0xC0, 0x00], 64),
-        (&[0xFE, 0xFF, 0x7F], -2),
-        (&[0x80, 0x80, 0x80, 0x80, 0x78], i32::MIN),
-    ];
-    for (bytes, want) in good {
-        assert_eq!(rt; Cursor::new(bytes).read_s32(), Ok(want));
-        assert_eq!(rt; Cursor::new(bytes).read_s64(), Ok(i64::from(want)));
+    for &(bytes, want) in &SIGNED {
+        assert!(rt; reads_both(bytes, want), "{want}");
     }
-    let least = [0x80, 0x80, 0x80, 0x80, 0x80, 0x80, 0x80, 0x80, 0x80, 0x7F];
-    assert_eq!(rt; Cursor::new(&least).read_s64(), Ok(i64::MIN));
-    assert_eq!(rt; Cursor::new(&least).read_s32(), Err(Bad));
-    assert_eq!(rt;
-        Cursor::new(&[0x80, 0x80, 0x80, 0x80, 0x70]).read_s32(),
-        Err(Bad)
-    );
+}
+
+// The least number of 64 bits.
+static LEAST: [u8; 10] = [0x80, 0x80, 0x80, 0x80, 0x80, 0x80, 0x80, 0x80, 0x80, 0x7F];
+
+// Whether these bytes are no number of 32 bits.
+fn is_long(bytes: &[u8]) -> bool {
+    Cursor::new(bytes).read_s32() == Err(Bad)
+}
+
+#[test]
+fn reads_the_least(rt: HostRuntime) {
+    assert!(rt; Cursor::new(&LEAST).read_s64() == Ok(i64::MIN));
+    assert!(rt; is_long(&LEAST) && is_long(&[0x80, 0x80, 0x80, 0x80, 0x70]));
+}
+
+// Whether a name, a byte and no name are read, up to place 4.
+fn reads_the_first(cursor: &mut Cursor) -> bool {
+    cursor.read_name() == Ok("hi")
+        && cursor.byte() == Ok(0xFF)
+        && cursor.read_name() == Err(Bad)
+        && cursor.place() == 4
+}
+
+// Whether two bytes can be taken and not five, and no name is read behind them.
+fn takes_two(cursor: &mut Cursor) -> bool {
+    cursor.take(5).is_err()
+        && cursor.take(2).is_ok()
+        && cursor.read_name() == Err(Bad)
+        && cursor.left() == 2
 }
 
 #[test]
 fn reads_bytes_and_names(rt: HostRuntime) {
     let mut cursor = Cursor::new(&[0x02, 0x68, 0x69, 0xFF, 0x01, 0xFF, 0x05, 0x61]);
-    assert_eq!(rt; cursor.read_name(), Ok("hi"));
-    assert_eq!(rt; cursor.byte(), Ok(0xFF));
-    assert_eq!(rt; cursor.read_name(), Err(Bad));
-    assert_eq!(rt; cursor.place(), 4_usize);
-    assert_eq!(rt; cursor.take(5).is_err(), true);
-    assert_eq!(rt; cursor.take(2).is_ok(), true);
-    assert_eq!(rt; cursor.read_name(), Err(Bad));
-    assert_eq!(rt; cursor.left(), 2_usize);
+    assert!(rt; reads_the_first(&mut cursor));
+    assert!(rt; takes_two(&mut cursor));
 }
 
 #[test]

@@ -1,10 +1,12 @@
 // Two hooks put behind the one import of a small module.
 
-ghost use Rattle.std.specs.Prelude.{◌≡◌, ◌<◌, ◌^◌, [], ◌∷◌, IfOk};
+ghost use Rattle.std.specs.Prelude.{◌≡◌, [], ◌∷◌, All, IfOk};
 ghost use Rattle.module_ast.specs.Tree.{block, call, done, plain, return_};
 ghost use Rattle.module_ast.specs.Seen.{code_of};
 ghost use Rattle.module_ast.specs.declared.code.BlockType.TheVariants.{Empty};
-ghost use Rattle.index_remap.specs.Remap.{MapsModule};
+ghost use Rattle.module_ast.specs.declared.module.Element.{Element};
+ghost use Rattle.module_ast.specs.declared.module.Export.{Export};
+ghost use Rattle.index_remap.specs.Remap.{MapsIndex, MapsReference, MapsModule};
 
 use index_remap::Remap;
 use module_ast::code::{BlockType, Code, Instr};
@@ -40,19 +42,24 @@ fn body(alloc: Global) -> Result<Code, AllocError>
     Code::from_vec(alloc, items)
 }
 
+// Whether the code is that body with its last call raised, and not the first.
+fn is_risen(code: &Code) -> bool {
+    match code.as_slice() {
+        [Instr::Block(_, inside), Instr::Return, Instr::Call(last)] => *last == 3
+            && matches!(inside.as_slice(), [Instr::Call(0)]),
+        _ => false,
+    }
+}
+
+fn mapped(alloc: Global) -> Result<Code, AllocError> {
+    let code = body(alloc)?;
+    TWO_HOOKS.map_code(alloc, &code)
+}
+
 #[test]
 fn calls_rise_behind_the_imports(rt: HostRuntime) -> Result<(), Fail> {
-    let alloc = rt.alloc();
-    let copy = TWO_HOOKS.map_code(alloc, &body(alloc)?)?;
-    assert!(rt;
-        matches!(
-            copy.as_slice(),
-            [Instr::Block(_, _), Instr::Return, Instr::Call(3)]
-        )
-    );
-    if let [Instr::Block(_, inside), ..] = copy.as_slice() {
-        assert!(rt; matches!(inside.as_slice(), [Instr::Call(0)]));
-    }
+    let copy = mapped(rt.alloc())?;
+    assert!(rt; is_risen(&copy));
     Ok(())
 }
 
@@ -109,48 +116,151 @@ fn none<T>(alloc: Global) -> Seq<T> {
     Seq::from_vec(Vec::new(alloc))
 }
 
-fn module(alloc: Global) -> Result<Module, AllocError>
-    ensures { IfOk result (MapsModule TWO_HOOKS) }
+// A function and a table.
+fn exports(alloc: Global) -> Result<Seq<Export>, AllocError>
+    ensures { IfOk result (All (λ (e : Export). MapsReference TWO_HOOKS e.kind e.index)) }
 {
+    let function = export(alloc, ExportKind::Func, 2)?;
+    let table = export(alloc, ExportKind::Table, 2)?;
+    Ok(Seq::from_vec(vec![in alloc; function, table]?))
+}
+
+// One of the import, and one of the last function.
+fn elements(alloc: Global) -> Result<Seq<Element>, AllocError>
+    ensures { IfOk result (All (λ (e : Element). All (MapsIndex TWO_HOOKS) e.funcs)) }
+{
+    let first = element(alloc, 0)?;
+    let second = element(alloc, 2)?;
+    Ok(Seq::from_vec(vec![in alloc; first, second]?))
+}
+
+fn types(alloc: Global) -> Result<Seq<FuncType>, AllocError> {
     let ty = FuncType {
         params: Seq::from_vec(vec![in alloc; ValType::I32]?),
         results: none(alloc),
     };
-    let exports = vec![in alloc;
-        export(alloc, ExportKind::Func, 2)?,
-        export(alloc, ExportKind::Table, 2)?,
-    ]?;
+    Ok(Seq::from_vec(vec![in alloc; ty]?))
+}
+
+// What the module declares.
+#[derive(Drop)]
+struct Declarations {
+    types: Seq<FuncType>,
+    imports: Seq<Import>,
+    globals: Seq<GlobalDef>,
+}
+
+fn declared(alloc: Global) -> Result<Declarations, AllocError> {
+    let types = types(alloc)?;
+    let import = import(alloc)?;
+    let imports = Seq::from_vec(vec![in alloc; import]?);
+    let global = global(alloc)?;
+    let globals = Seq::from_vec(vec![in alloc; global]?);
+    Ok(Declarations {
+        types,
+        imports,
+        globals,
+    })
+}
+
+// What stands in the module by itself.
+#[derive(Drop)]
+struct Fillings {
+    segments: Seq<Segment>,
+    customs: Seq<Name>,
+}
+
+fn filled(alloc: Global) -> Result<Fillings, AllocError> {
+    let segment = segment(alloc)?;
+    let segments = Seq::from_vec(vec![in alloc; segment]?);
+    let custom = name(alloc, "producers")?;
+    let customs = Seq::from_vec(vec![in alloc; custom]?);
+    Ok(Fillings { segments, customs })
+}
+
+// What names the functions of the module.
+#[derive(Drop)]
+struct References {
+    funcs: Seq<u32>,
+    exports: Seq<Export>,
+    elements: Seq<Element>,
+}
+
+fn naming(alloc: Global) -> Result<References, AllocError>
+    ensures exports { IfOk result (λ n. All (λ (e : Export). MapsReference TWO_HOOKS e.kind e.index) n.exports) }
+    ensures elements { IfOk result (λ n. All (λ (e : Element). All (MapsIndex TWO_HOOKS) e.funcs) n.elements) }
+{
+    let funcs = Seq::from_vec(vec![in alloc; 0, 0]?);
+    let exports = exports(alloc)?;
+    let elements = elements(alloc)?;
+    Ok(References {
+        funcs,
+        exports,
+        elements,
+    })
+}
+
+fn module(alloc: Global) -> Result<Module, AllocError>
+    ensures { IfOk result (MapsModule TWO_HOOKS) }
+{
+    let declared = declared(alloc)?;
+    let filled = filled(alloc)?;
+    let naming = naming(alloc)?;
     Ok(Module {
-        types: Seq::from_vec(vec![in alloc; ty]?),
-        imports: Seq::from_vec(vec![in alloc; import(alloc)?]?),
-        funcs: Seq::from_vec(vec![in alloc; 0, 0]?),
+        types: declared.types,
+        imports: declared.imports,
+        funcs: naming.funcs,
         tables: none(alloc),
         memories: none(alloc),
-        globals: Seq::from_vec(vec![in alloc; global(alloc)?]?),
-        exports: Seq::from_vec(exports),
+        globals: declared.globals,
+        exports: naming.exports,
         start: Some(1),
-        elements: Seq::from_vec(vec![in alloc; element(alloc, 0)?, element(alloc, 2)?]?),
+        elements: naming.elements,
         bodies: none(alloc),
-        segments: Seq::from_vec(vec![in alloc; segment(alloc)?]?),
-        customs: Seq::from_vec(vec![in alloc; name(alloc, "producers")?]?),
+        segments: filled.segments,
+        customs: filled.customs,
     })
+}
+
+// The module with the hooks.
+fn remapped(alloc: Global) -> Result<Module, AllocError> {
+    let m = module(alloc)?;
+    TWO_HOOKS.map_module(alloc, &m)
+}
+
+// Whether two exports, of a function and of a table, have these indices.
+fn are_exports(exports: &[Export], function: u32, table: u32) -> bool {
+    match exports {
+        [first, second] => first.index == function && second.index == table,
+        _ => false,
+    }
+}
+
+// Whether the element has one function, of this index.
+fn is_element(element: &Element, func: u32) -> bool {
+    match element.funcs.as_slice() {
+        [found] => *found == func,
+        _ => false,
+    }
+}
+
+// Whether there are two elements, each of one function, of these indices.
+fn are_elements(elements: &[Element], first: u32, second: u32) -> bool {
+    match elements {
+        [one, other] => is_element(one, first) && is_element(other, second),
+        _ => false,
+    }
+}
+
+fn has_risen(m: &Module) -> bool {
+    are_exports(m.exports.as_slice(), 4, 2)
+        && m.start == Some(3)
+        && are_elements(m.elements.as_slice(), 0, 4)
 }
 
 #[test]
 fn references_rise_behind_the_imports(rt: HostRuntime) -> Result<(), Fail> {
-    let alloc = rt.alloc();
-    let copy = TWO_HOOKS.map_module(alloc, &module(alloc)?)?;
-    let [function, table] = copy.exports.as_slice() else {
-        assert!(rt; false);
-        return Ok(());
-    };
-    assert_eq!(rt; (function.index, table.index), (4, 2));
-    assert_eq!(rt; copy.start, Some(3));
-    let [first, second] = copy.elements.as_slice() else {
-        assert!(rt; false);
-        return Ok(());
-    };
-    assert!(rt; matches!(first.funcs.as_slice(), [0]));
-    assert!(rt; matches!(second.funcs.as_slice(), [4]));
+    let copy = remapped(rt.alloc())?;
+    assert!(rt; has_risen(&copy));
     Ok(())
 }

@@ -70,78 +70,90 @@ fn run(alloc: Global, steps: &[Step]) -> Result<(Option<Option<ValType>>, usize)
     Ok((last, stack.height()))
 }
 
+// Steps, what the last of them answers, and the height then.
+static ROWS: [(&[Step], Option<Option<ValType>>, usize); 16] = [
+    (&[Push(INT), Pop(INT)], Some(INT), 0),
+    (&[Push(INT), Pop(None)], Some(INT), 0),
+    (&[Push(None), Pop(LONG)], Some(LONG), 0),
+    (&[Push(INT), Pop(LONG)], None, 1),
+    (&[Pop(INT)], None, 0),
+    // any operand is found at the base of a dead frame
+    (&[Push(LONG), Dead, Pop(INT)], Some(INT), 0),
+    (&[Dead, Push(LONG), Pop(INT)], None, 1),
+    // the operands below an open block cannot be taken, its start types can
+    (
+        &[Push(INT), Open(BlockKind::Block, No, No), Pop(None)],
+        None,
+        1,
+    ),
+    (
+        &[Push(INT), Open(BlockKind::Loop, One, No), Pop(INT)],
+        Some(INT),
+        0,
+    ),
+    (&[Push(INT), Open(BlockKind::Loop, Two, No)], None, 1),
+    (
+        &[Dead, Push(LONG), Open(BlockKind::If, Two, No), Pop(LONG)],
+        Some(LONG),
+        1,
+    ),
+    // closing takes the results, and refuses what else is left
+    (
+        &[Open(BlockKind::Else, No, One), Push(INT), Close, Pop(INT)],
+        None,
+        0,
+    ),
+    (
+        &[Open(BlockKind::Else, No, One), Push(INT), Push(INT), Close],
+        None,
+        2,
+    ),
+    (
+        &[
+            Push(LONG),
+            Open(BlockKind::Block, No, Two),
+            Push(INT),
+            Dead,
+            Close,
+        ],
+        Some(None),
+        1,
+    ),
+    // no frame is left
+    (&[Close, Close], None, 0),
+    (&[Close, Open(BlockKind::Block, No, No)], None, 0),
+];
+
 #[test]
 fn follows_the_rules(rt: HostRuntime) -> Result<(), Fail> {
-    let rows: [(&[Step], Option<Option<ValType>>, usize); 16] = [
-        (&[Push(INT), Pop(INT)], Some(INT), 0),
-        (&[Push(INT), Pop(None)], Some(INT), 0),
-        (&[Push(None), Pop(LONG)], Some(LONG), 0),
-        (&[Push(INT), Pop(LONG)], None, 1),
-        (&[Pop(INT)], None, 0),
-        // any operand is found at the base of a dead frame
-        (&[Push(LONG), Dead, Pop(INT)], Some(INT), 0),
-        (&[Dead, Push(LONG), Pop(INT)], None, 1),
-        // the operands below an open block cannot be taken, its start types can
-        (
-            &[Push(INT), Open(BlockKind::Block, No, No), Pop(None)],
-            None,
-            1,
-        ),
-        (
-            &[Push(INT), Open(BlockKind::Loop, One, No), Pop(INT)],
-            Some(INT),
-            0,
-        ),
-        (&[Push(INT), Open(BlockKind::Loop, Two, No)], None, 1),
-        (
-            &[Dead, Push(LONG), Open(BlockKind::If, Two, No), Pop(LONG)],
-            Some(LONG),
-            1,
-        ),
-        // closing takes the results, and refuses what else is left
-        (
-            &[Open(BlockKind::Else, No, One), Push(INT), Close, Pop(INT)],
-            None,
-            0,
-        ),
-        (
-            &[Open(BlockKind::Else, No, One), Push(INT), Push(INT), Close],
-            None,
-            2,
-        ),
-        (
-            &[
-                Push(LONG),
-                Open(BlockKind::Block, No, Two),
-                Push(INT),
-                Dead,
-                Close,
-            ],
-            Some(None),
-            1,
-        ),
-        // no frame is left
-        (&[Close, Close], None, 0),
-        (&[Close, Open(BlockKind::Block, No, No)], None, 0),
-    ];
-    for (steps, last, height) in rows {
+    for &(steps, last, height) in &ROWS {
         assert_eq!(rt; run(rt.alloc(), steps)?, (last, height));
     }
     Ok(())
 }
 
-// Labels count from the innermost frame.
-#[test]
-fn names_frames(rt: HostRuntime) -> Result<(), Fail> {
-    let alloc = rt.alloc();
+// A loop that takes one operand, in a function with two results.
+fn loop_in_function(alloc: Global) -> Result<CtrlStack, StackFault> {
     let mut stack = CtrlStack::new(alloc, types(alloc, Two)?)?;
     stack.push(INT)?;
     stack.push_block(BlockKind::Loop, types(alloc, One)?, types(alloc, No)?)?;
-    for (label, kind, takes) in [(0, BlockKind::Loop, 1), (1, BlockKind::Function, 2)] {
-        let frame = stack.label(label).ok_or("no frame")?;
-        assert_eq!(rt; frame.kind, kind);
-        assert_eq!(rt; frame.label_types().len(), takes);
+    Ok(stack)
+}
+
+// Whether a label names a frame of this kind, to which a branch takes so many operands.
+fn names(stack: &CtrlStack, label: u32, kind: BlockKind, takes: usize) -> bool {
+    match stack.label(label) {
+        Some(frame) => frame.kind == kind && frame.label_types().len() == takes,
+        None => false,
     }
+}
+
+// Labels count from the innermost frame.
+#[test]
+fn names_frames(rt: HostRuntime) -> Result<(), Fail> {
+    let stack = loop_in_function(rt.alloc())?;
+    assert!(rt; names(&stack, 0, BlockKind::Loop, 1));
+    assert!(rt; names(&stack, 1, BlockKind::Function, 2));
     assert!(rt; stack.label(2).is_none());
     Ok(())
 }

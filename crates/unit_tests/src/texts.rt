@@ -88,6 +88,14 @@ fn reports_of_memory(rt: HostRuntime) -> Result<(), test::Fail> {
     Ok(())
 }
 
+// Whether a report breaks off where the sink fails, and the sink has this part of it.
+fn breaks_off(alloc: Global, rows: &[Row], sink: &mut MemorySink, part: &[u8]) -> bool
+    requires { HaveTags Kind.Calls rows.now }
+{
+    write_report(alloc, Kind::Calls, rows, sink) == Err(ReportFault::SinkFailed)
+        && sink.bytes() == part
+}
+
 #[test]
 fn a_part_stands_where_the_sink_fails(rt: HostRuntime) -> Result<(), test::Fail> {
     let alloc = rt.alloc();
@@ -97,14 +105,8 @@ fn a_part_stands_where_the_sink_fails(rt: HostRuntime) -> Result<(), test::Fail>
         row(8, -1, 0, 0, 1),
     ];
     let mut sink = MemorySink::new(alloc, vec![in alloc; Fail { call: 2, kept: 6 }]?);
-    assert_eq!(rt;
-        write_report(alloc, Kind::Calls, &calls, &mut sink),
-        Err(ReportFault::SinkFailed)
-    );
-    assert_eq!(rt;
-        sink.bytes(),
-        b"report calls 3\ncall 0 none 1\ncall 7".as_slice()
-    );
+    let part = b"report calls 3\ncall 0 none 1\ncall 7".as_slice();
+    assert!(rt; breaks_off(alloc, &calls, &mut sink, part));
     Ok(())
 }
 
