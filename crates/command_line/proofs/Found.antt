@@ -1,11 +1,11 @@
 -- What is read of what was found.
-use Rattle.std.proofs.Common.{◌≡◌, ◌≤◌, ◌∙◌, ℕ, refl, sym, subst, ap, cond, Option, Some, None, Result, Ok, Err, true≢false, false}
+use Rattle.std.proofs.Common.{◌≡◌, ◌≤◌, ◌∙◌, ℕ, refl, sym, subst, ap, codes, cond, List, Option, Some, None, Result, Ok, Err, true≢false, false}
 use Rattle.std.specs.Str.Parse.{ParsesUnsigned, digits_value, without_leading_plus}
 use Rattle.std.specs.Option.{IfSome, is_some}
-use Rattle.clap.specs.Words.{IsUnsignedIn, ReadsOne, Text}
+use Rattle.clap.specs.Words.{IsUnsignedIn, ReadsOne, Row, Text, first_of, one_of}
 use Rattle.clap.specs.declared.builder.value_parser.ValueParser.TheVariants as parser
 use Rattle.clap.proofs.ValueTestLemmas.{Accepts-accepts}
-use Rattle.command_line.specs.Lines.{number_in}
+use Rattle.command_line.specs.Lines.{Line, line_in, number_in}
 use Rattle.command_line.specs.Reading.{IsPassed}
 
 some_is_not_none : {X : Type 0} (x : X) (o : Option X) → o ≡ Some x → o ≡ None → ⊥
@@ -37,3 +37,19 @@ number_range most (Some t) read is passed =
 pub passed_if : (most : ℕ) (text : Option Text) → ((t : Text) → text ≡ Some t → IsUnsignedIn 1 most t) → IsPassed most text
 passed_if most None each = tt
 passed_if most (Some t) each = each t refl
+
+-- the parts of a line as they are found
+pub record Has (found : List Row) (line : Line) : Type 0 where
+  pub mode : first_of (codes "mode") found ≡ Some line.mode
+  pub subject : first_of (codes "subject") found ≡ Some line.subject
+  pub out : first_of (codes "out") found ≡ line.out
+  pub info : first_of (codes "info") found ≡ line.info
+  pub script : first_of (codes "script") found ≡ line.script
+  pub hooks : first_of (codes "hooks") found ≡ Some line.hooks
+  pub reports : first_of (codes "reports") found ≡ Some line.reports
+  pub jobs : number_in 64 (one_of (codes "jobs") found) ≡ Some line.jobs
+  pub max_output : number_in 268435456 (one_of (codes "max-output") found) ≡ Some line.max_output
+
+pub has_line : (found : List Row) (line : Line) → Has found line → line_in found ≡ Some line
+has_line found line parts =
+    rw (parts.mode, parts.subject, parts.hooks, parts.reports, parts.jobs, parts.max_output, parts.out, parts.info, parts.script) refl

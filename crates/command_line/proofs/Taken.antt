@@ -7,7 +7,7 @@ use Rattle.clap.specs.Facts.{explicit_source}
 use Rattle.std.specs.Str.{bytes_eq}
 use Rattle.std.specs.Str.Parse.{digits_value, without_leading_plus}
 use Rattle.std.proofs.lemmas.Slice.Eq.{bytes_eq-Decides}
-use Rattle.clap.specs.Walk.{Rule, Row, Text, first_of, one_of, default_rows, finished, has_row, is_empty, more_values, nothing_held, reading_by, settled, walk_from, walked, with_default, row_text, Walk}
+use Rattle.clap.specs.Walk.{Rule, Row, Text, default_rows, finished, has_row, is_empty, more_values, nothing_held, reading_by, settled, walk_from, walked, with_default, row_text, Walk}
 use Rattle.clap.specs.Simple.{built, entered, matches_of}
 use Rattle.clap.specs.Kinds.{Kinds, or_else}
 use Rattle.clap.specs.Takes.{is_given}
@@ -17,6 +17,7 @@ use Rattle.clap.proofs.OnLiterals.{clap_on_literals}
 use Rattle.clap.proofs.WalkLemmas.{find-map}
 use Rattle.command_line.specs.Lines.{IsLine, Line, line_in, number_in, unless, wasabi}
 use Rattle.command_line.specs.Pairs.{AreUses, IsOption, IsValue, Says, Use, Writes, has_option, value_given, words_with}
+use Rattle.command_line.proofs.Found.{Has, has_line}
 use Rattle.command_line.proofs.Walks.{Goes, accepted, goes, missing_row, passes_if, row_for, standing, starts, starts_well, subject_kept, top}
 
 -- ---- the defaults give no fault
@@ -263,22 +264,6 @@ line_of mode subject uses = record {
 
 abbrev use_of : List Use → Text → Option Use
 use_of uses id = find (λ u. bytes_eq u.id id) uses
-
--- the parts of a line as they are found
-record Has (found : List Row) (line : Line) : Type 0 where
-  mode : first_of (codes "mode") found ≡ Some line.mode
-  subject : first_of (codes "subject") found ≡ Some line.subject
-  out : first_of (codes "out") found ≡ line.out
-  info : first_of (codes "info") found ≡ line.info
-  script : first_of (codes "script") found ≡ line.script
-  hooks : first_of (codes "hooks") found ≡ Some line.hooks
-  reports : first_of (codes "reports") found ≡ Some line.reports
-  jobs : number_in 64 (one_of (codes "jobs") found) ≡ Some line.jobs
-  max_output : number_in 268435456 (one_of (codes "max-output") found) ≡ Some line.max_output
-
-has_line : (found : List Row) (line : Line) → Has found line → line_in found ≡ Some line
-has_line found line parts =
-    rw (parts.mode, parts.subject, parts.hooks, parts.reports, parts.jobs, parts.max_output, parts.out, parts.info, parts.script) refl
 
 number_of_text : (most : ℕ) (o : Option Text) (text : Text) → most < 2 ^ 64 → o ≡ Some text → Writes most text (number_of text) → number_in most o ≡ Some (number_of text)
 number_of_text most o text small is number =
