@@ -28,3 +28,4 @@ pub mod FedTurns
 pub mod Played
 pub mod Reported
 pub mod Composed
+pub mod New
