@@ -1,0 +1,39 @@
+-- What is read of what was found.
+use Rattle.std.proofs.Common.{◌≡◌, ◌≤◌, ◌∙◌, ℕ, refl, sym, subst, ap, cond, Option, Some, None, Result, Ok, Err, true≢false, false}
+use Rattle.std.specs.Str.Parse.{ParsesUnsigned, digits_value, without_leading_plus}
+use Rattle.std.specs.Option.{IfSome, is_some}
+use Rattle.clap.specs.Words.{IsUnsignedIn, ReadsOne, Text}
+use Rattle.clap.specs.declared.builder.value_parser.ValueParser.TheVariants as parser
+use Rattle.clap.proofs.ValueTestLemmas.{Accepts-accepts}
+use Rattle.command_line.specs.Lines.{number_in}
+use Rattle.command_line.specs.Reading.{IsPassed}
+
+some_is_not_none : {X : Type 0} (x : X) (o : Option X) → o ≡ Some x → o ≡ None → ⊥
+some_is_not_none x o some none = true≢false (ap is_some (sym some ∙ none))
+
+-- the number of a text that was let pass
+pub passed_number : (most : ℕ) (text : Text) → IsUnsignedIn 1 most text → number_in most (Some text) ≡ Some (digits_value 10 (without_leading_plus text))
+passed_number most text passed =
+    ap (λ b. cond b (Some (digits_value 10 (without_leading_plus text))) None) (Accepts-accepts false (parser.Unsigned 1 most) text passed)
+
+-- the number that was read of a text is the one that the text writes
+pub number_found : {E : Type 0} (G : Text → Result ℕ E → Type 0) → ((t : Text) (r : Result ℕ E) → G t r → ParsesUnsigned 64 10 t r)
+    → (most : ℕ) (text : Option Text) (read : Option ℕ) → (text ≡ None → read ≡ None) → ((t : Text) → text ≡ Some t → ReadsOne G t read) → IsPassed most text
+    → read ≡ number_in most text
+number_found G only most None read none value passed = none refl
+number_found G only most (Some t) None none value passed =
+    let e = value t refl in
+    absurd (only t (Err e.0) e.1 (passed.0, passed.1))
+number_found G only most (Some t) (Some n) none value passed = ap Some (only t (Ok n) (value t refl)).1 ∙ sym (passed_number most t passed)
+
+-- it is in its range
+pub number_range : (most : ℕ) (text : Option Text) (read : Option ℕ) → read ≡ number_in most text → IsPassed most text
+    → IfSome read (λ number. (1 ≤ number) × (number ≤ most))
+number_range most None read is passed = subst (λ r. IfSome r (λ number. (1 ≤ number) × (number ≤ most))) (sym is) tt
+number_range most (Some t) read is passed =
+    subst (λ r. IfSome r (λ number. (1 ≤ number) × (number ≤ most))) (sym (is ∙ passed_number most t passed)) (passed.2, passed.3)
+
+-- nothing was found that the parser did not let pass
+pub passed_if : (most : ℕ) (text : Option Text) → ((t : Text) → text ≡ Some t → IsUnsignedIn 1 most t) → IsPassed most text
+passed_if most None each = tt
+passed_if most (Some t) each = each t refl

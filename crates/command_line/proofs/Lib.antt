@@ -1,0 +1,5 @@
+pub mod Found
+pub mod Parsed
+pub mod Walks
+pub mod Taken
+pub mod Ranges

@@ -1,0 +1,117 @@
+// The words of a command.
+
+ghost use Rattle.std.specs.Prelude.{◌≡◌, ◌≢◌, ◌≤◌, IfOk, IfSome, IsErrOf, codes, option_map};
+ghost use Rattle.clap.specs.Words.{first_of, found_of, kind_of, one_of, rows_of};
+ghost use Rattle.command_line.specs.Lines.{IsLine, IsRefused, line_in, number_in, texts};
+ghost use Rattle.command_line.specs.Reading.{IsPassed, line_of};
+
+use crate::command::wasabi;
+use clap::error::ErrorKind;
+use clap::{ArgMatches, Error};
+use std::alloc::{AllocError, Global};
+
+/// What the words of a command ask for.
+#[derive(Clone, Copy)]
+pub struct Line<'w> {
+    /// The first word behind the program's name that is no option.
+    pub mode: &'w str,
+    /// The second such word.
+    pub subject: &'w str,
+    /// `--out`, the name that the output gets.
+    pub out: Option<&'w str>,
+    /// `--info`, the name of the information.
+    pub info: Option<&'w str>,
+    /// `--script`, the name of the script.
+    pub script: Option<&'w str>,
+    /// `--hooks`, a list of groups, `all` where it is not given.
+    pub hooks: &'w str,
+    /// `--reports`, a list of kinds of reports, `all` where it is not given.
+    pub reports: &'w str,
+    /// `--jobs`, how many threads may work, 1 to 64, 1 where it is not given.
+    pub jobs: u64,
+    /// `--max-output`, how many bytes the output may have, 1 to 268,435,456, which it is where it is not given.
+    pub max_output: u64,
+}
+
+/// Why no line could be read.
+#[derive(Clone, Copy, Debug, PartialEq, Eq)]
+pub enum LineFault {
+    /// The words are not taken; a request for help is not either.
+    Refused,
+    /// There was no memory.
+    NoMemory,
+}
+
+impl From<AllocError> for LineFault {
+    ghost use Rattle.command_line.specs.declared.words.LineFault.{LineFault};
+
+    ghost from_gives = { λ error fault. fault ≡ LineFault.NoMemory };
+
+    fn from(_error: AllocError) -> LineFault {
+        LineFault::NoMemory
+    }
+}
+
+/// Reads the words of a command, of which the first is the program's name.
+///
+/// `Refused` comes exactly where the words ask for nothing, and `NoMemory` where there is no memory.
+pub fn read_line(alloc: Global, words: &[String]) -> Result<Line<'_>, LineFault>
+    ensures line { IfOk result (λ line. IsLine (texts words.now) (line_of line)) }
+    ensures jobs { IfOk result (λ line. (1 ≤ line.jobs) × (line.jobs ≤ 64)) }
+    ensures bound { IfOk result (λ line. (1 ≤ line.max_output) × (line.max_output ≤ 268435456)) }
+    ensures refused { IsErrOf result LineFault.Refused → IsRefused (texts words.now) }
+{
+    let found = match wasabi(alloc)?.try_get_matches_from(words) {
+        Ok(found) => found,
+        Err(error) => return Err(fault_of(&error)),
+    };
+    line_in(&found).ok_or(LineFault::Refused)
+}
+
+// Whether memory ran out, or the words were refused.
+fn fault_of(error: &Error) -> LineFault
+    ensures { result ≡ LineFault.Refused → kind_of error.now ≢ ErrorKind.OutOfMemory }
+{
+    if error.kind() == ErrorKind::OutOfMemory {
+        LineFault::NoMemory
+    } else {
+        LineFault::Refused
+    }
+}
+
+// The line in what the parser found.
+fn line_in<'w>(found: &ArgMatches<'w>) -> Option<Line<'w>>
+    requires jobs { IsPassed 64 (one_of (codes "jobs") (rows_of (found_of found.now))) }
+    requires most { IsPassed 268435456 (one_of (codes "max-output") (rows_of (found_of found.now))) }
+    ensures line { option_map line_of result ≡ line_in (rows_of (found_of found.now)) }
+    ensures jobs { IfSome result (λ line. (1 ≤ line.jobs) × (line.jobs ≤ 64)) }
+    ensures bound { IfSome result (λ line. (1 ≤ line.max_output) × (line.max_output ≤ 268435456)) }
+{
+    Some(Line {
+        mode: text_in(found, "mode")?,
+        subject: text_in(found, "subject")?,
+        out: text_in(found, "out"),
+        info: text_in(found, "info"),
+        script: text_in(found, "script"),
+        hooks: text_in(found, "hooks")?,
+        reports: text_in(found, "reports")?,
+        jobs: number_in(found, "jobs", 64)?,
+        max_output: number_in(found, "max-output", 268_435_456)?,
+    })
+}
+
+// The text under an id.
+fn text_in<'w>(found: &ArgMatches<'w>, id: &str) -> Option<&'w str>
+    ensures { option_map (λ text. text.now) result ≡ first_of id.now (rows_of (found_of found.now)) }
+{
+    found.get_str(id)
+}
+
+// The number under an id, which the parser let pass where it is from 1 to `most`.
+fn number_in(found: &ArgMatches<'_>, id: &str, most: u64) -> Option<u64>
+    requires { IsPassed most (one_of id.now (rows_of (found_of found.now))) }
+    ensures number { result ≡ number_in most (one_of id.now (rows_of (found_of found.now))) }
+    ensures range { IfSome result (λ number. (1 ≤ number) × (number ≤ most)) }
+{
+    found.get_one::<u64>(id)
+}
