@@ -11,9 +11,11 @@ TOKEN = re.compile(r"[^\s(){};,.λ\[\]∷]+")
 def specs():
     for crate in sorted(os.listdir(f"{top}/crates")):
         folder = f"{top}/crates/{crate}/specs"
-        for name in sorted(os.listdir(folder)) if os.path.isdir(folder) else []:
-            if name.endswith(".antt") and name != "Lib.antt":
-                yield crate, name[:-5], open(f"{folder}/{name}", encoding="utf-8").read()
+        for place, _, names in sorted(os.walk(folder)):
+            for name in sorted(names):
+                if name.endswith(".antt") and name != "Lib.antt":
+                    file = os.path.relpath(f"{place}/{name}", folder)[:-5].replace("/", ".")
+                    yield crate, file, open(f"{place}/{name}", encoding="utf-8").read()
 
 def imports_of(text):
     names = {}
@@ -21,8 +23,10 @@ def imports_of(text):
         for item in match[3].split(","):
             parts = item.split()
             if parts:  # a constructor stands for its type
-                file, _, of = match[2].partition(".")
-                names[parts[-1]] = (match[1], file, of or parts[0])
+                file, of = match[2], parts[0]
+                if not os.path.exists(f"{top}/crates/{match[1]}/specs/{file.replace('.', '/')}.antt"):
+                    file, _, of = match[2].rpartition(".")
+                names[parts[-1]] = (match[1], file, of)
     aliases = {m[3]: (m[1], m[2]) for m in re.finditer(r"^\s*(?:ghost )?use Rattle\.(\w+)\.specs\.([\w.]+) as (\w+)", text, re.M)}
     return names, aliases
 
@@ -83,7 +87,7 @@ def main():
     out, seen, inner = [], {True: set(), False: set()}, False
     texts = {}
     for line in lines:
-        m = re.match(r"\| `(\w+)` `(\w+)` \| (.*?) \| (.*?) \| (.*) \|$", line)
+        m = re.match(r"\| `(\w+)` `([\w.]+)` \| (.*?) \| (.*?) \| (.*) \|$", line)
         if m:
             texts.setdefault((m[1], m[2]), (m[3], m[4]))
     def row(crate, file, inner):
@@ -96,7 +100,7 @@ def main():
         words = re.split(r"(?<=[a-z0-9])\. ", words)[0].rstrip(".")
         return words[:1].lower() + words[1:]
     files = list(dict.fromkeys((c, f) for (c, f, n) in definitions))
-    rows = [(i, re.match(r"\| `(\w+)` `(\w+)` \|", l)) for i, l in enumerate(lines)]
+    rows = [(i, re.match(r"\| `(\w+)` `([\w.]+)` \|", l)) for i, l in enumerate(lines)]
     middle = next(i for i, l in enumerate(lines) if l.startswith("## Inner"))
     for is_inner in (False, True):
         listed = {(m[1], m[2]) for i, m in rows if m and (i > middle) == is_inner}
@@ -109,7 +113,7 @@ def main():
     inner = False
     for line in "\n".join(lines).split("\n"):
         inner = inner or line.startswith("## Inner")
-        m = re.match(r"\| `(\w+)` `(\w+)` \|", line)
+        m = re.match(r"\| `(\w+)` `([\w.]+)` \|", line)
         if m:
             line = row(m[1], m[2], inner)
             if line is None:

@@ -6,9 +6,10 @@ use Rattle.wasm_run.specs.Running.{Run}
 use Rattle.wasm_run.specs.Turns.{after_turn}
 use Rattle.static_info.specs.declared.Info.{Info}
 use Rattle.analyses.specs.Tools.{ToolState}
-use Rattle.wasabi_app.specs.declared.kinds.Kinds.{Kinds}
+use Rattle.app_plan.specs.declared.kinds.Kinds.{Kinds}
 use Rattle.wasabi_app.specs.declared.feeding.Tally.{Tally}
-use Rattle.wasabi_app.specs.Feeding.{turn_events, fed, tallied}
+use Rattle.wasabi_app.specs.Feeding.{turn_events, tallied}
+use Rattle.app_plan.specs.Feeding.{fed}
 use Rattle.wasabi_app.proofs.Fed.{none_fed}
 
 pub same_module : (turn : Turn) (old new : Run) → turn ≡ Ran → new ≡ after_turn turn old → new.module ≡ old.module

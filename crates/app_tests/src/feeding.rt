@@ -5,7 +5,7 @@ ghost use Rattle.wasm_sem.specs.Link.{IsScriptInRange};
 ghost use Rattle.static_info.specs.Belongs.{Belongs};
 ghost use Rattle.static_info.specs.Form.{IsWellFormed};
 ghost use Rattle.analyses.specs.Tools.{ToolState};
-ghost use Rattle.wasabi_app.specs.Feeding.{fresh_tools};
+ghost use Rattle.app_plan.specs.Feeding.{fresh_tools};
 
 use crate::commands::{CALL, fails_of, status_of, taken_by};
 use analyses::{Analysis, Blocks, Branches, CallGraph, Kind, MemoryUse};
@@ -16,7 +16,8 @@ use static_info::{Info, belongs, from_json};
 use std::alloc::{AllocError, Global};
 use std::test;
 use std::thread::Threads;
-use wasabi_app::{Kinds, Tally, feed};
+use app_plan::Kinds;
+use wasabi_app::{Tally, feed};
 use wasm_decode::decode;
 use wasm_sem::{Script, Turn};
 use wasm_valid::{ValidModule, validate};

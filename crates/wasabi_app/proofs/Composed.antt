@@ -23,14 +23,14 @@ use Rattle.instrument.specs.Shell.{Shell}
 use Rattle.instrument.proofs.Reports as runs
 use Rattle.wasabi_app.specs.Composing.{selected_events, ReportsOriginal, SameRunsReport, OutputsReport}
 use Rattle.wasabi_app.specs.Reporting.{events_told, reports_text}
-use Rattle.wasabi_app.proofs.Files.{one_module}
-use Rattle.wasabi_app.proofs.Infos.{one_info}
+use Rattle.app_plan.proofs.Files.{one_module}
+use Rattle.app_plan.proofs.Infos.{one_info}
 
 -- the table of a moment
 slots_of_env : (c : Configuration) → slots_in c ≡ (env_in c).store.slots
 slots_of_env (configuration e frames) = refl
 
-same_events : (m : Module) (hooks : Hooks) (o : Module) (s : Script) (k : ℕ) → events_in (told_so_far m hooks o s k) ≡ events_told (info_of m hooks) o s k
+pub same_events : (m : Module) (hooks : Hooks) (o : Module) (s : Script) (k : ℕ) → events_in (told_so_far m hooks o s k) ≡ events_told (info_of m hooks) o s k
 same_events m hooks o s k = ap (λ slots. events_in (read (info_of m hooks) slots (trace_of o s k))) (sym (slots_of_env (run_of o s k)))
 
 pub same_runs_report : SameRunsReport
@@ -76,7 +76,7 @@ imports_own (i ∷ is) free =
     first_own i is i.item refl (All-head P i is free) (imports_own is (All-tail P i is free))
 
 -- the hooks stand behind the original's functions
-shell_belongs : (m : Module) (hooks : Hooks) (o : Module) → IsFree m → Shell m hooks o → Belongs (info_of m hooks) o
+pub shell_belongs : (m : Module) (hooks : Hooks) (o : Module) → IsFree m → Shell m hooks o → Belongs (info_of m hooks) o
 shell_belongs m hooks o free shell = record {
   own = func_imports m.imports;
   rest = func_imports shell.new_imports;

@@ -7,10 +7,11 @@ use Rattle.hook_select.specs.declared.Event.{Event}
 use Rattle.hook_select.specs.Events.{group_of}
 use Rattle.analyses.specs.Book.{rows_after}
 use Rattle.analyses.specs.Tools.{ToolState, state_after}
-use Rattle.wasabi_app.specs.declared.kinds.Kinds.{Kinds}
+use Rattle.app_plan.specs.declared.kinds.Kinds.{Kinds}
 use Rattle.wasabi_app.specs.declared.feeding.Tally.{Tally}
-use Rattle.wasabi_app.specs.Kinds.{has_kind}
-use Rattle.wasabi_app.specs.Feeding.{fed_tool, fed, IsFedPart, AreFedPart, tally_of, tallied}
+use Rattle.app_plan.specs.Kinds.{has_kind}
+use Rattle.app_plan.specs.Feeding.{fed_tool, fed, IsFedPart, AreFedPart}
+use Rattle.wasabi_app.specs.Feeding.{tally_of, tallied}
 
 -- ---- one analysis
 

@@ -9,11 +9,11 @@ use Rattle.analyses.specs.declared.Row.{Row}
 use Rattle.analyses.specs.Book.{book, IsTagOf, HaveTags}
 use Rattle.analyses.proofs.Books.{takes_make_book, books_have_tags}
 use Rattle.analyses.specs.Tools.{ToolState, fresh_tool, state_after}
-use Rattle.wasabi_app.specs.declared.kinds.Kinds.{Kinds}
-use Rattle.wasabi_app.specs.Kinds.{has_kind, every_kind}
-use Rattle.wasabi_app.specs.Feeding.{fed_tool, fed, AreFedPart, fresh_tools, tally_of}
-use Rattle.wasabi_app.specs.Ends.{tool_report, tools_text}
-use Rattle.wasabi_app.specs.Reporting.{kind_report, reports_text}
+use Rattle.app_plan.specs.declared.kinds.Kinds.{Kinds}
+use Rattle.app_plan.specs.Kinds.{has_kind, every_kind}
+use Rattle.app_plan.specs.Feeding.{fed_tool, fed, AreFedPart, fresh_tools}
+use Rattle.wasabi_app.specs.Feeding.{tally_of}
+use Rattle.wasabi_app.specs.Reporting.{tool_report, tools_text, kind_report, reports_text}
 use Rattle.wasabi_app.proofs.Fed.{counts_after, book_after, so_many_after, fed_other, fed_takes, fewer}
 
 -- one that has taken events has their book

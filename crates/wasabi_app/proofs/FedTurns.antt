@@ -11,9 +11,10 @@ use Rattle.run_session.specs.Sessions.{session_turn, TakesTurn}
 use Rattle.static_info.specs.declared.Info.{Info}
 use Rattle.static_info.specs.Read.{numbers, read_hook}
 use Rattle.analyses.specs.Tools.{ToolState}
-use Rattle.wasabi_app.specs.declared.kinds.Kinds.{Kinds}
+use Rattle.app_plan.specs.declared.kinds.Kinds.{Kinds}
 use Rattle.wasabi_app.specs.declared.feeding.Tally.{Tally}
-use Rattle.wasabi_app.specs.Feeding.{turn_events, fed, tallied}
+use Rattle.wasabi_app.specs.Feeding.{turn_events, tallied}
+use Rattle.app_plan.specs.Feeding.{fed}
 use Rattle.wasabi_app.proofs.Fed.{none_fed}
 use Rattle.wasabi_app.proofs.ReportRuns.{same_slots}
 

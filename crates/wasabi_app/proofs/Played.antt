@@ -18,9 +18,10 @@ use Rattle.static_info.specs.declared.Info.{Info}
 use Rattle.static_info.specs.Form.{IsWellFormed}
 use Rattle.static_info.specs.Items.{read}
 use Rattle.analyses.specs.Tools.{ToolState}
-use Rattle.wasabi_app.specs.declared.kinds.Kinds.{Kinds}
+use Rattle.app_plan.specs.declared.kinds.Kinds.{Kinds}
 use Rattle.wasabi_app.specs.declared.feeding.Tally.{Tally}
-use Rattle.wasabi_app.specs.Feeding.{turn_events, fed, AreFedPart, fresh_tools, tally_of}
+use Rattle.wasabi_app.specs.Feeding.{turn_events, tally_of}
+use Rattle.app_plan.specs.Feeding.{fed, AreFedPart, fresh_tools}
 use Rattle.wasabi_app.specs.Reporting.{events_told}
 use Rattle.wasabi_app.proofs.FedReports.{fed_few, tally_few}
 use Rattle.wasabi_app.proofs.FewEvents.{turn_few}

@@ -10,7 +10,7 @@ use Rattle.module_ast.specs.Positions.{code_size, code_nesting}
 use Rattle.module_ast.specs.Limits.{IsWhole}
 use Rattle.module_ast.specs.Canonical.{body_bytes, items_bytes, sized_bytes}
 use Rattle.module_ast.proofs.Sizes.{body_counts, bodies_count, within_front, within_back, within_all}
-use Rattle.wasabi_app.specs.Files.{wide_file}
+use Rattle.app_plan.specs.Files.{wide_file}
 use Rattle.wasabi_app.specs.Texts.{instruction_count}
 
 -- bodies have no more positions than bytes with their sizes

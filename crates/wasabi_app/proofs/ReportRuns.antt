@@ -17,9 +17,10 @@ use Rattle.run_session.specs.Sessions.{session_turn}
 use Rattle.static_info.specs.declared.Info.{Info}
 use Rattle.static_info.specs.Items.{read}
 use Rattle.analyses.specs.Tools.{ToolState}
-use Rattle.wasabi_app.specs.declared.kinds.Kinds.{Kinds}
+use Rattle.app_plan.specs.declared.kinds.Kinds.{Kinds}
 use Rattle.wasabi_app.specs.declared.feeding.Tally.{Tally}
-use Rattle.wasabi_app.specs.Feeding.{turn_events, fed, AreFedPart, tally_of, tallied}
+use Rattle.wasabi_app.specs.Feeding.{turn_events, tally_of, tallied}
+use Rattle.app_plan.specs.Feeding.{fed, AreFedPart}
 use Rattle.wasabi_app.specs.Reporting.{events_told}
 use Rattle.wasabi_app.proofs.Fed.{all_then, parts_then, tally_then}
 use Rattle.wasabi_app.proofs.StepEvents.{call_told, events_next, slots_always}

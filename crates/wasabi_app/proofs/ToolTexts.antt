@@ -7,11 +7,10 @@ use Rattle.report.proofs.Pieces.{printed_then, printed_part_then, part_of_front}
 use Rattle.analyses.specs.declared.Kind.{Kind}
 use Rattle.analyses.specs.declared.Row.{Row}
 use Rattle.analyses.specs.Tools.{ToolState}
-use Rattle.wasabi_app.specs.declared.kinds.Kinds.{Kinds}
+use Rattle.app_plan.specs.declared.kinds.Kinds.{Kinds}
 use Rattle.wasabi_app.specs.declared.feeding.Tally.{Tally}
-use Rattle.wasabi_app.specs.Kinds.{has_kind}
-use Rattle.wasabi_app.specs.Ends.{tool_report, tools_text}
-use Rattle.wasabi_app.specs.Reporting.{wanted_report}
+use Rattle.app_plan.specs.Kinds.{has_kind}
+use Rattle.wasabi_app.specs.Reporting.{tool_report, tools_text, wanted_report}
 
 -- the report of these rows is that of the analysis
 pub wanted_is : (kinds : Kinds) (t : ToolState) (kind : Kind) (rows : List Row) → kind ≡ t.counts → rows ≡ t.book → has_kind kinds kind ≡ true

@@ -14,8 +14,8 @@ use Rattle.static_info.specs.Info.{info_of}
 use Rattle.static_info.specs.Json.{HoldInfo}
 use Rattle.instrument.specs.Accepted.{IsInstrumented}
 use Rattle.instrument.specs.Same.{IsPrefix, IsOver, SameRuns, shown_so_far}
-use Rattle.wasabi_app.specs.declared.kinds.Kinds.{Kinds}
-use Rattle.wasabi_app.specs.Files.{IsFit}
+use Rattle.app_plan.specs.declared.kinds.Kinds.{Kinds}
+use Rattle.app_plan.specs.Files.{IsFit}
 use Rattle.wasabi_app.specs.Reporting.{events_told, reports_text}
 
 -- the events of the selected groups that the original shows in so many steps

@@ -8,33 +8,15 @@ use Rattle.wasm_sem.specs.declared.Turn.TheVariants.{Ran, Hook, Over}
 use Rattle.static_info.specs.declared.Info.{Info}
 use Rattle.static_info.specs.Items.{read_call}
 use Rattle.analyses.specs.Tools.{ToolState, fresh_tool, state_after}
-use Rattle.wasabi_app.specs.declared.kinds.Kinds.{Kinds}
+use Rattle.app_plan.specs.declared.kinds.Kinds.{Kinds}
 use Rattle.wasabi_app.specs.declared.feeding.Tally.{Tally}
-use Rattle.wasabi_app.specs.Kinds.{every_kind, has_kind}
+use Rattle.app_plan.specs.Kinds.{every_kind, has_kind}
 
 -- the events that a turn tells: those of its hook call
 abbrev pub turn_events : Info → (slots : List (Option ℕ)) → Turn → List Event
 turn_events info slots (Hook h) = read_call info slots h
 turn_events info slots Ran = []
 turn_events info slots Over = []
-
--- an analysis of a picked kind takes these events; another stays
-abbrev pub fed_tool : Kinds → List Event → ToolState → ToolState
-fed_tool kinds es tool = cond (has_kind kinds tool.counts) (fold state_after tool es) tool
-
-abbrev pub fed : Kinds → List Event → List ToolState → List ToolState
-fed kinds es tools = map (fed_tool kinds es) tools
-
--- some of them, in order, from the first on
-abbrev pub IsFedPart : Kinds → List Event → (old new : ToolState) → Type 0
-IsFedPart kinds es old new = (front : List Event) × (rest : List Event) × (es ≡ front ++ rest) × (new ≡ fed_tool kinds front old)
-
-abbrev pub AreFedPart : Kinds → List Event → (old new : List ToolState) → Type 0
-AreFedPart kinds es old new = AllZip (IsFedPart kinds es) old new
-
--- one fresh analysis of each kind, in order
-abbrev pub fresh_tools : List ToolState
-fresh_tools = map fresh_tool every_kind
 
 -- how many events that are no strays, and how many strays
 abbrev pub tally_of : List Event → Tally

@@ -1,5 +1,5 @@
 -- What a report tells: the events that a run's hook calls read as, and their books.
-use Rattle.std.specs.Prelude.{ℕ, List, [], ◌++◌, flat_map, cond}
+use Rattle.std.specs.Prelude.{ℕ, List, [], ◌++◌, flat_map, filter, cond}
 use Rattle.module_ast.specs.declared.module.Module.{Module}
 use Rattle.hook_select.specs.declared.Event.{Event}
 use Rattle.wasm_sem.specs.declared.Script.{Script}
@@ -12,9 +12,10 @@ use Rattle.static_info.specs.Items.{read}
 use Rattle.analyses.specs.declared.Kind.{Kind}
 use Rattle.analyses.specs.Book.{book}
 use Rattle.analyses.specs.Tools.{ToolState}
-use Rattle.report.specs.Text.{report_text, events_line}
-use Rattle.wasabi_app.specs.declared.kinds.Kinds.{Kinds}
-use Rattle.wasabi_app.specs.Kinds.{has_kind, kinds_in}
+use Rattle.report.specs.Text.{report_text, events_line, events_text}
+use Rattle.wasabi_app.specs.declared.feeding.Tally.{Tally}
+use Rattle.app_plan.specs.declared.kinds.Kinds.{Kinds}
+use Rattle.app_plan.specs.Kinds.{has_kind, kinds_in}
 
 -- the events that the first steps of a run tell, read with the information and the slots of the run's table
 abbrev pub events_told : Info → Module → Script → (steps : ℕ) → List Event
@@ -31,3 +32,11 @@ reports_text kinds es = flat_map (kind_report es) (kinds_in kinds) ++ events_lin
 -- the report of an analysis, if its kind is wanted
 abbrev pub wanted_report : Kinds → ToolState → List ℕ
 wanted_report kinds tool = cond (has_kind kinds tool.counts) (report_text tool.counts tool.book) []
+
+-- the reports of picked analyses, and the number of events
+abbrev pub tool_report : ToolState → List ℕ
+tool_report tool = report_text tool.counts tool.book
+
+abbrev pub tools_text : Kinds → List ToolState → Tally → List ℕ
+tools_text kinds tools tally =
+    flat_map tool_report (filter (λ (t : ToolState). has_kind kinds t.counts) tools) ++ events_text tally.events tally.strays

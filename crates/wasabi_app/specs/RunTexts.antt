@@ -8,7 +8,7 @@ use Rattle.wasm_sem.specs.declared.Answer.{Answer}
 use Rattle.wasm_sem.specs.declared.Answer.TheVariants.{Returned, Trapped, Unfinished}
 use Rattle.wasm_sem.specs.Causes.{cause_of}
 use Rattle.wasm_sem.specs.Answers.{Summary}
-use Rattle.wasabi_app.specs.Texts.{concat_texts}
+use Rattle.app_plan.specs.Texts.{concat_texts}
 
 -- a value, as the unsigned number of its bits
 abbrev pub value_text : Value → List ℕ

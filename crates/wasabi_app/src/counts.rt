@@ -1,15 +1,76 @@
 // How many of each thing a module has.
 
-ghost use Rattle.std.specs.Prelude.{◌≡◌, ◌+◌, ◌≤◌, All};
+ghost use Rattle.std.specs.Prelude.{◌≡◌, ◌+◌, ◌≤◌, All, IfOk, string_bytes};
 ghost use Rattle.module_ast.specs.Limits.{IsWhole};
 ghost use Rattle.module_ast.specs.Positions.{code_nesting};
-ghost use Rattle.wasabi_app.specs.Files.{wide_file};
-ghost use Rattle.wasabi_app.specs.Reading.{counts_in};
-ghost use Rattle.wasabi_app.specs.Texts.{counts_of, instruction_count};
+ghost use Rattle.app_plan.specs.Files.{wide_file};
+ghost use Rattle.wasabi_app.specs.Texts.{counts_in, counts_of, instruction_count, ok_text};
 
-use crate::lines::Counts;
 use module_ast::counts::positions;
 use module_ast::module::{Body, Module};
+use std::alloc::{AllocError, Global};
+
+/// How many of each thing a module has; of functions, tables, memories and globals, those that it defines itself.
+#[derive(Clone, Copy)]
+pub(crate) struct Counts {
+    pub(crate) types: usize,
+    pub(crate) imports: usize,
+    pub(crate) functions: usize,
+    pub(crate) tables: usize,
+    pub(crate) memories: usize,
+    pub(crate) globals: usize,
+    pub(crate) exports: usize,
+    pub(crate) elements: usize,
+    pub(crate) segments: usize,
+    pub(crate) instructions: u64,
+}
+
+impl Counts {
+    ghost use Rattle.wasabi_app.specs.Texts.{first_counts_text, last_counts_text, counts_in};
+
+    // The first half of the line.
+    fn first_half(&self, alloc: Global) -> Result<String, AllocError>
+        ensures { IfOk result (λ text. string_bytes text ≡ first_counts_text (counts_in self.now)) }
+    {
+        let Counts {
+            types,
+            imports,
+            functions,
+            tables,
+            memories,
+            ..
+        } = *self;
+        format!(in alloc;
+            "ok types {types} imports {imports} functions {functions} tables {tables} memories {memories}"
+        )
+    }
+
+    // The second half of the line.
+    fn second_half(&self, alloc: Global) -> Result<String, AllocError>
+        ensures { IfOk result (λ text. string_bytes text ≡ last_counts_text (counts_in self.now)) }
+    {
+        let Counts {
+            globals,
+            exports,
+            elements,
+            segments,
+            instructions,
+            ..
+        } = *self;
+        format!(in alloc;
+            " globals {globals} exports {exports} elements {elements} segments {segments} instructions {instructions}\n"
+        )
+    }
+
+    /// The line that tells them.
+    pub(crate) fn line(&self, alloc: Global) -> Result<String, AllocError>
+        ensures { IfOk result (λ line. string_bytes line ≡ ok_text (counts_in self.now)) }
+    {
+        let first = self.first_half(alloc)?;
+        let second = self.second_half(alloc)?;
+        format!(in alloc; "{first}{second}")
+    }
+}
 
 /// The counts of a module.
 pub(crate) fn count(m: &Module) -> Counts

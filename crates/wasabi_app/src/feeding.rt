@@ -8,11 +8,12 @@ ghost use Rattle.run_session.specs.Sessions.{session_turn};
 ghost use Rattle.static_info.specs.Form.{IsWellFormed};
 ghost use Rattle.static_info.specs.Belongs.{Belongs};
 ghost use Rattle.analyses.specs.Tools.{ToolState, state_after};
-ghost use Rattle.wasabi_app.specs.Kinds.{has_kind};
-ghost use Rattle.wasabi_app.specs.Feeding.{turn_events, fed_tool, fed, IsFedPart, AreFedPart, tallied};
+ghost use Rattle.app_plan.specs.Kinds.{has_kind};
+ghost use Rattle.wasabi_app.specs.Feeding.{turn_events, tallied};
+ghost use Rattle.app_plan.specs.Feeding.{fed_tool, fed, IsFedPart, AreFedPart};
 
-use crate::kinds::Kinds;
 use analyses::Analysis;
+use app_plan::Kinds;
 use hook_events::read_hook;
 use hook_select::Event;
 use run_session::Session;

@@ -1,6 +1,15 @@
-// What reports tell of the original.
+// What follows from the definitions.
 
-ghost use Rattle.wasabi_app.specs.Composing.{SameRunsReport, OutputsReport};
+ghost use Rattle.wasabi_app.specs.Composing.{OutputsReport, SameRunsReport};
+ghost use Rattle.wasabi_app.specs.Laws.{OneWrites, SomeFeed, SomeMake};
+
+/// What holds of some modes alone: which of them write, which give events to the analyses, and which refuse an output. Each
+/// mode stands in the proof with what it does; a new one adds a line.
+pub fn modes_alone()
+    ensures writes { OneWrites }
+    ensures feed { SomeFeed }
+    ensures make { SomeMake }
+{}
 
 /// Where a module and one with hooks run alike under a script, the reports on the second, with the information on the first,
 /// are those on the first one's selected events, once its run is over. Before, its events are the first of these. None is a

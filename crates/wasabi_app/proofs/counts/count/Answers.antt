@@ -2,7 +2,7 @@
 use Rattle.std.proofs.Common.{◌≤◌, All, subst, sym}
 use Rattle.module_ast.specs.declared.module.Body.{Body}
 use Rattle.module_ast.specs.Positions.{code_nesting}
-use Rattle.wasabi_app.specs.Files.{wide_file}
+use Rattle.app_plan.specs.Files.{wide_file}
 use Rattle.wasabi_app.specs.Texts.{instruction_count}
 use Rattle.wasabi_app.proofs.Positions.{few_positions, flat_bodies}
 use Rattle.wasabi_app.proofs.counts.count.Goals as goal

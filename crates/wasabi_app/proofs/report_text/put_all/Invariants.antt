@@ -1,5 +1,5 @@
 use Rattle.std.proofs.Common.{◌≤◌, ◌++◌, drop, map}
-use Rattle.wasabi_app.specs.Ends.{tools_text}
+use Rattle.wasabi_app.specs.Reporting.{tools_text}
 use Rattle.wasabi_app.proofs.ToolTexts.{PrintedButFor}
 use Rattle.wasabi_app.proofs.report_text.put_all.Given as goal
 

@@ -1,16 +1,16 @@
--- A subject that is not loaded, or what came of it and its script.
-use Rattle.std.proofs.Common.{refl, arith}
-use Rattle.std.proofs.lemmas.Result.{err_from_is_err_and}
-use Rattle.wasabi_app.specs.Ends.{unloaded}
-use Rattle.wasabi_app.proofs.RunOutputs.{run_reads}
+-- A script that is not given, or what came of the run.
+use Rattle.std.proofs.Common.{Bor, List, ℕ, ap, option_map, sym}
+use Rattle.app_plan.proofs.Going.{planned, unplanned}
+use Rattle.wasabi_app.specs.Modes.Run.{run_plan}
+use Rattle.wasabi_app.specs.Words.{given_of}
 use Rattle.wasabi_app.proofs.run_mode.run.Goals as goal
 
-pub returns-in_err-valid-clause-ended : goal.returns-in_err-valid-clause-ended
-returns-in_err-valid-clause-ended g c = λ words tools k.
-    let p = err_from_is_err_and c.from_residual.result c.from_residual.ensures.1 in
-    rw (p.1, p.2) (unloaded _ _ _ (run_reads k) (rw c.wide.ensures at c.in_err-valid.ensures.refused) c.in_err-valid.ensures.kept)
+pub returns-in-Some-clause-ended : goal.returns-in-Some-clause-ended
+returns-in-Some-clause-ended g c = λ tools.
+    planned (run_plan c.args.given.now.subject.now) (given_of c.args.given.now).script c.in-Some.script.now _ _ tools tools c.run_by.result
+    (sym (ap (option_map (λ (t : Bor (List ℕ)). t.now)) c.in-Some.is)) (c.run_by.ensures.ended tools)
 
-pub returns-clause-ended : goal.returns-clause-ended
-returns-clause-ended g c = λ words tools k.
-    c.run_module.ensures.ended words c.args.subject.now tools _ k (rw c.wide.ensures at c.in_ok-valid.ensures.ok)
-    (record { kept = c.load.ensures.kept; reads = c.load.ensures.read_count; writes = omega (arith, c.load.ensures.write_count) })
+pub returns-in-None-clause-ended : goal.returns-in-None-clause-ended
+returns-in-None-clause-ended g c = λ tools.
+    unplanned (run_plan c.args.given.now.subject.now) (given_of c.args.given.now).script _ tools c.bad_words.result
+    (sym (ap (option_map (λ (t : Bor (List ℕ)). t.now)) c.in-None.is)) c.bad_words.ensures

@@ -1,0 +1,25 @@
+-- Events that analyses take.
+use Rattle.std.specs.Prelude.{◌≡◌, List, ◌++◌, map, fold, cond}
+use Rattle.std.specs.List.{AllZip}
+use Rattle.hook_select.specs.declared.Event.{Event}
+use Rattle.analyses.specs.Tools.{ToolState, fresh_tool, state_after}
+use Rattle.app_plan.specs.declared.kinds.Kinds.{Kinds}
+use Rattle.app_plan.specs.Kinds.{every_kind, has_kind}
+
+-- an analysis of a picked kind takes these events; another stays
+abbrev pub fed_tool : Kinds → List Event → ToolState → ToolState
+fed_tool kinds es tool = cond (has_kind kinds tool.counts) (fold state_after tool es) tool
+
+abbrev pub fed : Kinds → List Event → List ToolState → List ToolState
+fed kinds es tools = map (fed_tool kinds es) tools
+
+-- some of them, in order, from the first on
+abbrev pub IsFedPart : Kinds → List Event → (old new : ToolState) → Type 0
+IsFedPart kinds es old new = (front : List Event) × (rest : List Event) × (es ≡ front ++ rest) × (new ≡ fed_tool kinds front old)
+
+abbrev pub AreFedPart : Kinds → List Event → (old new : List ToolState) → Type 0
+AreFedPart kinds es old new = AllZip (IsFedPart kinds es) old new
+
+-- one fresh analysis of each kind, in order
+abbrev pub fresh_tools : List ToolState
+fresh_tools = map fresh_tool every_kind

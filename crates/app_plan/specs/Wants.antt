@@ -1,0 +1,121 @@
+-- What the bytes under a name must be, and why they are not.
+use Rattle.std.specs.Prelude.{◌≡◌, ℕ, ◌≤◌, List, length, Option, Err}
+use Rattle.outside_io.specs.Outside.{Contents, Holds, Rose, IsMissing, IsTooLong}
+use Rattle.serde_json.specs.Data.{Data}
+use Rattle.module_ast.specs.declared.module.Limits.{Limits}
+use Rattle.module_ast.specs.declared.module.Module.{Module}
+use Rattle.module_ast.specs.declared.module.Which.{Which}
+use Rattle.module_ast.specs.Grammar.{IsFault}
+use Rattle.module_ast.specs.Decoding.{FileFloats, FileExceeds}
+use Rattle.module_ast.specs.Validity.{Rule, number_of, IsValid, IsFirstBroken, IsFirstInvalid}
+use Rattle.wasm_sem.specs.declared.Script.{Script}
+use Rattle.json_form.specs.Text.{IsText, IsNoText}
+use Rattle.run_session.specs.Script.{script_form}
+use Rattle.static_info.specs.declared.Info.{Info}
+use Rattle.static_info.specs.Json.{HoldInfo, HoldNoInfo}
+use Rattle.static_info.specs.Belongs.{Belongs}
+use Rattle.app_plan.specs.Files.{IsFit, IsNoModule, IsUnfit, IsInvalid, IsScript, IsNoScript, script_file, info_file}
+use Rattle.app_plan.specs.Printing.{ShelfState}
+use Rattle.app_plan.specs.Texts.{missing_text, too_long_text, unread_text, malformed_text, floats_text, limit_text, rule_text, body_text, not_json_text, wrong_script_text, info_not_json_text, not_info_text, foreign_text, no_memory_text}
+
+-- a valid module within limits, a script, or information that belongs to a module
+pub data Want : Type 0 where
+  a_module : Limits → Want
+  a_script : Want
+  info_on : Module → Want
+
+-- what is read
+abbrev pub Value : Want → Type 0
+Value (a_module limits) = Module
+Value a_script = Script
+Value (info_on m) = Info
+
+-- the bytes are this
+abbrev pub Spell : (want : Want) → (bytes : List ℕ) → Value want → Type 0
+Spell (a_module limits) bytes m = IsFit limits bytes m × IsValid m
+Spell a_script bytes s = IsScript bytes s
+Spell (info_on m) bytes info = HoldInfo bytes info × Belongs info m
+
+-- the bytes are no valid module within the limits, by the status
+pub data IsNoFile (limits : Limits) (bytes : List ℕ) : ℕ → Type 0 where
+  malformed : IsNoModule bytes → IsNoFile limits bytes 6
+  unfit : IsUnfit limits bytes → IsNoFile limits bytes 7
+  invalid : IsInvalid limits bytes → IsNoFile limits bytes 8
+
+-- they are no script
+pub data IsUnscripted (bytes : List ℕ) : ℕ → Type 0 where
+  unscripted : IsNoScript bytes → IsUnscripted bytes 10
+
+-- they are no information on the module: no JSON, no information, or that of another module
+pub data IsUninformed (m : Module) (bytes : List ℕ) : ℕ → Type 0 where
+  no_json : IsNoText bytes → IsUninformed m bytes 16
+  no_info : HoldNoInfo bytes → IsUninformed m bytes 16
+  of_another : (info : Info) → HoldInfo bytes info → ¬ Belongs info m → IsUninformed m bytes 16
+
+abbrev pub IsWrong : Want → (bytes : List ℕ) → (status : ℕ) → Type 0
+IsWrong (a_module limits) bytes status = IsNoFile limits bytes status
+IsWrong a_script bytes status = IsUnscripted bytes status
+IsWrong (info_on m) bytes status = IsUninformed m bytes status
+
+-- ---- the line that says why
+
+pub data RefutesFile (name : List ℕ) (limits : Limits) (bytes : List ℕ) : (status : ℕ) → (text : List ℕ) → Type 0 where
+  is_malformed : (section : ℕ) → IsFault bytes section → RefutesFile name limits bytes 6 (malformed_text name section)
+  has_floats : (section : ℕ) → FileFloats bytes section → RefutesFile name limits bytes 7 (floats_text name section)
+  over_limit : (which : Which) (value : ℕ) → FileExceeds limits bytes which value → RefutesFile name limits bytes 7 (limit_text name which value)
+  broken_rule : (m : Module) (rule : Rule) → IsFit limits bytes m → IsFirstBroken m rule → RefutesFile name limits bytes 8 (rule_text name (number_of rule))
+  invalid_body : (m : Module) (func : ℕ) → IsFit limits bytes m → IsFirstInvalid m func → RefutesFile name limits bytes 8 (body_text name func)
+
+pub data RefutesScript (bytes : List ℕ) : (status : ℕ) → (text : List ℕ) → Type 0 where
+  not_json : IsNoText bytes → RefutesScript bytes 10 not_json_text
+  wrong_script : (d : Data) (place : ℕ) → IsText bytes d → script_form d ≡ Err place → RefutesScript bytes 10 (wrong_script_text place)
+
+pub data RefutesInfo (m : Module) (bytes : List ℕ) : (status : ℕ) → (text : List ℕ) → Type 0 where
+  info_not_json : IsNoText bytes → RefutesInfo m bytes 16 info_not_json_text
+  not_info : HoldNoInfo bytes → RefutesInfo m bytes 16 not_info_text
+  foreign : (info : Info) → HoldInfo bytes info → ¬ Belongs info m → RefutesInfo m bytes 16 foreign_text
+
+abbrev pub Refutes : (name : List ℕ) → Want → (bytes : List ℕ) → (status : ℕ) → (text : List ℕ) → Type 0
+Refutes name (a_module limits) bytes status text = RefutesFile name limits bytes status text
+Refutes name a_script bytes status text = RefutesScript bytes status text
+Refutes name (info_on m) bytes status text = RefutesInfo m bytes status text
+
+-- ---- reads
+
+-- a name that is read: with at most so many bytes, and what these must be
+pub record Read : Type 0 where
+  pub name : List ℕ
+  pub cap : ℕ
+  pub want : Want
+
+abbrev pub read_as : (name : List ℕ) → (cap : ℕ) → Want → Read
+read_as name cap want = record { name = name; cap = cap; want = want }
+
+abbrev pub module_read : (name : List ℕ) → (cap : ℕ) → Limits → Read
+module_read name cap limits = read_as name cap (a_module limits)
+
+abbrev pub script_read : (name : List ℕ) → Read
+script_read name = read_as name script_file a_script
+
+abbrev pub info_read : (name : List ℕ) → Module → Read
+info_read name m = read_as name info_file (info_on m)
+
+-- where contents are told, the name has these bytes, which are no more than the cap
+pub record IsRead (held : Option Contents) (read : Read) (bytes : List ℕ) : Type 0 where
+  pub there : Holds held read.name bytes
+  pub short : length bytes ≤ read.cap
+
+-- and they are this
+pub record Gives (held : Option Contents) (read : Read) (value : Value read.want) : Type 0 where
+  pub bytes : List ℕ
+  pub read_well : IsRead held read bytes
+  pub spelled : Spell read.want bytes value
+
+-- nothing is read under the name that is what it must be
+pub data ReadCause (read : Read) (old new : ShelfState) : (status : ℕ) → (text : List ℕ) → Type 0 where
+  missing : IsMissing old.contents read.name old.reads new.reads → ReadCause read old new 3 (missing_text read.name)
+  too_long : (long : ℕ) → IsTooLong old.contents read.name read.cap long old.reads new.reads → ReadCause read old new 3 (too_long_text read.name long)
+  unread : Rose old.reads new.reads → ReadCause read old new 4 (unread_text read.name)
+  refuted : (bytes : List ℕ) (status : ℕ) (text : List ℕ) → IsRead old.contents read bytes → Refutes read.name read.want bytes status text
+      → ReadCause read old new status text
+  unread_no_memory : ReadCause read old new 14 no_memory_text

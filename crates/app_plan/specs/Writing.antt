@@ -1,0 +1,28 @@
+-- The writing of files, one after the other.
+use Rattle.std.specs.Prelude.{ℕ, ◌≤◌, ◌⊎◌, List, [], ◌∷◌, Option}
+use Rattle.outside_io.specs.Outside.{Contents, Rose, Unchanged, Wrote, WrotePart}
+use Rattle.app_plan.specs.Printing.{ShelfState}
+use Rattle.app_plan.specs.Texts.{unwritten_text, no_memory_text}
+use Rattle.app_plan.specs.Plans.{File}
+
+-- why bytes could not be written under a name, with the status and the line
+pub data PutCause (name bytes : List ℕ) (old new : ShelfState) : (status : ℕ) → (text : List ℕ) → Type 0 where
+  put_failed : Rose old.writes new.writes → WrotePart name bytes old.contents new.contents → PutCause name bytes old new 5 (unwritten_text name)
+  put_no_memory : WrotePart name bytes old.contents new.contents → PutCause name bytes old new 14 no_memory_text
+
+-- each stands under its name, in order; all else is as before
+abbrev pub WroteAll : List File → (old new : Option Contents) → Type 0
+WroteAll [] old new = Unchanged old new
+WroteAll (f ∷ fs) old new = (mid : Option Contents) × Wrote f.name f.bytes old mid × WroteAll fs mid new
+
+-- the first of them stand, and the next one's name is as before or has a prefix of its bytes
+abbrev pub WroteSome : List File → (old new : Option Contents) → Type 0
+WroteSome [] old new = Unchanged old new
+WroteSome (f ∷ fs) old new = WrotePart f.name f.bytes old new ⊎ ((mid : Option Contents) × Wrote f.name f.bytes old mid × WroteSome fs mid new)
+
+-- why one of them could not be written
+abbrev pub FilesCause : List File → (old new : ShelfState) → (status : ℕ) → (text : List ℕ) → Type 0
+FilesCause [] old new status text = ⊥
+FilesCause (f ∷ fs) old new status text =
+    PutCause f.name f.bytes old new status text
+    ⊎ ((mid : ShelfState) × Wrote f.name f.bytes old.contents mid.contents × (old.writes ≤ mid.writes) × FilesCause fs mid new status text)

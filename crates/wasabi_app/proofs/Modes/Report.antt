@@ -1,0 +1,17 @@
+-- What holds of the endings of the mode `report`.
+use Rattle.std.proofs.Common.{refl, IfSome}
+use Rattle.app_plan.specs.Plans.{does, ends}
+use Rattle.wasabi_app.specs.Words.{Given}
+use Rattle.wasabi_app.specs.Modes.Report.{report_effect, report_plan, report_line, report_mode}
+use Rattle.app_plan.proofs.Within.{Within, WritesNone, MakesNone, mapped_within}
+use Rattle.wasabi_app.proofs.Linked.{writes_plain, makes_plain, played_within}
+
+pub report_writes_none : (g : Given) → IfSome (report_mode.plan g) (Within WritesNone)
+report_writes_none g =
+    mapped_within WritesNone report_plan (report_line g)
+    (λ line m info s. played_within WritesNone m s (ends (does (report_effect line.kinds m info s))) writes_plain refl)
+
+pub report_makes_none : (g : Given) → IfSome (report_mode.plan g) (Within MakesNone)
+report_makes_none g =
+    mapped_within MakesNone report_plan (report_line g)
+    (λ line m info s. played_within MakesNone m s (ends (does (report_effect line.kinds m info s))) makes_plain tt)

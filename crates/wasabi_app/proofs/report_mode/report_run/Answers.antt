@@ -1,0 +1,27 @@
+-- A module and a script that do not link, or that were run.
+use Rattle.wasabi_app.proofs.Linked.{fault_within}
+use Rattle.wasabi_app.proofs.Reporting.{fed_tagged, was_reported, not_reported}
+use Rattle.wasabi_app.proofs.report_mode.report_run.Goals as goal
+
+pub told-requires : goal.told-requires
+told-requires g c = record { tags = fed_tagged c.args.kinds c.args.info.now c.args.m.now c.args.script _ _ c.requires.fresh c.in-Ok.ensures.fed }
+
+pub unlinked-requires : goal.unlinked-requires
+unlinked-requires g c = λ call e. fault_within c.args.m.now c.args.script _ call c.in-Err.ensures.refused e
+
+pub returns-in-Ok : goal.returns-in-Ok
+returns-in-Ok g c = record { ended = λ at.
+    was_reported c.args.kinds c.args.m.now c.args.info.now c.args.script _ c.in-Ok.played.tally _ _ at c.told.result
+    (record {
+      links = c.in-Ok.ensures.links;
+      ended = c.in-Ok.ensures.ended;
+      counted = c.in-Ok.ensures.counted;
+      taken = c.in-Ok.ensures.fed;
+      fresh = c.requires.fresh;
+    })
+    c.told.ensures.status c.told.ensures.text c.told.ensures.no_memory }
+
+pub returns-in-Err : goal.returns-in-Err
+returns-in-Err g c = record { ended = λ at.
+    not_reported c.args.kinds c.args.m.now c.args.info.now c.args.script c.in-Err.fault _ _ at c.unlinked.result c.in-Err.ensures.refused
+    c.unlinked.ensures c.in-Err.ensures.stands }
