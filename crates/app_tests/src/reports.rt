@@ -92,26 +92,15 @@ fn try_report<R: Threads + Sync + Abort>(
     Ok(())
 }
 
+// All that is told is printed by one call.
 #[test]
 fn the_sink_fails_at_each_print(rt: HostRuntime) -> Result<(), test::Fail> {
     let alloc = rt.alloc();
     let mut shelf = shelf_of(&rt, alloc, None)?;
     try_report(&rt, alloc, &mut shelf, None, 0, WHOLE)?;
-    for (call, printed) in [
-        (0, "ca"),
-        (1, "call 0 f: ok\npages 0\nhost 0\nre"),
-        (2, "call 0 f: ok\npages 0\nhost 0\nreport blocks 1\nbl"),
-        (
-            3,
-            "call 0 f: ok\npages 0\nhost 0\nreport blocks 1\nblock 0:-1 function 1\nre",
-        ),
-        (
-            4,
-            "call 0 f: ok\npages 0\nhost 0\nreport blocks 1\nblock 0:-1 function 1\nreport calls 0\nev",
-        ),
-    ] {
+    for (call, status, printed) in [(0, 15, "ca"), (1, 0, WHOLE)] {
         let fail = Some(Fail { call, kept: 2 });
-        try_report(&rt, alloc, &mut shelf, fail, 15, printed)?;
+        try_report(&rt, alloc, &mut shelf, fail, status, printed)?;
     }
     Ok(())
 }
