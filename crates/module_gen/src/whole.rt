@@ -196,7 +196,6 @@ fn elements(alloc: Global, count: u32) -> Result<Vec<Element>, AllocError>
 }
 
 // The functions in the table.
-#[tactic(auto, using(crate::proofs::Steps::numbers_more))]
 fn slots(alloc: Global, count: u32) -> Result<Element, AllocError>
     requires { count < 50000 }
     ensures { IfOk result (λ element. element ≡ slots count) }
