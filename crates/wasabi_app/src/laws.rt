@@ -1,14 +1,14 @@
 // What follows from the definitions.
 
 ghost use Rattle.wasabi_app.specs.Composing.{OutputsReport, SameRunsReport};
-ghost use Rattle.wasabi_app.specs.Laws.{OneWrites, SomeFeed, SomeMake};
+ghost use Rattle.wasabi_app.specs.Laws.{OneWrites, OneFeeds, OneMakes};
 
 /// What holds of some modes alone: which of them write, which give events to the analyses, and which refuse an output. Each
 /// mode stands in the proof with what it does; a new one adds a line.
 pub fn modes_alone()
     ensures writes { OneWrites }
-    ensures feed { SomeFeed }
-    ensures make { SomeMake }
+    ensures feed { OneFeeds }
+    ensures make { OneMakes }
 {}
 
 /// Where a module and one with hooks run alike under a script, the reports on the second, with the information on the first,
