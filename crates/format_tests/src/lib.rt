@@ -12,4 +12,6 @@ mod encoding;
 #[cfg(test)]
 mod files;
 #[cfg(test)]
+mod making;
+#[cfg(test)]
 mod typing;
