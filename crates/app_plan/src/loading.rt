@@ -61,11 +61,7 @@ pub fn load<R: Threads + Sync, S: Shelf>(
 }
 
 /// The script that stands under a name, of at most 16,777,216 bytes. No name is changed.
-pub fn load_script<S: Shelf>(
-    alloc: Global,
-    name: &str,
-    shelf: &mut S,
-) -> Result<Script, Refusal>
+pub fn load_script<S: Shelf>(alloc: Global, name: &str, shelf: &mut S) -> Result<Script, Refusal>
     ensures ok { IfOk result (λ s. Gives (S.contents shelf.old) (script_read name.now) s) }
     ensures range { IfOk result IsScriptInRange }
     ensures refused { IfErr result (λ r. RefusedBy (script_read name.now)

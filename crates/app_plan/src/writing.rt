@@ -12,12 +12,7 @@ use outside_io::{Shelf, WriteFault};
 use std::alloc::{AllocError, Global};
 
 /// Writes bytes under a name, in place of what stood there.
-pub fn put<S: Shelf>(
-    alloc: Global,
-    name: &str,
-    bytes: &[u8],
-    shelf: &mut S,
-) -> Result<(), Refusal>
+pub fn put<S: Shelf>(alloc: Global, name: &str, bytes: &[u8], shelf: &mut S) -> Result<(), Refusal>
     ensures written { OnOk result (Wrote name.now bytes.now (S.contents shelf.old) (S.contents shelf.new)) }
     ensures refused { IfErr result (λ r. PutCause name.now bytes.now
         (shelf_state (S.contents shelf.old) (S.read_faults shelf.old) (S.write_faults shelf.old))

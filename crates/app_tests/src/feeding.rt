@@ -9,6 +9,7 @@ ghost use Rattle.app_plan.specs.Feeding.{fresh_tools};
 
 use crate::commands::{CALL, fails_of, status_of, taken_by};
 use analyses::{Analysis, Blocks, Branches, CallGraph, Kind, MemoryUse};
+use app_plan::Kinds;
 use module_ast::module::Limits;
 use outside_io::{MemoryShelf, MemorySink};
 use run_session::{Session, read_script};
@@ -16,7 +17,6 @@ use static_info::{Info, belongs, from_json};
 use std::alloc::{AllocError, Global};
 use std::test;
 use std::thread::Threads;
-use app_plan::Kinds;
 use wasabi_app::{Tally, feed};
 use wasm_decode::decode;
 use wasm_sem::{Script, Turn};

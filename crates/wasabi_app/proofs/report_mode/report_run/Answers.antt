@@ -10,18 +10,22 @@ pub unlinked-requires : goal.unlinked-requires
 unlinked-requires g c = λ call e. fault_within c.args.m.now c.args.script _ call c.in-Err.ensures.refused e
 
 pub returns-in-Ok : goal.returns-in-Ok
-returns-in-Ok g c = record { ended = λ at.
-    was_reported c.args.kinds c.args.m.now c.args.info.now c.args.script _ c.in-Ok.played.tally _ _ at c.told.result
-    (record {
-      links = c.in-Ok.ensures.links;
-      ended = c.in-Ok.ensures.ended;
-      counted = c.in-Ok.ensures.counted;
-      taken = c.in-Ok.ensures.fed;
-      fresh = c.requires.fresh;
-    })
-    c.told.ensures.status c.told.ensures.text c.told.ensures.no_memory }
+returns-in-Ok g c = record {
+  ended = λ at.
+      was_reported c.args.kinds c.args.m.now c.args.info.now c.args.script _ c.in-Ok.played.tally _ _ at c.told.result
+      (record {
+        links = c.in-Ok.ensures.links;
+        ended = c.in-Ok.ensures.ended;
+        counted = c.in-Ok.ensures.counted;
+        taken = c.in-Ok.ensures.fed;
+        fresh = c.requires.fresh;
+      })
+      c.told.ensures.status c.told.ensures.text c.told.ensures.no_memory;
+}
 
 pub returns-in-Err : goal.returns-in-Err
-returns-in-Err g c = record { ended = λ at.
-    not_reported c.args.kinds c.args.m.now c.args.info.now c.args.script c.in-Err.fault _ _ at c.unlinked.result c.in-Err.ensures.refused
-    c.unlinked.ensures c.in-Err.ensures.stands }
+returns-in-Err g c = record {
+  ended = λ at.
+      not_reported c.args.kinds c.args.m.now c.args.info.now c.args.script c.in-Err.fault _ _ at c.unlinked.result c.in-Err.ensures.refused
+      c.unlinked.ensures c.in-Err.ensures.stands;
+}
