@@ -1,13 +1,10 @@
 // The command line program `wasabi`: the files of the machine, its standard output, and the words it was started with.
 #![tactic(auto)]
 
-ghost use Rattle.std.specs.Prelude.{◌≡◌, ◌≢◌, List, IfOk, OnErr};
-ghost use Rattle.analyses.specs.Tools.{ToolState};
-ghost use Rattle.app_plan.specs.Ends.{Ends};
-ghost use Rattle.app_plan.specs.Feeding.{fresh_tools};
+ghost use Rattle.std.specs.Prelude.{◌≡◌, ◌≢◌, IfOk, OnErr};
 ghost use Rattle.app_plan.specs.Printing.{shelf_state, print_state};
 ghost use Rattle.command_line.specs.Lines.{texts};
-ghost use Rattle.wasabi_app.specs.Modes.{plan_of};
+ghost use Rattle.wasabi_cli.specs.Ended.{IsEnded};
 
 use analyses::{Analysis, Blocks, Branches, CallGraph, MemoryUse};
 use outside_io::{HostShelf, HostSink, Shelf, Sink};
@@ -41,10 +38,10 @@ fn run_with_analyses<R: Threads + Sync, S: Shelf, K: Sink>(
     shelf: &mut S,
     out: &mut K,
 ) -> Result<u8, AllocError>
-    ensures ended { IfOk result (λ status. (taken : List ToolState) × Ends (plan_of (texts words.now))
+    ensures ended { IfOk result (IsEnded (texts words.now)
         (shelf_state (S.contents shelf.old) (S.read_faults shelf.old) (S.write_faults shelf.old))
-        (shelf_state (S.contents shelf.new) (S.read_faults shelf.new) (S.write_faults shelf.new)) fresh_tools taken
-        (print_state (K.written out.old) (K.faults out.old)) (print_state (K.written out.new) (K.faults out.new)) status) }
+        (shelf_state (S.contents shelf.new) (S.read_faults shelf.new) (S.write_faults shelf.new))
+        (print_state (K.written out.old) (K.faults out.old)) (print_state (K.written out.new) (K.faults out.new))) }
     ensures undone { OnErr result ((shelf.new ≡ shelf.old) × (out.new ≡ out.old)) }
 {
     let mut tools: Vec<Box<dyn Analysis>> = Vec::new(alloc);

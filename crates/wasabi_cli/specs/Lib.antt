@@ -1,0 +1,2 @@
+-- The definitions that the program's own contracts cite.
+pub mod Ended
