@@ -1,7 +1,8 @@
 // The command line program `wasabi`: the files of the machine, its standard output, and the words it was started with.
 #![tactic(auto)]
 
-ghost use Rattle.std.specs.Prelude.{◌≡◌, ◌≢◌, IfOk, OnErr};
+ghost use Rattle.std.specs.Prelude.{◌≡◌, ◌≢◌, IfOk, OnErr, map};
+ghost use Rattle.app_plan.specs.Feeding.{fresh_tools};
 ghost use Rattle.app_plan.specs.Printing.{shelf_state, print_state};
 ghost use Rattle.command_line.specs.Lines.{texts};
 ghost use Rattle.wasabi_cli.specs.Ended.{IsEnded};
@@ -49,7 +50,25 @@ fn run_with_analyses<R: Threads + Sync, S: Shelf, K: Sink>(
     tools.push(Box::new(alloc, Branches::new(alloc))?)?;
     tools.push(Box::new(alloc, CallGraph::new(alloc))?)?;
     tools.push(Box::new(alloc, MemoryUse::new(alloc))?)?;
-    Ok(run_app(rt, alloc, words, shelf, out, &mut tools))
+    Ok(run_fresh(rt, alloc, words, shelf, out, &mut tools))
+}
+
+// Runs a command with analyses that are fresh.
+fn run_fresh<R: Threads + Sync, S: Shelf, K: Sink>(
+    rt: &R,
+    alloc: Global,
+    words: &[String],
+    shelf: &mut S,
+    out: &mut K,
+    tools: &mut Vec<Box<dyn Analysis>>,
+) -> u8
+    requires fresh { map state tools.old.items ≡ fresh_tools }
+    ensures { IsEnded (texts words.now)
+        (shelf_state (S.contents shelf.old) (S.read_faults shelf.old) (S.write_faults shelf.old))
+        (shelf_state (S.contents shelf.new) (S.read_faults shelf.new) (S.write_faults shelf.new))
+        (print_state (K.written out.old) (K.faults out.old)) (print_state (K.written out.new) (K.faults out.new)) result }
+{
+    run_app(rt, alloc, words, shelf, out, tools)
 }
 
 // The status where the words can't be read: 14 for want of memory, else 2.
