@@ -1,6 +1,6 @@
 -- What the parser says of the command, and what is made of its answer.
 use Rattle.std.proofs.Common.{◌≡◌, ◌∙◌, Bool, true, false, true≢false, refl, sym, ap, [], ◌∷◌, Option, Some, None, option_map, Result, Ok, Err, IfOk, IsErrOf}
-use Rattle.std.specs.Option.{ok_or}
+use Rattle.std.specs.Option.{IfSome, ok_or}
 use Rattle.clap.specs.Words.{IsAmong, Kinds, is_simple, is_simple_and_free}
 use Rattle.clap.specs.declared.error.ErrorKind.{ErrorKind}
 use Rattle.clap.proofs.OnLiterals.{clap_on_literals}
@@ -32,6 +32,11 @@ pub none_read : (o : Option ReadLine) (fault : Kinds) (found : Option Line) → 
     → IsErrOf (ok_or o Refused) Refused → unless fault found ≡ None
 none_read None fault found is none err = ap (λ f. unless f found) none ∙ sym is
 none_read (Some line) fault found is none err = absurd (true≢false (ap succeeds err))
+
+-- what is so of a line that was found is so of the line that was read
+pub read_with : (P : ReadLine → Type 0) (o : Option ReadLine) → IfSome o P → IfOk (ok_or o Refused) P
+read_with P None found = tt
+read_with P (Some line) found = found
 
 -- where it found one, they have no line
 pub none_with : (kind : ErrorKind) (fault : Kinds) (found : Option Line) → IsAmong kind fault → unless fault found ≡ None

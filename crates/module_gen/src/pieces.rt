@@ -8,7 +8,7 @@ use std::alloc::{AllocError, Global};
 use wasm_num::{NumOp, ValType};
 
 /// A piece of a body.
-#[derive(Clone, Copy, Debug)]
+#[derive(Clone, Copy)]
 pub(crate) enum Piece {
     /// An operator between the parameter and a constant.
     Binary { operand: u32, op: NumOp },

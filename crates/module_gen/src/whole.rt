@@ -101,12 +101,20 @@ fn func_type(alloc: Global, param: ValType, results: Vec<ValType>) -> Result<Fun
     })
 }
 
+// The type of a function of a parameter and a result of the same type.
+fn same_type(alloc: Global, ty: ValType) -> Result<FuncType, AllocError>
+    ensures { IfOk result (λ func. func ≡ record { params = ty ∷ []; results = ty ∷ [] }) }
+{
+    let results = Vec::from_array(alloc, [ty])?;
+    func_type(alloc, ty, results)
+}
+
 fn func_types(alloc: Global) -> Result<Vec<FuncType>, AllocError>
     ensures { IfOk result (λ types. types.items ≡ func_types) }
 {
     let note = func_type(alloc, ValType::I32, Vec::new(alloc))?;
-    let narrow = func_type(alloc, ValType::I32, Vec::from_array(alloc, [ValType::I32])?)?;
-    let wide = func_type(alloc, ValType::I64, Vec::from_array(alloc, [ValType::I64])?)?;
+    let narrow = same_type(alloc, ValType::I32)?;
+    let wide = same_type(alloc, ValType::I64)?;
     Ok(Vec::from_array(alloc, [note, narrow, wide])?)
 }
 
@@ -135,7 +143,6 @@ fn note(alloc: Global) -> Result<Import, AllocError>
 }
 
 // The types of the functions, and of the last one.
-#[tactic(auto, using(crate::proofs::Steps::indices_more))]
 fn type_indices(alloc: Global, count: u32) -> Result<Vec<u32>, AllocError>
     requires { count < 50000 }
     ensures { IfOk result (λ types. types.items ≡ type_indices count) }
