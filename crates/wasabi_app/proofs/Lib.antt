@@ -18,3 +18,7 @@ pub mod RunLines
 pub mod StepEvents
 pub mod ToolTexts
 pub mod TurnEvents
+pub mod TrialLinks
+pub mod TrialNumbers
+pub mod TrialPairs
+pub mod TrialTold

@@ -3,6 +3,7 @@ pub mod Check
 pub mod Instrument
 pub mod Run
 pub mod Report
+pub mod Trial
 use Rattle.std.proofs.Common.{◌≡◌, ◌≢◌, ℕ, ◌⊎◌, inl, inr, List, [], ◌∷◌, refl, sym, ap, subst, ◌∙◌, bytes_eq, cond, find, Bool, true, false, true≢false, codes, IfSome, Option, Some, None, Result, Err, option_and_then}
 use Rattle.std.specs.Prelude.{⊤}
 use Rattle.std.specs.List.{list_any}
@@ -23,11 +24,12 @@ use Rattle.app_plan.proofs.Within.{Within, within_leads, WritesNone, FeedsNone, 
 use Rattle.wasabi_app.specs.Words.{Given, given}
 use Rattle.wasabi_app.specs.Mode.{Mode}
 use Rattle.wasabi_app.specs.Modes.{modes, plan_in, plan_of}
-use Rattle.wasabi_app.specs.Laws.{IsOf, OneWrites, OneFeeds, OneMakes}
+use Rattle.wasabi_app.specs.Laws.{IsOf, OneWrites, SomeFeed, SomeMake}
 use Rattle.wasabi_app.proofs.Modes.Check.{check_within}
 use Rattle.wasabi_app.proofs.Modes.Instrument.{instrument_feeds_none}
 use Rattle.wasabi_app.proofs.Modes.Run.{run_within}
 use Rattle.wasabi_app.proofs.Modes.Report.{report_writes_none, report_makes_none}
+use Rattle.wasabi_app.proofs.Modes.Trial.{trial_writes_none}
 use Rattle.wasabi_app.proofs.Linked.{writes_plain, feeds_plain, makes_plain}
 
 -- the mode is among these, or this holds of every ending of its plans
@@ -118,15 +120,15 @@ no_mode g at tools refusal each r =
 
 write_each : Each (IsOrElse (codes "instrument" ∷ []) WritesNone) modes
 write_each =
-    (inr (λ g. check_within WritesNone writes_plain g), (inl refl, (inr (λ g. run_within WritesNone writes_plain g), (inr report_writes_none, tt))))
+    (inr (λ g. check_within WritesNone writes_plain g), (inl refl, (inr (λ g. run_within WritesNone writes_plain g), (inr report_writes_none, (inr trial_writes_none, tt)))))
 
-feed_each : Each (IsOrElse (codes "report" ∷ []) FeedsNone) modes
+feed_each : Each (IsOrElse (codes "report" ∷ codes "trial" ∷ []) FeedsNone) modes
 feed_each =
-    (inr (λ g. check_within FeedsNone feeds_plain g), (inr instrument_feeds_none, (inr (λ g. run_within FeedsNone feeds_plain g), (inl refl, tt))))
+    (inr (λ g. check_within FeedsNone feeds_plain g), (inr instrument_feeds_none, (inr (λ g. run_within FeedsNone feeds_plain g), (inl refl, (inl refl, tt)))))
 
-make_each : Each (IsOrElse (codes "instrument" ∷ []) MakesNone) modes
+make_each : Each (IsOrElse (codes "instrument" ∷ codes "trial" ∷ []) MakesNone) modes
 make_each =
-    (inr (λ g. check_within MakesNone makes_plain g), (inl refl, (inr (λ g. run_within MakesNone makes_plain g), (inr report_makes_none, tt))))
+    (inr (λ g. check_within MakesNone makes_plain g), (inl refl, (inr (λ g. run_within MakesNone makes_plain g), (inr report_makes_none, (inl refl, tt)))))
 
 pub one_writes : OneWrites
 one_writes words old new was is before after status x =
@@ -135,16 +137,16 @@ one_writes words old new was is before after status x =
       | inr none ↦ inr (keeps status none x, never_unwritten status none x)
     ]
 
-pub some_feed : OneFeeds
+pub some_feed : SomeFeed
 some_feed words old new was is before after status x =
-    elim (all_else (codes "report" ∷ []) FeedsNone words old.contents feed_each) [
+    elim (all_else (codes "report" ∷ codes "trial" ∷ []) FeedsNone words old.contents feed_each) [
       | inl of ↦ inl of
       | inr none ↦ inr (leaves status none x)
     ]
 
-pub some_make : OneMakes
+pub some_make : SomeMake
 some_make words old new was is before after status x =
-    elim (all_else (codes "instrument" ∷ []) MakesNone words old.contents make_each) [
+    elim (all_else (codes "instrument" ∷ codes "trial" ∷ []) MakesNone words old.contents make_each) [
       | inl of ↦ inl of
       | inr none ↦ inr (never_refused status none x)
     ]

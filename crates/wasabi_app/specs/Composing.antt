@@ -1,5 +1,5 @@
--- What the reports on an output tell of the original.
-use Rattle.std.specs.Prelude.{◌≡◌, ℕ, List, IsTrue, is_some, All}
+-- What the reports on an output, and a trial, tell of the original.
+use Rattle.std.specs.Prelude.{◌≡◌, ℕ, List, IsTrue, is_some, All, map}
 use Rattle.module_ast.specs.declared.module.Module.{Module}
 use Rattle.module_ast.specs.Limits.{wide}
 use Rattle.hook_select.specs.declared.Event.{Event}
@@ -14,9 +14,16 @@ use Rattle.static_info.specs.Info.{info_of}
 use Rattle.static_info.specs.Json.{HoldInfo}
 use Rattle.instrument.specs.Accepted.{IsInstrumented}
 use Rattle.instrument.specs.Same.{IsPrefix, IsOver, SameRuns, shown_so_far}
+use Rattle.analyses.specs.declared.Kind.{Kind}
+use Rattle.analyses.specs.Book.{book}
+use Rattle.analyses.specs.Tools.{ToolState}
 use Rattle.app_plan.specs.declared.kinds.Kinds.{Kinds}
+use Rattle.app_plan.specs.Feeding.{fed, fresh_tools}
 use Rattle.app_plan.specs.Files.{IsFit}
+use Rattle.app_plan.specs.Kinds.{all_reports, every_kind}
+use Rattle.module_gen.specs.Made.{made}
 use Rattle.wasabi_app.specs.Reporting.{events_told, reports_text}
+use Rattle.wasabi_app.specs.Modes.Trial.{all_hooks, first_steps, second_steps, told_of_run, trial_events, trial_output, trial_script}
 
 -- the events of the selected groups that the original shows in so many steps
 abbrev pub selected_events : Module → Hooks → Script → (steps : ℕ) → List Event
@@ -43,3 +50,22 @@ OutputsReport =
     → (told : List ℕ) (info : Info) → HoldInfo told (info_of has.original hooks) → HoldInfo told info
     → (s : Script) → IsScriptInRange s → Links has.original s
     → Belongs info o × Links o s × ((steps : ℕ) → ReportsOriginal has.original hooks info o s steps)
+
+-- A trial: where the output's run is over, its events are all those of the original, and each analysis that was fresh holds their book;
+-- else they are the first of these. None is a stray.
+-- Where both runs are over, their texts are equal.
+pub record TrialTells (number : ℕ) : Type 0 where
+  pub whole : IsOver (trial_output number) (trial_script number second_steps) second_steps
+      → trial_events number ≡ selected_events (made number) all_hooks (trial_script number second_steps) second_steps
+  pub books : IsOver (trial_output number) (trial_script number second_steps) second_steps
+      → map (λ (t : ToolState). t.book) (fed all_reports (trial_events number) fresh_tools)
+      ≡ map (λ (k : Kind). book k (selected_events (made number) all_hooks (trial_script number second_steps) second_steps)) every_kind
+  pub begun : IsPrefix (trial_events number) (selected_events (made number) all_hooks (trial_script number second_steps) second_steps)
+  pub no_stray : All (λ (e : Event). IsTrue (is_some (group_of e))) (trial_events number)
+  pub texts : IsOver (made number) (trial_script number first_steps) first_steps
+      → IsOver (trial_output number) (trial_script number second_steps) second_steps
+      → told_of_run number first_steps (made number) ≡ told_of_run number second_steps (trial_output number)
+
+-- so it is with each number
+abbrev pub TrialsTell : Type 0
+TrialsTell = (number : ℕ) → TrialTells number

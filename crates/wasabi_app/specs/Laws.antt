@@ -19,16 +19,16 @@ OneWrites =
     → Ends (plan_of words) old new was is before after status
     → IsOf (codes "instrument" ∷ []) words ⊎ (Unchanged old.contents new.contents × (status ≢ 5))
 
--- the analyses take something in one; the others leave them as they are
-abbrev pub OneFeeds : Type 0
-OneFeeds =
+-- the analyses take something in these; the others leave them as they are
+abbrev pub SomeFeed : Type 0
+SomeFeed =
     (words : List (List ℕ)) (old new : ShelfState) (was is : List ToolState) (before after : PrintState) (status : ℕ)
     → Ends (plan_of words) old new was is before after status
-    → IsOf (codes "report" ∷ []) words ⊎ (is ≡ was)
+    → IsOf (codes "report" ∷ codes "trial" ∷ []) words ⊎ (is ≡ was)
 
--- an output that can't be is refused in one; the others never answer 9
-abbrev pub OneMakes : Type 0
-OneMakes =
+-- an output that can't be is refused in these; the others never answer 9
+abbrev pub SomeMake : Type 0
+SomeMake =
     (words : List (List ℕ)) (old new : ShelfState) (was is : List ToolState) (before after : PrintState) (status : ℕ)
     → Ends (plan_of words) old new was is before after status
-    → IsOf (codes "instrument" ∷ []) words ⊎ (status ≢ 9)
+    → IsOf (codes "instrument" ∷ codes "trial" ∷ []) words ⊎ (status ≢ 9)

@@ -3,6 +3,7 @@ pub mod Check
 pub mod Instrument
 pub mod Run
 pub mod Report
+pub mod Trial
 use Rattle.std.specs.Prelude.{ℕ, List, [], ◌∷◌, bytes_eq, find, Option, option_and_then}
 use Rattle.app_plan.specs.Plans.{Plan}
 use Rattle.wasabi_app.specs.Words.{Given, given}
@@ -11,9 +12,10 @@ use Rattle.wasabi_app.specs.Modes.Check.{check_mode}
 use Rattle.wasabi_app.specs.Modes.Instrument.{instrument_mode}
 use Rattle.wasabi_app.specs.Modes.Run.{run_mode}
 use Rattle.wasabi_app.specs.Modes.Report.{report_mode}
+use Rattle.wasabi_app.specs.Modes.Trial.{trial_mode}
 
 abbrev pub modes : List Mode
-modes = check_mode ∷ instrument_mode ∷ run_mode ∷ report_mode ∷ []
+modes = check_mode ∷ instrument_mode ∷ run_mode ∷ report_mode ∷ trial_mode ∷ []
 
 -- that of the mode with this name
 abbrev pub plan_in : (mode : List ℕ) → Given → Option Plan

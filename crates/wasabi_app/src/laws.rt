@@ -1,14 +1,14 @@
 // What follows from the definitions.
 
-ghost use Rattle.wasabi_app.specs.Composing.{OutputsReport, SameRunsReport};
-ghost use Rattle.wasabi_app.specs.Laws.{OneWrites, OneFeeds, OneMakes};
+ghost use Rattle.wasabi_app.specs.Composing.{OutputsReport, SameRunsReport, TrialsTell};
+ghost use Rattle.wasabi_app.specs.Laws.{OneWrites, SomeFeed, SomeMake};
 
 /// What holds of some modes alone: which of them write, which give events to the analyses, and which refuse an output. Each
 /// mode stands in the proof with what it does; a new one adds a line.
 pub fn modes_alone()
     ensures writes { OneWrites }
-    ensures feed { OneFeeds }
-    ensures make { OneMakes }
+    ensures feed { SomeFeed }
+    ensures make { SomeMake }
 {}
 
 /// Where a module and one with hooks run alike under a script, the reports on the second, with the information on the first,
@@ -20,4 +20,11 @@ pub fn modes_alone()
 pub fn reports_compose()
     ensures same_runs { SameRunsReport }
     ensures outputs { OutputsReport }
+{}
+
+/// The module that is made of a number and its output run alike under the trial's script: where the output's run is over, its
+/// events are those of the original, and each analysis holds their book; where both are, the texts of both runs are equal.
+/// None of the events is a stray.
+pub fn trials_tell()
+    ensures tell { TrialsTell }
 {}
