@@ -11,7 +11,7 @@ use Rattle.wasm_num.specs.declared.BlockKind.{BlockKind}
 use Rattle.wasm_num.specs.declared.BlockKind.TheVariants as parts
 use Rattle.hook_select.specs.declared.Event.{Event}
 use Rattle.hook_select.specs.declared.Event.TheVariants.{If, Br, BrIf, BrTable, Begin, Load, Store, CallPre, IndirectPre}
-use Rattle.hook_select.specs.Kinds.{kind_number}
+use Rattle.wasm_num.specs.Kinds.{kind_number}
 use Rattle.analyses.specs.declared.Kind.{Kind}
 use Rattle.analyses.specs.declared.Kind.TheVariants.{Blocks, Branches, Calls, Memory}
 use Rattle.analyses.specs.declared.Row.{Row}

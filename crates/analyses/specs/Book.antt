@@ -8,7 +8,7 @@ use Rattle.module_ast.specs.declared.ops.StoreOp.{StoreOp}
 use Rattle.module_ast.specs.Opcodes.{load_opcode, store_opcode}
 use Rattle.hook_select.specs.declared.Event.{Event}
 use Rattle.hook_select.specs.declared.Event.TheVariants.{If, Br, BrIf, BrTable, Begin, Load, Store, CallPre, IndirectPre}
-use Rattle.hook_select.specs.Kinds.{kind_number}
+use Rattle.wasm_num.specs.Kinds.{kind_number}
 use Rattle.analyses.specs.declared.Kind.{Kind}
 use Rattle.analyses.specs.declared.Kind.TheVariants.{Blocks, Branches, Calls, Memory}
 use Rattle.analyses.specs.declared.Row.{Row}

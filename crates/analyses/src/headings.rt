@@ -1,8 +1,6 @@
 // What events are counted under.
 
 ghost use Rattle.std.specs.Prelude.{◌≡◌, ◌^◌, ◌<◌, option_map};
-ghost use Rattle.hook_select.specs.Kinds.{kind_number};
-ghost use Rattle.module_ast.specs.Opcodes.{load_opcode, store_opcode};
 ghost use Rattle.analyses.specs.Book.{taken_number, callee_number, block_key, branch_key, call_graph_key, memory_key, counted_key, address_of, key_at, call_key};
 ghost use Rattle.analyses.specs.Headings.{key_of_heading};
 
@@ -10,8 +8,6 @@ use crate::Kind;
 use crate::ledger::Heading;
 use hook_select::Event;
 use module_ast::module::Loc;
-use module_ast::ops::{LoadOp, StoreOp};
-use wasm_num::BlockKind;
 
 // None where an event is not counted.
 pub fn heading_of(kind: Kind, event: &Event) -> Option<Heading>
@@ -61,7 +57,7 @@ fn block_heading(event: &Event) -> Option<Heading>
     ensures { option_map key_of_heading result ≡ block_key event.now }
 {
     match event {
-        Event::Begin { loc, kind } => Some(heading_at(*loc, block_number(*kind), 0)),
+        Event::Begin { loc, kind } => Some(heading_at(*loc, kind.number(), 0)),
         _ => None,
     }
 }
@@ -95,8 +91,8 @@ fn memory_heading(event: &Event) -> Option<Heading>
     ensures { option_map key_of_heading result ≡ memory_key event.now }
 {
     match event {
-        Event::Load { loc, op, .. } => Some(heading_at(*loc, load_byte(*op), 0)),
-        Event::Store { loc, op, .. } => Some(heading_at(*loc, store_byte(*op), 0)),
+        Event::Load { loc, op, .. } => Some(heading_at(*loc, op.opcode(), 0)),
+        Event::Store { loc, op, .. } => Some(heading_at(*loc, op.opcode(), 0)),
         _ => None,
     }
 }
@@ -118,52 +114,4 @@ fn taken_number(cond: u32) -> u64
     ensures { result ≡ taken_number cond }
 {
     u64::from(cond != 0)
-}
-
-// The number of a kind of block.
-fn block_number(kind: BlockKind) -> u8
-    ensures { result ≡ kind_number kind }
-{
-    match kind {
-        BlockKind::Function => 0,
-        BlockKind::Block => 1,
-        BlockKind::Loop => 2,
-        BlockKind::If => 3,
-        BlockKind::Else => 4,
-    }
-}
-
-// The opcode of a load. (Standard, 5.4.4)
-fn load_byte(op: LoadOp) -> u8
-    ensures { result ≡ load_opcode op }
-{
-    match op {
-        LoadOp::I32Load => 0x28,
-        LoadOp::I64Load => 0x29,
-        LoadOp::I32Load8S => 0x2C,
-        LoadOp::I32Load8U => 0x2D,
-        LoadOp::I32Load16S => 0x2E,
-        LoadOp::I32Load16U => 0x2F,
-        LoadOp::I64Load8S => 0x30,
-        LoadOp::I64Load8U => 0x31,
-        LoadOp::I64Load16S => 0x32,
-        LoadOp::I64Load16U => 0x33,
-        LoadOp::I64Load32S => 0x34,
-        LoadOp::I64Load32U => 0x35,
-    }
-}
-
-// The opcode of a store. (Standard, 5.4.4)
-fn store_byte(op: StoreOp) -> u8
-    ensures { result ≡ store_opcode op }
-{
-    match op {
-        StoreOp::I32Store => 0x36,
-        StoreOp::I64Store => 0x37,
-        StoreOp::I32Store8 => 0x3A,
-        StoreOp::I32Store16 => 0x3B,
-        StoreOp::I64Store8 => 0x3C,
-        StoreOp::I64Store16 => 0x3D,
-        StoreOp::I64Store32 => 0x3E,
-    }
 }

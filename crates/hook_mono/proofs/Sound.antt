@@ -10,7 +10,7 @@ use Rattle.wasm_num.specs.declared.BlockKind.{BlockKind}
 use Rattle.wasm_num.specs.Names.{num_name}
 use Rattle.module_ast.specs.declared.ops.VarOp.TheVariants.{Get, Set, Tee}
 use Rattle.module_ast.specs.OpNames.{load_name, store_name}
-use Rattle.hook_select.specs.Kinds.{kind_name}
+use Rattle.wasm_num.specs.Kinds.{kind_name}
 use Rattle.hook_mono.specs.declared.HookKey.{HookKey}
 use Rattle.hook_mono.specs.declared.HookKey.TheVariants.{Plain, Begin, End, Const, Num, Drop, Select, Local, Global, Load, Store, CallPre, IndirectPre, CallPost, Return}
 use Rattle.hook_mono.specs.Orders.{both_types, all_kinds, all_loads, all_stores, all_nums}

@@ -20,7 +20,7 @@ use Rattle.module_ast.specs.Texts.{Text}
 use Rattle.module_ast.specs.Ascii.{ascii_text}
 use Rattle.hook_select.specs.declared.GroupName.{GroupName}
 use Rattle.hook_select.specs.declared.GroupName.TheVariants as groups
-use Rattle.hook_select.specs.Kinds.{kind_name}
+use Rattle.wasm_num.specs.Kinds.{kind_name}
 use Rattle.hook_mono.specs.declared.HookKey.{HookKey}
 use Rattle.hook_mono.specs.declared.HookKey.TheVariants as keys
 use Rattle.hook_mono.specs.Names.{letters, plain_name, var_name, name_of}

@@ -1,7 +1,7 @@
 // Names of hooks.
 
 ghost use Rattle.std.specs.Prelude.{◌≡◌, ◌++◌, codes, IfOk, string_bytes};
-ghost use Rattle.hook_select.specs.Kinds.{kind_name};
+ghost use Rattle.wasm_num.specs.Kinds.{kind_name};
 ghost use Rattle.hook_mono.specs.Names.{const_name, letters, name_of, plain_name, var_name};
 ghost use Rattle.hook_mono.specs.Texts.{hook_text};
 

@@ -6,7 +6,7 @@ ghost use Rattle.module_ast.specs.Canonical.{module_bytes, without_customs};
 ghost use Rattle.module_ast.specs.Profile.{tree_of};
 ghost use Rattle.module_ast.specs.Fits.{Fits};
 ghost use Rattle.module_ast.specs.Shortest.{CanonicalBytesAreShortest};
-ghost use Rattle.module_ast.specs.Laws.{ModulesAreUnique, ModulesHaveNoFloat, TreesWithoutFloatAreModules};
+ghost use Rattle.module_ast.specs.Laws.{ModulesAreUnique, ModulesHaveNoFloat, TreesWithoutFloatAreModules, LoadsAreFound, FoundLoadsHaveTheOpcode, StoresAreFound, FoundStoresHaveTheOpcode};
 
 use crate::module::{Body, Module};
 use crate::spaces::Spaces;
@@ -26,6 +26,18 @@ pub fn modules_are_trees()
     ensures unique { ModulesAreUnique }
     ensures whole { ModulesHaveNoFloat }
     ensures all { TreesWithoutFloatAreModules }
+{}
+
+/// Loads and their opcodes belong together, one to one.
+pub fn loads_have_their_opcodes()
+    ensures found { LoadsAreFound }
+    ensures exact { FoundLoadsHaveTheOpcode }
+{}
+
+/// Stores and their opcodes belong together, one to one.
+pub fn stores_have_their_opcodes()
+    ensures found { StoresAreFound }
+    ensures exact { FoundStoresHaveTheOpcode }
 {}
 
 /// A module and a body may go to other threads, and several may read one at once.

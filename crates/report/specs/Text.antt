@@ -1,18 +1,12 @@
 -- The text of a report.
-use Rattle.std.specs.Prelude.{ℕ, zero, suc, ◌==◌, ℤ, List, [], ◌∷◌, ◌++◌, length, flat_map, find, filter, Bool, Option, option_map, unwrap_or, is_none, is_some, codes, decimal}
+use Rattle.std.specs.Prelude.{ℕ, zero, suc, ℤ, List, [], ◌∷◌, ◌++◌, length, flat_map, filter, Bool, Option, option_map, unwrap_or, is_none, is_some, codes, decimal}
 use Rattle.std.specs.Fmt.{signed_decimal}
 use Rattle.std.specs.List.{join_with_byte}
-use Rattle.wasm_num.specs.declared.BlockKind.{BlockKind}
-use Rattle.wasm_num.specs.declared.BlockKind.TheVariants as parts
-use Rattle.module_ast.specs.declared.ops.LoadOp.{LoadOp}
-use Rattle.module_ast.specs.declared.ops.LoadOp.TheVariants.{I32Load, I64Load, I32Load8S, I32Load8U, I32Load16S, I32Load16U, I64Load8S, I64Load8U, I64Load16S, I64Load16U, I64Load32S, I64Load32U}
-use Rattle.module_ast.specs.declared.ops.StoreOp.{StoreOp}
-use Rattle.module_ast.specs.declared.ops.StoreOp.TheVariants.{I32Store, I64Store, I32Store8, I32Store16, I64Store8, I64Store16, I64Store32}
-use Rattle.module_ast.specs.Opcodes.{load_opcode, store_opcode}
+use Rattle.module_ast.specs.Opcodes.{load_of_opcode, store_of_opcode}
 use Rattle.module_ast.specs.OpNames.{load_name, store_name}
 use Rattle.hook_select.specs.declared.Event.{Event}
 use Rattle.hook_select.specs.Events.{group_of}
-use Rattle.hook_select.specs.Kinds.{kind_number, kind_name}
+use Rattle.wasm_num.specs.Kinds.{kind_of_number, kind_name}
 use Rattle.analyses.specs.declared.Kind.{Kind}
 use Rattle.analyses.specs.declared.Kind.TheVariants.{Blocks, Branches, Calls, Memory}
 use Rattle.analyses.specs.declared.Row.{Row}
@@ -32,11 +26,8 @@ abbrev pub location : ℕ → ℤ → List ℕ
 location func instr = decimal func ++ 58 ∷ signed_decimal instr
 
 -- What tags stand for.
-abbrev pub part_kinds : List BlockKind
-part_kinds = parts.Function ∷ parts.Block ∷ parts.Loop ∷ parts.If ∷ parts.Else ∷ []
-
 abbrev pub part_name : (tag : ℕ) → List ℕ
-part_name tag = unwrap_or (option_map kind_name (find (λ k. kind_number k == tag) part_kinds)) []
+part_name tag = unwrap_or (option_map kind_name (kind_of_number tag)) []
 
 abbrev pub branch_name : (tag : ℕ) → List ℕ
 branch_name zero = codes "if"
@@ -44,17 +35,11 @@ branch_name (suc zero) = codes "br"
 branch_name (suc (suc zero)) = codes "br_if"
 branch_name (suc (suc (suc n))) = codes "br_table"
 
-abbrev pub load_ops : List LoadOp
-load_ops = I32Load ∷ I64Load ∷ I32Load8S ∷ I32Load8U ∷ I32Load16S ∷ I32Load16U ∷ I64Load8S ∷ I64Load8U ∷ I64Load16S ∷ I64Load16U ∷ I64Load32S ∷ I64Load32U ∷ []
-
-abbrev pub store_ops : List StoreOp
-store_ops = I32Store ∷ I64Store ∷ I32Store8 ∷ I32Store16 ∷ I64Store8 ∷ I64Store16 ∷ I64Store32 ∷ []
-
 abbrev pub load_named : (opcode : ℕ) → Option (List ℕ)
-load_named n = option_map load_name (find (λ op. load_opcode op == n) load_ops)
+load_named n = option_map load_name (load_of_opcode n)
 
 abbrev pub store_named : (opcode : ℕ) → Option (List ℕ)
-store_named n = option_map store_name (find (λ op. store_opcode op == n) store_ops)
+store_named n = option_map store_name (store_of_opcode n)
 
 abbrev pub access_name : (opcode : ℕ) → List ℕ
 access_name n = unwrap_or (load_named n) (unwrap_or (store_named n) [])

@@ -8,7 +8,7 @@ use Rattle.wasm_num.specs.declared.ValType.TheVariants.{I32, I64}
 use Rattle.wasm_num.specs.declared.BlockKind.{BlockKind}
 use Rattle.wasm_num.specs.declared.BlockKind.TheVariants.{Function, Block, Loop, If, Else}
 use Rattle.serde_json.specs.Data.{Data}
-use Rattle.hook_select.specs.Kinds.{kind_number}
+use Rattle.wasm_num.specs.Kinds.{kind_number}
 use Rattle.hook_mono.specs.Names.{letters}
 use Rattle.hook_mono.specs.Reading.{letter_types}
 use Rattle.branch_resolve.specs.declared.Block.{Block as BlockInfo}

@@ -8,7 +8,7 @@ use Rattle.wasm_num.specs.declared.BlockKind.{BlockKind}
 use Rattle.wasm_num.specs.declared.BlockKind.TheVariants as kinds
 use Rattle.serde_json.specs.Data.{Data, string, array, item, no_items}
 use Rattle.serde_json.specs.Find.{as_str}
-use Rattle.hook_select.specs.Kinds.{kind_number}
+use Rattle.wasm_num.specs.Kinds.{kind_number}
 use Rattle.hook_mono.specs.Names.{letter, letters}
 use Rattle.hook_mono.specs.Reading.{letter_type, letter_types}
 use Rattle.branch_resolve.specs.declared.Block.{Block}

@@ -9,7 +9,7 @@ use Rattle.leb_binary.specs.Texts.{Text}
 use Rattle.hook_select.specs.declared.GroupName.{GroupName}
 use Rattle.hook_select.specs.declared.Hooks.{Hooks}
 use Rattle.hook_select.specs.Groups.{groups_in, group_name}
-use Rattle.hook_select.specs.Kinds.{kind_number}
+use Rattle.wasm_num.specs.Kinds.{kind_number}
 use Rattle.hook_mono.specs.declared.HookKey.{HookKey}
 use Rattle.hook_mono.specs.Names.{name_of, letters}
 use Rattle.json_form.specs.Text.{IsText}

@@ -3,7 +3,6 @@
 ghost use Rattle.std.specs.Prelude.{◌≡◌, map, IfOk};
 ghost use Rattle.serde_json.specs.Data.{string};
 ghost use Rattle.serde_json.specs.View.{view};
-ghost use Rattle.hook_select.specs.Kinds.{kind_number};
 ghost use Rattle.static_info.specs.Json.{list_of, count_data, types_data, text_data, block_data, table_data, func_data, group_data, groups_data, hook_data, info_data, info_text, HoldInfo};
 ghost use Rattle.static_info.specs.Form.{IsWellFormed};
 
@@ -16,7 +15,7 @@ use json_form::{Written, write_list};
 use module_ast::name::Name;
 use serde_json::{Value, json};
 use std::alloc::{AllocError, Global};
-use wasm_num::{BlockKind, NoMemory, ValType};
+use wasm_num::{NoMemory, ValType};
 
 // A label, by its number.
 pub(crate) struct LabelData;
@@ -40,7 +39,7 @@ impl Written for BlockData {
     ghost written = { block_data };
 
     fn write(alloc: Global, block: &Block) -> Result<Value, AllocError> {
-        let kind = number_of(block.kind);
+        let kind = block.kind.number();
         json!(in alloc; [kind, (block.begin), (block.end), (block.target)])
     }
 }
@@ -119,19 +118,6 @@ impl Written for GroupData {
 
     fn write(alloc: Global, group: &GroupName) -> Result<Value, AllocError> {
         Value::try_from_str(alloc, group.name())
-    }
-}
-
-// The number of a kind.
-fn number_of(kind: BlockKind) -> u8
-    ensures { result ≡ kind_number kind }
-{
-    match kind {
-        BlockKind::Function => 0,
-        BlockKind::Block => 1,
-        BlockKind::Loop => 2,
-        BlockKind::If => 3,
-        BlockKind::Else => 4,
     }
 }
 

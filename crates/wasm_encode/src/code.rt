@@ -6,7 +6,6 @@ ghost use Rattle.module_ast.specs.Tree.{Tree};
 ghost use Rattle.module_ast.specs.Seen.{before};
 ghost use Rattle.module_ast.specs.Canonical.{vec_bytes, mem_arg_bytes, block_type_bytes, code_bytes, expr_bytes};
 
-use crate::opcodes::{load_opcode, num_opcode, store_opcode};
 use crate::types::block_type_byte;
 use crate::vectors::put_vec;
 use leb_binary::{put_s32, put_s64, put_u32};
@@ -146,13 +145,13 @@ fn put_instr(out: &mut Vec<u8>, instr: &Instr) -> Result<(), AllocError>
         Instr::LocalTee(local) => put_indexed(out, 0x22, *local),
         Instr::GlobalGet(global) => put_indexed(out, 0x23, *global),
         Instr::GlobalSet(global) => put_indexed(out, 0x24, *global),
-        Instr::Load(op, arg) => put_access(out, load_opcode(*op), *arg),
-        Instr::Store(op, arg) => put_access(out, store_opcode(*op), *arg),
+        Instr::Load(op, arg) => put_access(out, op.opcode(), *arg),
+        Instr::Store(op, arg) => put_access(out, op.opcode(), *arg),
         Instr::MemorySize => put_two(out, 0x3F, 0x00),
         Instr::MemoryGrow => put_two(out, 0x40, 0x00),
         Instr::I32Const(value) => put_i32_const(out, *value),
         Instr::I64Const(value) => put_i64_const(out, *value),
-        Instr::Num(op) => put_opcode(out, num_opcode(*op)),
+        Instr::Num(op) => put_opcode(out, op.opcode()),
     }
 }
 

@@ -14,7 +14,6 @@ mod bodies;
 mod code;
 mod code_length;
 mod numbers;
-mod opcodes;
 mod outline;
 mod sections;
 mod tables;

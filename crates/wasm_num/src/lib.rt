@@ -4,6 +4,7 @@
 ghost use Rattle.std.specs.Prelude.{◌≡◌, length};
 
 mod calcs;
+pub mod laws;
 
 pub use crate::calcs::{binary, unary};
 use smallvec::SmallVec;
@@ -23,82 +24,272 @@ pub enum ValType {
 /// What a label belongs to. The two parts of an `if` are blocks of their own.
 #[derive(Clone, Copy, Debug, PartialEq, Eq)]
 pub enum BlockKind {
-    Function,
-    Block,
-    Loop,
-    If,
-    Else,
+    Function = 0,
+    Block = 1,
+    Loop = 2,
+    If = 3,
+    Else = 4,
 }
 
-/// The number instructions, constants left out. (Standard, 2.4.1)
+impl BlockKind {
+    ghost use Rattle.wasm_num.specs.Kinds.{kind_name, kind_number, kind_of_number};
+
+    /// Each kind once, in the order of their numbers.
+    pub const ALL: [BlockKind; 5] = [
+        BlockKind::Function,
+        BlockKind::Block,
+        BlockKind::Loop,
+        BlockKind::If,
+        BlockKind::Else,
+    ];
+
+    /// Its number, from 0 to 4, in reports and in information.
+    pub fn number(self) -> u8
+        ensures { result ≡ kind_number self }
+    {
+        self as u8
+    }
+
+    /// The kind of a number; none above 4.
+    pub fn of_number(number: u8) -> Option<BlockKind>
+        ensures { result ≡ kind_of_number number }
+    {
+        match number {
+            0 => Some(BlockKind::Function),
+            1 => Some(BlockKind::Block),
+            2 => Some(BlockKind::Loop),
+            3 => Some(BlockKind::If),
+            4 => Some(BlockKind::Else),
+            _ => None,
+        }
+    }
+
+    /// Its name in hooks and reports.
+    pub fn name(self) -> &'static str
+        ensures { result.now ≡ kind_name self }
+    {
+        match self {
+            BlockKind::Function => "function",
+            BlockKind::Block => "block",
+            BlockKind::Loop => "loop",
+            BlockKind::If => "if",
+            BlockKind::Else => "else",
+        }
+    }
+}
+
+/// The number instructions, constants left out, each with its opcode. (Standard, 2.4.1 and 5.4.5)
 #[derive(Clone, Copy, Debug, PartialEq, Eq)]
 pub enum NumOp {
-    I32Eqz,
-    I32Eq,
-    I32Ne,
-    I32LtS,
-    I32LtU,
-    I32GtS,
-    I32GtU,
-    I32LeS,
-    I32LeU,
-    I32GeS,
-    I32GeU,
-    I64Eqz,
-    I64Eq,
-    I64Ne,
-    I64LtS,
-    I64LtU,
-    I64GtS,
-    I64GtU,
-    I64LeS,
-    I64LeU,
-    I64GeS,
-    I64GeU,
-    I32Clz,
-    I32Ctz,
-    I32Popcnt,
-    I32Add,
-    I32Sub,
-    I32Mul,
-    I32DivS,
-    I32DivU,
-    I32RemS,
-    I32RemU,
-    I32And,
-    I32Or,
-    I32Xor,
-    I32Shl,
-    I32ShrS,
-    I32ShrU,
-    I32Rotl,
-    I32Rotr,
-    I64Clz,
-    I64Ctz,
-    I64Popcnt,
-    I64Add,
-    I64Sub,
-    I64Mul,
-    I64DivS,
-    I64DivU,
-    I64RemS,
-    I64RemU,
-    I64And,
-    I64Or,
-    I64Xor,
-    I64Shl,
-    I64ShrS,
-    I64ShrU,
-    I64Rotl,
-    I64Rotr,
-    I32WrapI64,
-    I64ExtendI32S,
-    I64ExtendI32U,
+    I32Eqz = 0x45,
+    I32Eq = 0x46,
+    I32Ne = 0x47,
+    I32LtS = 0x48,
+    I32LtU = 0x49,
+    I32GtS = 0x4A,
+    I32GtU = 0x4B,
+    I32LeS = 0x4C,
+    I32LeU = 0x4D,
+    I32GeS = 0x4E,
+    I32GeU = 0x4F,
+    I64Eqz = 0x50,
+    I64Eq = 0x51,
+    I64Ne = 0x52,
+    I64LtS = 0x53,
+    I64LtU = 0x54,
+    I64GtS = 0x55,
+    I64GtU = 0x56,
+    I64LeS = 0x57,
+    I64LeU = 0x58,
+    I64GeS = 0x59,
+    I64GeU = 0x5A,
+    I32Clz = 0x67,
+    I32Ctz = 0x68,
+    I32Popcnt = 0x69,
+    I32Add = 0x6A,
+    I32Sub = 0x6B,
+    I32Mul = 0x6C,
+    I32DivS = 0x6D,
+    I32DivU = 0x6E,
+    I32RemS = 0x6F,
+    I32RemU = 0x70,
+    I32And = 0x71,
+    I32Or = 0x72,
+    I32Xor = 0x73,
+    I32Shl = 0x74,
+    I32ShrS = 0x75,
+    I32ShrU = 0x76,
+    I32Rotl = 0x77,
+    I32Rotr = 0x78,
+    I64Clz = 0x79,
+    I64Ctz = 0x7A,
+    I64Popcnt = 0x7B,
+    I64Add = 0x7C,
+    I64Sub = 0x7D,
+    I64Mul = 0x7E,
+    I64DivS = 0x7F,
+    I64DivU = 0x80,
+    I64RemS = 0x81,
+    I64RemU = 0x82,
+    I64And = 0x83,
+    I64Or = 0x84,
+    I64Xor = 0x85,
+    I64Shl = 0x86,
+    I64ShrS = 0x87,
+    I64ShrU = 0x88,
+    I64Rotl = 0x89,
+    I64Rotr = 0x8A,
+    I32WrapI64 = 0xA7,
+    I64ExtendI32S = 0xAC,
+    I64ExtendI32U = 0xAD,
 }
 
 impl NumOp {
     ghost use Rattle.wasm_num.specs.Shapes.{num_operands, num_result};
     ghost use Rattle.wasm_num.specs.Names.{num_name};
+    ghost use Rattle.wasm_num.specs.Opcodes.{num_opcode, num_of_opcode};
+
+    /// Each number instruction once, in the order of their opcodes.
+    pub const ALL: [NumOp; 61] = [
+        NumOp::I32Eqz,
+        NumOp::I32Eq,
+        NumOp::I32Ne,
+        NumOp::I32LtS,
+        NumOp::I32LtU,
+        NumOp::I32GtS,
+        NumOp::I32GtU,
+        NumOp::I32LeS,
+        NumOp::I32LeU,
+        NumOp::I32GeS,
+        NumOp::I32GeU,
+        NumOp::I64Eqz,
+        NumOp::I64Eq,
+        NumOp::I64Ne,
+        NumOp::I64LtS,
+        NumOp::I64LtU,
+        NumOp::I64GtS,
+        NumOp::I64GtU,
+        NumOp::I64LeS,
+        NumOp::I64LeU,
+        NumOp::I64GeS,
+        NumOp::I64GeU,
+        NumOp::I32Clz,
+        NumOp::I32Ctz,
+        NumOp::I32Popcnt,
+        NumOp::I32Add,
+        NumOp::I32Sub,
+        NumOp::I32Mul,
+        NumOp::I32DivS,
+        NumOp::I32DivU,
+        NumOp::I32RemS,
+        NumOp::I32RemU,
+        NumOp::I32And,
+        NumOp::I32Or,
+        NumOp::I32Xor,
+        NumOp::I32Shl,
+        NumOp::I32ShrS,
+        NumOp::I32ShrU,
+        NumOp::I32Rotl,
+        NumOp::I32Rotr,
+        NumOp::I64Clz,
+        NumOp::I64Ctz,
+        NumOp::I64Popcnt,
+        NumOp::I64Add,
+        NumOp::I64Sub,
+        NumOp::I64Mul,
+        NumOp::I64DivS,
+        NumOp::I64DivU,
+        NumOp::I64RemS,
+        NumOp::I64RemU,
+        NumOp::I64And,
+        NumOp::I64Or,
+        NumOp::I64Xor,
+        NumOp::I64Shl,
+        NumOp::I64ShrS,
+        NumOp::I64ShrU,
+        NumOp::I64Rotl,
+        NumOp::I64Rotr,
+        NumOp::I32WrapI64,
+        NumOp::I64ExtendI32S,
+        NumOp::I64ExtendI32U,
+    ];
+
+    /// The byte that it is written as. (Standard, 5.4.5)
+    pub fn opcode(self) -> u8
+        ensures { result ≡ num_opcode self }
+    {
+        self as u8
+    }
+
+    /// The number instruction of an opcode; none where another instruction, or none, has it. (Standard, 5.4.5)
+    pub fn of_opcode(opcode: u8) -> Option<NumOp>
+        ensures { result ≡ num_of_opcode opcode }
+    {
+        match opcode {
+            0x45 => Some(NumOp::I32Eqz),
+            0x46 => Some(NumOp::I32Eq),
+            0x47 => Some(NumOp::I32Ne),
+            0x48 => Some(NumOp::I32LtS),
+            0x49 => Some(NumOp::I32LtU),
+            0x4A => Some(NumOp::I32GtS),
+            0x4B => Some(NumOp::I32GtU),
+            0x4C => Some(NumOp::I32LeS),
+            0x4D => Some(NumOp::I32LeU),
+            0x4E => Some(NumOp::I32GeS),
+            0x4F => Some(NumOp::I32GeU),
+            0x50 => Some(NumOp::I64Eqz),
+            0x51 => Some(NumOp::I64Eq),
+            0x52 => Some(NumOp::I64Ne),
+            0x53 => Some(NumOp::I64LtS),
+            0x54 => Some(NumOp::I64LtU),
+            0x55 => Some(NumOp::I64GtS),
+            0x56 => Some(NumOp::I64GtU),
+            0x57 => Some(NumOp::I64LeS),
+            0x58 => Some(NumOp::I64LeU),
+            0x59 => Some(NumOp::I64GeS),
+            0x5A => Some(NumOp::I64GeU),
+            0x67 => Some(NumOp::I32Clz),
+            0x68 => Some(NumOp::I32Ctz),
+            0x69 => Some(NumOp::I32Popcnt),
+            0x6A => Some(NumOp::I32Add),
+            0x6B => Some(NumOp::I32Sub),
+            0x6C => Some(NumOp::I32Mul),
+            0x6D => Some(NumOp::I32DivS),
+            0x6E => Some(NumOp::I32DivU),
+            0x6F => Some(NumOp::I32RemS),
+            0x70 => Some(NumOp::I32RemU),
+            0x71 => Some(NumOp::I32And),
+            0x72 => Some(NumOp::I32Or),
+            0x73 => Some(NumOp::I32Xor),
+            0x74 => Some(NumOp::I32Shl),
+            0x75 => Some(NumOp::I32ShrS),
+            0x76 => Some(NumOp::I32ShrU),
+            0x77 => Some(NumOp::I32Rotl),
+            0x78 => Some(NumOp::I32Rotr),
+            0x79 => Some(NumOp::I64Clz),
+            0x7A => Some(NumOp::I64Ctz),
+            0x7B => Some(NumOp::I64Popcnt),
+            0x7C => Some(NumOp::I64Add),
+            0x7D => Some(NumOp::I64Sub),
+            0x7E => Some(NumOp::I64Mul),
+            0x7F => Some(NumOp::I64DivS),
+            0x80 => Some(NumOp::I64DivU),
+            0x81 => Some(NumOp::I64RemS),
+            0x82 => Some(NumOp::I64RemU),
+            0x83 => Some(NumOp::I64And),
+            0x84 => Some(NumOp::I64Or),
+            0x85 => Some(NumOp::I64Xor),
+            0x86 => Some(NumOp::I64Shl),
+            0x87 => Some(NumOp::I64ShrS),
+            0x88 => Some(NumOp::I64ShrU),
+            0x89 => Some(NumOp::I64Rotl),
+            0x8A => Some(NumOp::I64Rotr),
+            0xA7 => Some(NumOp::I32WrapI64),
+            0xAC => Some(NumOp::I64ExtendI32S),
+            0xAD => Some(NumOp::I64ExtendI32U),
+            _ => None,
+        }
+    }
 
     /// How many operands it takes: 1 for tests, counts and conversions, else 2.
     pub fn operands(&self) -> usize
@@ -153,7 +344,17 @@ impl NumOp {
             NumOp::I64Xor | NumOp::I64Shl | NumOp::I64ShrS | NumOp::I64ShrU => ValType::I64,
             NumOp::I64Rotl | NumOp::I64Rotr => ValType::I64,
             NumOp::I64ExtendI32S | NumOp::I64ExtendI32U => ValType::I64,
-            _ => ValType::I32,
+            NumOp::I32Eqz | NumOp::I32Eq | NumOp::I32Ne | NumOp::I32LtS => ValType::I32,
+            NumOp::I32LtU | NumOp::I32GtS | NumOp::I32GtU | NumOp::I32LeS => ValType::I32,
+            NumOp::I32LeU | NumOp::I32GeS | NumOp::I32GeU | NumOp::I64Eqz => ValType::I32,
+            NumOp::I64Eq | NumOp::I64Ne | NumOp::I64LtS | NumOp::I64LtU => ValType::I32,
+            NumOp::I64GtS | NumOp::I64GtU | NumOp::I64LeS | NumOp::I64LeU => ValType::I32,
+            NumOp::I64GeS | NumOp::I64GeU | NumOp::I32Clz | NumOp::I32Ctz => ValType::I32,
+            NumOp::I32Popcnt | NumOp::I32Add | NumOp::I32Sub | NumOp::I32Mul => ValType::I32,
+            NumOp::I32DivS | NumOp::I32DivU | NumOp::I32RemS | NumOp::I32RemU => ValType::I32,
+            NumOp::I32And | NumOp::I32Or | NumOp::I32Xor | NumOp::I32Shl => ValType::I32,
+            NumOp::I32ShrS | NumOp::I32ShrU | NumOp::I32Rotl | NumOp::I32Rotr => ValType::I32,
+            NumOp::I32WrapI64 => ValType::I32,
         }
     }
 
