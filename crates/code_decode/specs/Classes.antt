@@ -1,10 +1,6 @@
 -- What the classes of opcodes stand for.
-use Rattle.std.specs.Prelude.{◌≡◌, ℕ, ◌≤◌}
-use Rattle.wasm_num.specs.declared.NumOp.{NumOp}
-use Rattle.module_ast.specs.declared.ops.LoadOp.{LoadOp}
-use Rattle.module_ast.specs.declared.ops.StoreOp.{StoreOp}
+use Rattle.std.specs.Prelude.{ℕ}
 use Rattle.module_ast.specs.declared.ops.MemArg.{MemArg}
-use Rattle.module_ast.specs.Opcodes.{num_opcode, load_opcode, store_opcode}
 use Rattle.module_ast.specs.Tree.{Plain, unreachable, nop, br, br_if, return_, call, drop_, select, local_get, local_set, local_tee, global_get, global_set, load, store, memory_size, memory_grow, num}
 use Rattle.module_ast.specs.Tokens as tokens
 use Rattle.module_ast.specs.Tokens.{Shape}
@@ -22,22 +18,6 @@ use Rattle.code_decode.specs.declared.class.Opening.{Opening}
 use Rattle.code_decode.specs.declared.class.Opening.TheVariants as openings
 use Rattle.code_decode.specs.declared.class.Class.{Class}
 use Rattle.code_decode.specs.declared.class.Class.TheVariants as classes
-
--- an opcode of a load, of a store, of a test or comparison, of arithmetic of 32 bits, of arithmetic of 64 bits
-abbrev pub IsLoad : ℕ → Type 0
-IsLoad opcode = (op : LoadOp) × (load_opcode op ≡ opcode)
-
-abbrev pub IsStore : ℕ → Type 0
-IsStore opcode = (op : StoreOp) × (store_opcode op ≡ opcode)
-
-abbrev pub IsTest : ℕ → Type 0
-IsTest opcode = (op : NumOp) × (num_opcode op ≡ opcode) × (opcode ≤ 0x5A)
-
-abbrev pub IsSmallOp : ℕ → Type 0
-IsSmallOp opcode = (op : NumOp) × (num_opcode op ≡ opcode) × (0x67 ≤ opcode) × (opcode ≤ 0x78)
-
-abbrev pub IsWideOp : ℕ → Type 0
-IsWideOp opcode = (op : NumOp) × (num_opcode op ≡ opcode) × (0x79 ≤ opcode) × (opcode ≤ 0x8A)
 
 -- the instruction
 abbrev pub bare_plain : Bare → Plain

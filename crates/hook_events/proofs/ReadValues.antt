@@ -3,8 +3,9 @@
 --     reads_one, reads_two, reads_three      what one to three reads give, of all values
 --     number_value      a number is the value of 32 bits
 --     call_pre_told, indirect_told, binary_read      the events of calls and of binary instructions
-use Rattle.std.proofs.Common.{◌≡◌, ℕ, zero, suc, ◌+◌, ◌<◌, List, [], ◌∷◌, ◌++◌, length, drop, get_or, Option, Some, None, slice_get, refl, sym, ap, ap₂, ◌∙◌, subst, arith}
+use Rattle.std.proofs.Common.{◌≡◌, ℕ, zero, suc, ◌+◌, ◌<◌, ◌≤◌, inl, inr, List, [], ◌∷◌, ◌++◌, length, drop, get_or, Option, Some, None, slice_get, refl, sym, ap, ap₂, ◌∙◌, subst, arith}
 use Rattle.std.specs.List.{slice_index}
+use Rattle.std.proofs.lemmas.Bool.{cases_lt}
 use Rattle.std.proofs.lemmas.List.{drop_more, drop-drop, length-map}
 use Rattle.std.proofs.lemmas.Option.{slice_get_within, get_or_from_slice_get}
 use Rattle.wasm_num.specs.declared.ValType.{ValType}
@@ -130,19 +131,17 @@ indirect_told info slots loc key ts ws w1 w2 ty slot callee args is first left s
     ∙ ap (λ k. key_event info slots k loc (values_from (value_types k) ws)) (sym is)
 
 -- a number instruction has one operand or two
+few_operands : (op : NumOp) → (1 ≤ length (num_operands op)) × (length (num_operands op) ≤ 2)
+few_operands ops.I32Eqz = (omega arith, omega arith)
+few_operands op = (omega arith, omega arith)
+
 two_operands : (op : NumOp) → (length (num_operands op) ≡ 1 → ⊥) → length (num_operands op) ≡ 2
-two_operands ops.I32Eqz h = absurd (h refl)
-two_operands ops.I32Clz h = absurd (h refl)
-two_operands ops.I32Ctz h = absurd (h refl)
-two_operands ops.I32Popcnt h = absurd (h refl)
-two_operands ops.I64Eqz h = absurd (h refl)
-two_operands ops.I64Clz h = absurd (h refl)
-two_operands ops.I64Ctz h = absurd (h refl)
-two_operands ops.I64Popcnt h = absurd (h refl)
-two_operands ops.I32WrapI64 h = absurd (h refl)
-two_operands ops.I64ExtendI32S h = absurd (h refl)
-two_operands ops.I64ExtendI32U h = absurd (h refl)
-two_operands op h = refl
+two_operands op h =
+    let few = few_operands op in
+    elim (cases_lt (length (num_operands op)) 2) [
+      | inl l ↦ absurd (h (omega (arith, few.0)))
+      | inr l ↦ omega (arith, few.1)
+    ]
 
 pub binary_told : (op : NumOp) (loc : Loc) (ts : List ValType) (d e r : ValType) (ws w1 w2 : List ℕ) (a b c : Value) → length ts ≡ 2 → r ≡ num_result op
     → a ≡ value_at (values_from (get_or ts 0 d ∷ []) ws) 0 → w1 ≡ behind (get_or ts 0 d) ws → b ≡ value_at (values_from (get_or ts 1 e ∷ []) w1) 0 → w2 ≡ behind (get_or ts 1 e) w1

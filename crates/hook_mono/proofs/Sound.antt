@@ -10,10 +10,12 @@ use Rattle.wasm_num.specs.declared.BlockKind.{BlockKind}
 use Rattle.wasm_num.specs.Names.{num_name}
 use Rattle.module_ast.specs.declared.ops.VarOp.TheVariants.{Get, Set, Tee}
 use Rattle.module_ast.specs.OpNames.{load_name, store_name}
-use Rattle.wasm_num.specs.Kinds.{kind_name}
+use Rattle.wasm_num.specs.Kinds.{all_kinds, kind_name}
+use Rattle.wasm_num.specs.Opcodes.{num_ops}
+use Rattle.module_ast.specs.Opcodes.{load_ops, store_ops}
 use Rattle.hook_mono.specs.declared.HookKey.{HookKey}
 use Rattle.hook_mono.specs.declared.HookKey.TheVariants.{Plain, Begin, End, Const, Num, Drop, Select, Local, Global, Load, Store, CallPre, IndirectPre, CallPost, Return}
-use Rattle.hook_mono.specs.Orders.{both_types, all_kinds, all_loads, all_stores, all_nums}
+use Rattle.hook_mono.specs.Orders.{both_types}
 use Rattle.hook_mono.specs.Keys.{is_proper, IsProper}
 use Rattle.hook_mono.specs.Names.{name_of, plain_name, const_name, letter, letters, IsNamed, IsKeyOf}
 use Rattle.hook_mono.specs.Reading.{Reader, plain_groups, named, strip, letter_type, letter_types, one_type, kind_behind, type_behind, types_behind, or_read, first_read, fixed_readers, letter_readers, types_readers, key_named}
@@ -127,9 +129,9 @@ fixed_sound =
     (first_sound _ _ (kind_sound (codes "begin_") Begin (λ kind. refl) (λ kind. refl))
     (first_sound _ _ (kind_sound (codes "end_") End (λ kind. refl) (λ kind. refl))
     (first_sound _ _ (sound_list Const const_name both_types (λ t. refl) refl)
-    (first_sound _ _ (sound_list Num num_name all_nums (λ op. refl) refl)
-    (first_sound _ _ (sound_list Load load_name all_loads (λ op. refl) refl)
-    (first_sound _ _ (sound_list Store store_name all_stores (λ op. refl) refl) none_sound)))))))
+    (first_sound _ _ (sound_list Num num_name num_ops (λ op. refl) refl)
+    (first_sound _ _ (sound_list Load load_name load_ops (λ op. refl) refl)
+    (first_sound _ _ (sound_list Store store_name store_ops (λ op. refl) refl) none_sound)))))))
 
 letter_sound : Sound (first_read letter_readers)
 letter_sound =

@@ -9,10 +9,12 @@ use Rattle.module_ast.specs.declared.ops.VarOp.TheVariants.{Get, Set, Tee}
 use Rattle.module_ast.specs.OpNames.{load_name, store_name}
 use Rattle.hook_select.specs.declared.GroupName.{GroupName}
 use Rattle.hook_select.specs.declared.GroupName.TheVariants as groups
-use Rattle.wasm_num.specs.Kinds.{kind_name}
+use Rattle.wasm_num.specs.Kinds.{all_kinds, kind_name}
+use Rattle.wasm_num.specs.Opcodes.{num_ops}
+use Rattle.module_ast.specs.Opcodes.{load_ops, store_ops}
 use Rattle.hook_mono.specs.declared.HookKey.{HookKey}
 use Rattle.hook_mono.specs.declared.HookKey.TheVariants.{Plain, Begin, End, Const, Num, Drop, Select, Local, Global, Load, Store, CallPre, IndirectPre, CallPost, Return}
-use Rattle.hook_mono.specs.Orders.{both_types, all_kinds, all_loads, all_stores, all_nums}
+use Rattle.hook_mono.specs.Orders.{both_types}
 use Rattle.hook_mono.specs.Names.{plain_name, const_name}
 
 -- the groups that are a key by themselves, in their order
@@ -71,9 +73,9 @@ fixed_readers =
     ∷ kind_behind (codes "begin_") Begin
     ∷ kind_behind (codes "end_") End
     ∷ (λ name. option_map Const (named const_name both_types name))
-    ∷ (λ name. option_map Num (named num_name all_nums name))
-    ∷ (λ name. option_map Load (named load_name all_loads name))
-    ∷ (λ name. option_map Store (named store_name all_stores name))
+    ∷ (λ name. option_map Num (named num_name num_ops name))
+    ∷ (λ name. option_map Load (named load_name load_ops name))
+    ∷ (λ name. option_map Store (named store_name store_ops name))
     ∷ []
 
 -- of one type

@@ -4,13 +4,12 @@ ghost use Rattle.std.specs.Prelude.{◌≡◌, map, flat_map, fold};
 ghost use Rattle.std.specs.Hash as fed;
 ghost use Rattle.std.specs.Str.{bytes_eq};
 ghost use Rattle.hook_mono.specs.Keys.{key_variant, key_detail, key_types};
-ghost use Rattle.hook_mono.specs.Orders.{type_number, load_number, store_number, num_number};
+ghost use Rattle.hook_mono.specs.Orders.{type_number};
 
 use crate::HookKey;
-use module_ast::ops::{LoadOp, StoreOp};
 use std::hash::{Hash, Hasher};
 use std::slice::from_ref;
-use wasm_num::{NumOp, ValType};
+use wasm_num::ValType;
 
 impl HookKey {
     // The number of the variant.
@@ -36,19 +35,19 @@ impl HookKey {
         }
     }
 
-    // What the key holds beside types, as its place among its kind.
+    // What the key holds beside types, as its place among its kind, or its opcode.
     fn detail(&self) -> u8
         ensures { result ≡ key_detail self.now }
     {
         match self {
             HookKey::Plain(group) => *group as u8,
-            HookKey::Begin(kind) => *kind as u8,
-            HookKey::End(kind) => *kind as u8,
-            HookKey::Num(op) => num_number(*op),
+            HookKey::Begin(kind) => kind.number(),
+            HookKey::End(kind) => kind.number(),
+            HookKey::Num(op) => op.opcode(),
             HookKey::Local(op, _) => *op as u8,
             HookKey::Global(op, _) => *op as u8,
-            HookKey::Load(op) => load_number(*op),
-            HookKey::Store(op) => store_number(*op),
+            HookKey::Load(op) => op.opcode(),
+            HookKey::Store(op) => op.opcode(),
             _ => 0,
         }
     }
@@ -70,24 +69,6 @@ impl HookKey {
             _ => &[],
         }
     }
-}
-
-fn load_number(op: LoadOp) -> u8
-    ensures { result ≡ load_number op }
-{
-    op as u8
-}
-
-fn store_number(op: StoreOp) -> u8
-    ensures { result ≡ store_number op }
-{
-    op as u8
-}
-
-fn num_number(op: NumOp) -> u8
-    ensures { result ≡ num_number op }
-{
-    op as u8
 }
 
 // Whether two lists have the same types.

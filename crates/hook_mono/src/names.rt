@@ -1,7 +1,6 @@
 // Names of hooks.
 
 ghost use Rattle.std.specs.Prelude.{◌≡◌, ◌++◌, codes, IfOk, string_bytes};
-ghost use Rattle.wasm_num.specs.Kinds.{kind_name};
 ghost use Rattle.hook_mono.specs.Names.{const_name, letters, name_of, plain_name, var_name};
 ghost use Rattle.hook_mono.specs.Texts.{hook_text};
 
@@ -10,7 +9,7 @@ use hook_select::GroupName;
 use module_ast::name::Name;
 use module_ast::ops::VarOp;
 use std::alloc::Global;
-use wasm_num::{BlockKind, NoMemory, ValType};
+use wasm_num::{NoMemory, ValType};
 
 /// The name of the hook of a key: no two proper keys have one name. It is in ASCII.
 pub fn name_of(alloc: Global, key: &HookKey) -> Result<Name, NoMemory>
@@ -26,8 +25,8 @@ fn text_of(alloc: Global, key: &HookKey) -> Result<String, NoMemory>
 {
     match key {
         HookKey::Plain(group) => String::from_str(alloc, plain_name(*group)),
-        HookKey::Begin(kind) => joined(alloc, "begin_", kind_name(*kind)),
-        HookKey::End(kind) => joined(alloc, "end_", kind_name(*kind)),
+        HookKey::Begin(kind) => joined(alloc, "begin_", kind.name()),
+        HookKey::End(kind) => joined(alloc, "end_", kind.name()),
         HookKey::Const(ty) => String::from_str(alloc, const_name(*ty)),
         HookKey::Num(op) => String::from_str(alloc, op.name()),
         HookKey::Drop(ty) => with_letters(alloc, "drop_", &[*ty]),
@@ -111,18 +110,5 @@ pub(crate) fn const_name(ty: ValType) -> &'static str
     match ty {
         ValType::I32 => "i32.const",
         ValType::I64 => "i64.const",
-    }
-}
-
-// The name of a kind of block.
-pub(crate) fn kind_name(kind: BlockKind) -> &'static str
-    ensures { result.now ≡ kind_name kind }
-{
-    match kind {
-        BlockKind::Function => "function",
-        BlockKind::Block => "block",
-        BlockKind::Loop => "loop",
-        BlockKind::If => "if",
-        BlockKind::Else => "else",
     }
 }

@@ -4,13 +4,12 @@ ghost use Rattle.std.specs.Prelude.{◌≡◌, ℕ, List, IfOk, option_and_then}
 ghost use Rattle.std.specs.Option.{option_map};
 ghost use Rattle.wasm_num.specs.Names.{num_name};
 ghost use Rattle.module_ast.specs.OpNames.{load_name, store_name};
-ghost use Rattle.wasm_num.specs.Kinds.{kind_name};
+ghost use Rattle.wasm_num.specs.Kinds.{all_kinds, kind_name};
 ghost use Rattle.hook_mono.specs.Names.{plain_name, const_name, IsKeyOf};
-ghost use Rattle.hook_mono.specs.Orders.{all_kinds};
 ghost use Rattle.hook_mono.specs.Reading.{named, strip, letter_type, letter_types, one_type, first_read, fixed_readers, letter_readers, types_readers, key_named};
 
 use crate::HookKey;
-use crate::names::{const_name, kind_name, plain_name};
+use crate::names::{const_name, plain_name};
 use hook_select::GroupName;
 use module_ast::ops::{LoadOp, StoreOp, VarOp};
 use module_ast::seq::Seq;
@@ -29,104 +28,7 @@ const PLAINS: [GroupName; 9] = [
     GroupName::MemoryGrow,
 ];
 
-const BLOCK_KINDS: [BlockKind; 5] = [
-    BlockKind::Function,
-    BlockKind::Block,
-    BlockKind::Loop,
-    BlockKind::If,
-    BlockKind::Else,
-];
-
 const VAL_TYPES: [ValType; 2] = [ValType::I32, ValType::I64];
-
-const NUM_OPS: [NumOp; 61] = [
-    NumOp::I32Eqz,
-    NumOp::I32Eq,
-    NumOp::I32Ne,
-    NumOp::I32LtS,
-    NumOp::I32LtU,
-    NumOp::I32GtS,
-    NumOp::I32GtU,
-    NumOp::I32LeS,
-    NumOp::I32LeU,
-    NumOp::I32GeS,
-    NumOp::I32GeU,
-    NumOp::I64Eqz,
-    NumOp::I64Eq,
-    NumOp::I64Ne,
-    NumOp::I64LtS,
-    NumOp::I64LtU,
-    NumOp::I64GtS,
-    NumOp::I64GtU,
-    NumOp::I64LeS,
-    NumOp::I64LeU,
-    NumOp::I64GeS,
-    NumOp::I64GeU,
-    NumOp::I32Clz,
-    NumOp::I32Ctz,
-    NumOp::I32Popcnt,
-    NumOp::I32Add,
-    NumOp::I32Sub,
-    NumOp::I32Mul,
-    NumOp::I32DivS,
-    NumOp::I32DivU,
-    NumOp::I32RemS,
-    NumOp::I32RemU,
-    NumOp::I32And,
-    NumOp::I32Or,
-    NumOp::I32Xor,
-    NumOp::I32Shl,
-    NumOp::I32ShrS,
-    NumOp::I32ShrU,
-    NumOp::I32Rotl,
-    NumOp::I32Rotr,
-    NumOp::I64Clz,
-    NumOp::I64Ctz,
-    NumOp::I64Popcnt,
-    NumOp::I64Add,
-    NumOp::I64Sub,
-    NumOp::I64Mul,
-    NumOp::I64DivS,
-    NumOp::I64DivU,
-    NumOp::I64RemS,
-    NumOp::I64RemU,
-    NumOp::I64And,
-    NumOp::I64Or,
-    NumOp::I64Xor,
-    NumOp::I64Shl,
-    NumOp::I64ShrS,
-    NumOp::I64ShrU,
-    NumOp::I64Rotl,
-    NumOp::I64Rotr,
-    NumOp::I32WrapI64,
-    NumOp::I64ExtendI32S,
-    NumOp::I64ExtendI32U,
-];
-
-const LOAD_OPS: [LoadOp; 12] = [
-    LoadOp::I32Load,
-    LoadOp::I64Load,
-    LoadOp::I32Load8S,
-    LoadOp::I32Load8U,
-    LoadOp::I32Load16S,
-    LoadOp::I32Load16U,
-    LoadOp::I64Load8S,
-    LoadOp::I64Load8U,
-    LoadOp::I64Load16S,
-    LoadOp::I64Load16U,
-    LoadOp::I64Load32S,
-    LoadOp::I64Load32U,
-];
-
-const STORE_OPS: [StoreOp; 7] = [
-    StoreOp::I32Store,
-    StoreOp::I64Store,
-    StoreOp::I32Store8,
-    StoreOp::I32Store16,
-    StoreOp::I64Store8,
-    StoreOp::I64Store16,
-    StoreOp::I64Store32,
-];
 
 // What a hook's name is made of.
 trait HasName: Copy {
@@ -148,7 +50,7 @@ impl HasName for BlockKind {
     ghost hook_name = { kind_name };
 
     fn hook_name(self) -> &'static str {
-        kind_name(self)
+        self.name()
     }
 }
 
@@ -221,13 +123,13 @@ fn fixed_key(name: &str) -> Option<HookKey>
     if let Some(ty) = named(&VAL_TYPES, name) {
         return Some(HookKey::Const(ty));
     }
-    if let Some(op) = named(&NUM_OPS, name) {
+    if let Some(op) = named(&NumOp::ALL, name) {
         return Some(HookKey::Num(op));
     }
-    if let Some(op) = named(&LOAD_OPS, name) {
+    if let Some(op) = named(&LoadOp::ALL, name) {
         return Some(HookKey::Load(op));
     }
-    if let Some(op) = named(&STORE_OPS, name) {
+    if let Some(op) = named(&StoreOp::ALL, name) {
         return Some(HookKey::Store(op));
     }
     None
@@ -303,7 +205,7 @@ fn kind_behind(head: &str, name: &str) -> Option<BlockKind>
     ensures { result ≡ option_and_then (named kind_name all_kinds) (strip head.now name.now) }
 {
     match strip(head, name) {
-        Some(rest) => named(&BLOCK_KINDS, rest),
+        Some(rest) => named(&BlockKind::ALL, rest),
         None => None,
     }
 }

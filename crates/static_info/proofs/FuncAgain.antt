@@ -6,7 +6,7 @@ use Rattle.std.proofs.lemmas.List.Elements.{All-nil, All-cons, All-append}
 use Rattle.wasm_num.specs.declared.ValType.{ValType}
 use Rattle.wasm_num.specs.declared.ValType.TheVariants.{I32, I64}
 use Rattle.wasm_num.specs.declared.BlockKind.{BlockKind}
-use Rattle.wasm_num.specs.declared.BlockKind.TheVariants.{Function, Block, Loop, If, Else}
+use Rattle.wasm_num.specs.declared.BlockKind.TheVariants.{Function}
 use Rattle.serde_json.specs.Data.{Data}
 use Rattle.wasm_num.specs.Kinds.{kind_number}
 use Rattle.hook_mono.specs.Names.{letters}
@@ -27,10 +27,7 @@ types_again (I64 ∷ ts) = ap (option_map (λ later. I64 ∷ later)) (types_agai
 
 kind_again : (k : BlockKind) → kind_form (count_data (kind_number k)) ≡ Some k
 kind_again Function = refl
-kind_again Block = refl
-kind_again Loop = refl
-kind_again If = refl
-kind_again Else = refl
+kind_again k = refl
 
 position_again : (z : ℤ) → negsuc 0 ≤ℤ z → z <ℤ pos (2 ^ 31) → position_form (number_data z) ≡ Some z
 position_again z low high = whole_again (negsuc 0) (pos (2 ^ 31 - 1)) z low (omega (arith, ints))

@@ -8,7 +8,8 @@ use Rattle.wasm_num.specs.declared.BlockKind.{BlockKind}
 use Rattle.wasm_num.specs.declared.BlockKind.TheVariants as kinds
 use Rattle.serde_json.specs.Data.{Data, string, array, item, no_items}
 use Rattle.serde_json.specs.Find.{as_str}
-use Rattle.wasm_num.specs.Kinds.{kind_number}
+use Rattle.wasm_num.specs.Kinds.{kind_number, kind_of_number}
+use Rattle.wasm_num.proofs.Opcodes.{kind_exact}
 use Rattle.hook_mono.specs.Names.{letter, letters}
 use Rattle.hook_mono.specs.Reading.{letter_type, letter_types}
 use Rattle.branch_resolve.specs.declared.Block.{Block}
@@ -17,7 +18,7 @@ use Rattle.json_form.proofs.Exact.{then_some, passes, count_exact, whole_exact, 
 use Rattle.static_info.specs.declared.TableInfo.{TableInfo}
 use Rattle.static_info.specs.declared.FuncInfo.{FuncInfo}
 use Rattle.static_info.specs.Json.{list_of, count_data, number_data, types_data, block_data, table_data, func_data}
-use Rattle.static_info.specs.Shape.{types_form, kind_of, kind_form, position_form, label_form, block_form, table_form, imported_form, defined_form, func_form}
+use Rattle.static_info.specs.Shape.{types_form, kind_form, position_form, label_form, block_form, table_form, imported_form, defined_form, func_form}
 
 -- Which way a test went.
 chosen : {A : Type 0} (b : Bool) (x y z : A) → cond b x y ≡ z → ((b ≡ true) × (x ≡ z)) ⊎ ((b ≡ false) × (y ≡ z))
@@ -50,27 +51,8 @@ types_exact (b ∷ bs) ts e =
 types_data_exact : (d : Data) (ts : List ValType) → types_form d ≡ Some ts → types_data ts ≡ d
 types_data_exact d ts e = option_and_then_some letter_types (as_str d) ts e (λ s is gives. ap string (types_exact s ts gives) ∙ text_exact d s is)
 
-numbered : (n : ℕ) (k : BlockKind) → kind_of n ≡ Some k → kind_number k ≡ n
-numbered n k e =
-    elim (chosen (n == 0) _ _ (Some k) e) [
-      | inl h ↦ let is : kinds.Function ≡ k = cc in ap kind_number (sym is) ∙ sym (eqb-true n 0 h.0)
-      | inr h0 ↦ elim (chosen (n == 1) _ _ (Some k) h0.1) [
-        | inl h ↦ let is : kinds.Block ≡ k = cc in ap kind_number (sym is) ∙ sym (eqb-true n 1 h.0)
-        | inr h1 ↦ elim (chosen (n == 2) _ _ (Some k) h1.1) [
-          | inl h ↦ let is : kinds.Loop ≡ k = cc in ap kind_number (sym is) ∙ sym (eqb-true n 2 h.0)
-          | inr h2 ↦ elim (chosen (n == 3) _ _ (Some k) h2.1) [
-            | inl h ↦ let is : kinds.If ≡ k = cc in ap kind_number (sym is) ∙ sym (eqb-true n 3 h.0)
-            | inr h3 ↦ elim (chosen (n == 4) _ _ (Some k) h3.1) [
-              | inl h ↦ let is : kinds.Else ≡ k = cc in ap kind_number (sym is) ∙ sym (eqb-true n 4 h.0)
-              | inr h4 ↦ cc
-            ]
-          ]
-        ]
-      ]
-    ]
-
-kind_exact : (d : Data) (k : BlockKind) → kind_form d ≡ Some k → count_data (kind_number k) ≡ d
-kind_exact d k e = option_and_then_some kind_of (count_form 0 4 d) k e (λ n is gives. ap count_data (numbered n k gives) ∙ count_exact 0 4 d n is)
+kind_form_exact : (d : Data) (k : BlockKind) → kind_form d ≡ Some k → count_data (kind_number k) ≡ d
+kind_form_exact d k e = option_and_then_some kind_of_number (count_form 0 4 d) k e (λ n is gives. ap count_data (kind_exact n k gives) ∙ count_exact 0 4 d n is)
 
 position_exact : (d : Data) (z : ℤ) → position_form d ≡ Some z → number_data z ≡ d
 position_exact d z e = whole_exact (negsuc 0) (pos (2 ^ 31 - 1)) d z e
@@ -98,7 +80,7 @@ block_exact d b e =
     let target = then_some (item_form 3 position_form d) _ b end.2 in
     let is : ◌≡◌ {A = Block} (record { kind = kind.0; begin = begin.0; end = end.0; target = target.0 }) b = cc (target.2) in
     ap block_data (sym is) ∙ four_parts _ _ _ _ shape.0 shape.1 shape.2 shape.3
-    (kind_exact shape.0 kind.0 (at_item d _ 0 kind_form kind.0 shape.4 kind.1))
+    (kind_form_exact shape.0 kind.0 (at_item d _ 0 kind_form kind.0 shape.4 kind.1))
     (position_exact shape.1 begin.0 (at_item d _ 1 position_form begin.0 shape.4 begin.1))
     (position_exact shape.2 end.0 (at_item d _ 2 position_form end.0 shape.4 end.1))
     (position_exact shape.3 target.0 (at_item d _ 3 position_form target.0 shape.4 target.1))

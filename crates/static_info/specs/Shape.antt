@@ -2,7 +2,7 @@
 use Rattle.std.specs.Prelude.{◌-◌, ◌^◌, ◌==◌, ◌&&◌, ℕ, ℤ, pos, negsuc, List, [], ◌∷◌, length, fold, Bool, true, false, cond, codes, bytes_eq, Option, Some, None, option_and_then}
 use Rattle.wasm_num.specs.declared.ValType.{ValType}
 use Rattle.wasm_num.specs.declared.BlockKind.{BlockKind}
-use Rattle.wasm_num.specs.declared.BlockKind.TheVariants as kinds
+use Rattle.wasm_num.specs.Kinds.{kind_of_number}
 use Rattle.serde_json.specs.Data.{Data, object, Members, no_members, member}
 use Rattle.serde_json.specs.Find.{as_str}
 use Rattle.hook_select.specs.declared.GroupName.{GroupName}
@@ -22,16 +22,8 @@ use Rattle.static_info.specs.declared.Info.{Info}
 abbrev pub types_form : Data → Option (List ValType)
 types_form d = option_and_then letter_types (as_str d)
 
-abbrev pub kind_of : ℕ → Option BlockKind
-kind_of n =
-    cond (n == 0) (Some kinds.Function)
-    (cond (n == 1) (Some kinds.Block)
-    (cond (n == 2) (Some kinds.Loop)
-    (cond (n == 3) (Some kinds.If)
-    (cond (n == 4) (Some kinds.Else) None))))
-
 abbrev pub kind_form : Data → Option BlockKind
-kind_form d = option_and_then kind_of (count_form 0 4 d)
+kind_form d = option_and_then kind_of_number (count_form 0 4 d)
 
 -- a position, from -1 on for what begins there
 abbrev pub position_form : Data → Option ℤ

@@ -136,13 +136,10 @@ fn read_types(alloc: Global, value: &Value) -> Result<Seq<ValType>, FormFault>
 fn read_kind(value: &Value) -> Result<BlockKind, FormFault>
     ensures { ReadsForm result (kind_form (view value.now)) }
 {
-    match read_count(value, 0, 4)? {
-        0 => Ok(BlockKind::Function),
-        1 => Ok(BlockKind::Block),
-        2 => Ok(BlockKind::Loop),
-        3 => Ok(BlockKind::If),
-        4 => Ok(BlockKind::Else),
-        _ => Err(FormFault::Wrong),
+    let number = read_count(value, 0, 4)?;
+    match u8::try_from(number) {
+        Ok(number) => BlockKind::of_number(number).ok_or(FormFault::Wrong),
+        Err(_) => Err(FormFault::Wrong),
     }
 }
 

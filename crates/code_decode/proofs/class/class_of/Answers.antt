@@ -1,128 +1,38 @@
-use Rattle.std.proofs.Common.{arith, ap, inl, inr, ◌∙◌, sym}
+use Rattle.std.proofs.Common.{◌∙◌, sym, ap, arith}
+use Rattle.std.proofs.lemmas.Bool.Decides.{nat_tests}
+use Rattle.wasm_num.proofs.Opcodes.{num_exact}
 use Rattle.module_ast.specs.Tokens.{shape_at}
-use Rattle.module_ast.proofs.Tokens.{float_op, float_access, load_told, store_told, num_told}
-use Rattle.module_ast.proofs.SpelledTokens.{large}
-use Rattle.code_decode.proofs.Classes.{nothing_37, load_40, load_44, store_54, store_58, test_69, small_103, wide_121}
+use Rattle.module_ast.proofs.Opcodes.{load_exact, store_exact}
+use Rattle.module_ast.proofs.Tokens.{load_told, store_told, num_told}
+use Rattle.module_ast.proofs.SpelledTokens.{apart}
+use Rattle.code_decode.proofs.Classes.{no_load, no_store, no_num}
 use Rattle.code_decode.proofs.class.class_of.Goals as goal
+use Rattle.code_decode.proofs.class.class_of.Goals.{in_default-via-then-opcode-lt40, in_default-via-else-opcode-lt40+else-opcode-lt54+else-opcode-lt63+then-opcode-lt69, in_default-via-else-opcode-lt40+else-opcode-lt54+else-opcode-lt63+else-opcode-lt69+else-opcode-lt192}
 
-pub returns-in-32 : goal.returns-in-32
-unfolding shape_at
-returns-in-32 c = ap shape_at c.in-32.is
+pub returns-in-Some : goal.returns-in-Some
+returns-in-Some c = ap shape_at (sym (load_exact c.args.opcode c.in-Some.op (sym c.in-Some.ensures))) ∙ load_told c.in-Some.op
 
-pub returns-in-33 : goal.returns-in-33
-unfolding shape_at
-returns-in-33 c = ap shape_at c.in-33.is
+pub returns-in-None : goal.returns-in-None
+returns-in-None c = no_load c.args.opcode (omega arith) (omega arith) (sym c.in-None.ensures)
 
-pub returns-in-34 : goal.returns-in-34
-unfolding shape_at
-returns-in-34 c = ap shape_at c.in-34.is
+pub returns-in-Some-of_opcode : goal.returns-in-Some-of_opcode
+returns-in-Some-of_opcode c =
+    ap shape_at (sym (store_exact c.args.opcode c.in-Some-of_opcode.op (sym c.in-Some-of_opcode.ensures))) ∙ store_told c.in-Some-of_opcode.op
 
-pub returns-in-35 : goal.returns-in-35
-unfolding shape_at
-returns-in-35 c = ap shape_at c.in-35.is
+pub returns-in-None-of_opcode : goal.returns-in-None-of_opcode
+returns-in-None-of_opcode c = no_store c.args.opcode (omega arith) (omega arith) (sym c.in-None-of_opcode.ensures)
 
-pub returns-in-36 : goal.returns-in-36
-unfolding shape_at
-returns-in-36 c = ap shape_at c.in-36.is
+pub returns-in-Some-of_opcode-2 : goal.returns-in-Some-of_opcode-2
+returns-in-Some-of_opcode-2 c =
+    ap shape_at (sym (num_exact c.args.opcode c.in-Some-of_opcode-2.op (sym c.in-Some-of_opcode-2.ensures))) ∙ num_told c.in-Some-of_opcode-2.op
 
-pub returns-in-63 : goal.returns-in-63
-unfolding shape_at
-returns-in-63 c = ap shape_at c.in-63.is
-
-pub returns-in-64 : goal.returns-in-64
-unfolding shape_at
-returns-in-64 c = ap shape_at c.in-64.is
-
-pub returns-in-65 : goal.returns-in-65
-unfolding shape_at
-returns-in-65 c = ap shape_at c.in-65.is
-
-pub returns-in-66 : goal.returns-in-66
-unfolding shape_at
-returns-in-66 c = ap shape_at c.in-66.is
-
-pub returns-in-67 : goal.returns-in-67
-unfolding shape_at
-returns-in-67 c = ap shape_at c.in-67.is
-
-pub returns-in-68 : goal.returns-in-68
-unfolding shape_at
-returns-in-68 c = ap shape_at c.in-68.is
-
-pub returns-in-167 : goal.returns-in-167
-unfolding shape_at
-returns-in-167 c = ap shape_at c.in-167.is
-
-pub returns-in-172 : goal.returns-in-172
-unfolding shape_at
-returns-in-172 c = ap shape_at c.in-172.is
-
-pub returns-in-173 : goal.returns-in-173
-unfolding shape_at
-returns-in-173 c = ap shape_at c.in-173.is
-
-pub load_op-requires : goal.load_op-requires
-load_op-requires c = load_40 _ (omega arith) (omega arith)
-
-pub load_op-requires-in-44-to-53 : goal.load_op-requires-in-44-to-53
-load_op-requires-in-44-to-53 c = load_44 _ (omega arith) (omega arith)
-
-pub store_op-requires : goal.store_op-requires
-store_op-requires c = store_54 _ (omega arith) (omega arith)
-
-pub store_op-requires-in-58-to-62 : goal.store_op-requires-in-58-to-62
-store_op-requires-in-58-to-62 c = store_58 _ (omega arith) (omega arith)
-
-pub test_op-requires : goal.test_op-requires
-test_op-requires c = test_69 _ (omega arith) (omega arith)
-
-pub small_op-requires : goal.small_op-requires
-small_op-requires c = small_103 _ (omega arith) (omega arith)
-
-pub wide_op-requires : goal.wide_op-requires
-wide_op-requires c = wide_121 _ (omega arith) (omega arith)
-
-pub returns-in-40-to-41 : goal.returns-in-40-to-41
-returns-in-40-to-41 c = ap shape_at (sym c.load_op.ensures) ∙ load_told c.load_op.result
-
-pub returns-in-42-to-43 : goal.returns-in-42-to-43
-returns-in-42-to-43 c = float_access _ (inl (omega arith, omega arith))
-
-pub returns-in-44-to-53 : goal.returns-in-44-to-53
-returns-in-44-to-53 c = ap shape_at (sym c.load_op-in-44-to-53.ensures) ∙ load_told c.load_op-in-44-to-53.result
-
-pub returns-in-54-to-55 : goal.returns-in-54-to-55
-returns-in-54-to-55 c = ap shape_at (sym c.store_op.ensures) ∙ store_told c.store_op.result
-
-pub returns-in-56-to-57 : goal.returns-in-56-to-57
-returns-in-56-to-57 c = float_access _ (inr (omega arith, omega arith))
-
-pub returns-in-58-to-62 : goal.returns-in-58-to-62
-returns-in-58-to-62 c = ap shape_at (sym c.store_op-in-58-to-62.ensures) ∙ store_told c.store_op-in-58-to-62.result
-
-pub returns-in-69-to-90 : goal.returns-in-69-to-90
-returns-in-69-to-90 c = ap shape_at (sym c.test_op.ensures) ∙ num_told c.test_op.result
-
-pub returns-in-91-to-102 : goal.returns-in-91-to-102
-returns-in-91-to-102 c = float_op _ (inl (omega arith, omega arith))
-
-pub returns-in-103-to-120 : goal.returns-in-103-to-120
-returns-in-103-to-120 c = ap shape_at (sym c.small_op.ensures) ∙ num_told c.small_op.result
-
-pub returns-in-121-to-138 : goal.returns-in-121-to-138
-returns-in-121-to-138 c = ap shape_at (sym c.wide_op.ensures) ∙ num_told c.wide_op.result
-
-pub returns-in-139-to-166 : goal.returns-in-139-to-166
-returns-in-139-to-166 c = float_op _ (inr (inl (omega arith, omega arith)))
-
-pub returns-in-168-to-171 : goal.returns-in-168-to-171
-returns-in-168-to-171 c = float_op _ (inr (inr (inl (omega arith, omega arith))))
-
-pub returns-in-174-to-191 : goal.returns-in-174-to-191
-returns-in-174-to-191 c = float_op _ (inr (inr (inr (omega arith, omega arith))))
+pub returns-in-None-of_opcode-2 : goal.returns-in-None-of_opcode-2
+returns-in-None-of_opcode-2 c = no_num c.args.opcode (omega arith) (omega arith) (sym c.in-None-of_opcode-2.ensures)
 
 pub returns-in_default : goal.returns-in_default
-returns-in_default c = nothing_37 _ (omega arith) (omega arith)
-
-pub returns-in_default-2 : goal.returns-in_default-2
-returns-in_default-2 c = large _ (omega arith)
+returns-in_default c =
+    elim c.in_default.branch [
+      | in_default-via-then-opcode-lt40 w ↦ apart c.args.opcode (grind (arith, nat_tests)) ∙ c.listed.ensures
+      | in_default-via-else-opcode-lt40+else-opcode-lt54+else-opcode-lt63+then-opcode-lt69 w ↦ apart c.args.opcode (grind (arith, nat_tests)) ∙ c.listed.ensures
+      | in_default-via-else-opcode-lt40+else-opcode-lt54+else-opcode-lt63+else-opcode-lt69+else-opcode-lt192 w ↦ apart c.args.opcode (grind (arith, nat_tests)) ∙ c.listed.ensures
+    ]
