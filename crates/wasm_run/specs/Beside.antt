@@ -4,20 +4,15 @@ use Rattle.std.specs.Prelude.{◌≡◌, ℕ, ◌≤◌, List, Option}
 use Rattle.module_ast.specs.declared.module.Module.{Module}
 use Rattle.module_ast.specs.Memory.{pages}
 use Rattle.wasm_sem.specs.declared.Script.{Script}
-use Rattle.wasm_sem.specs.Store.{Store}
 use Rattle.wasm_sem.specs.Link.{opening_store}
 use Rattle.wasm_sem.specs.Machine.{Env, Configuration, configuration, run_of}
+use Rattle.wasm_sem.specs.Rules.{HasSameRest}
 use Rattle.wasm_num.specs.declared.Value.{Value}
 use Rattle.run_store.specs.Held.{Held}
 use Rattle.wasm_run.specs.declared.functions.Function.{Function}
 use Rattle.wasm_run.specs.Flat.{Flat}
 use Rattle.wasm_run.specs.Resolved.{AreFunctionsOf}
 use Rattle.wasm_run.specs.Running.{IsRunning}
-
--- the same table, and no host call more
-pub record HasSameRest (old new : Store) : Type 0 where
-  pub slots : new.slots ≡ old.slots
-  pub hosts : new.hosts ≡ old.hosts
 
 -- the same runs, with the answers so far
 pub record GoesOnBeside (old new : Env) : Type 0 where
