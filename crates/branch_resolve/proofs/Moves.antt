@@ -6,8 +6,6 @@ use Rattle.wasm_num.specs.declared.BlockKind.{BlockKind}
 use Rattle.wasm_num.specs.declared.BlockKind.TheVariants as kinds
 use Rattle.module_ast.specs.declared.code.BlockType.{BlockType}
 use Rattle.module_ast.specs.declared.code.Instr.{Instr}
-use Rattle.module_ast.specs.declared.code.Instr.TheVariants.{Block, Loop, If, Unreachable, Nop, Br, BrIf, BrTable, Return, Call, CallIndirect, Drop, Select, LocalGet, LocalSet, LocalTee, GlobalGet, GlobalSet, Load, Store, MemorySize, MemoryGrow, I32Const, I64Const, Num}
-use Rattle.module_ast.specs.Tree as tree
 use Rattle.module_ast.specs.Tree.{Tree, done, plain, Plain, block, loop, if_then, if_else}
 use Rattle.module_ast.specs.Seen.{before, code_of}
 use Rattle.module_ast.specs.Plains.{plain_of, IsPlainInstr, goes_on_by}
@@ -17,6 +15,7 @@ use Rattle.branch_resolve.specs.Scopes.{block_of, blocks_around}
 use Rattle.branch_resolve.specs.Levels.{places_from, outer_places, level_places, end_places, scope_of, level_scopes, block_sizes, other_sizes, outer_sizes, IsPartWithin, IsOtherWithin, AreSteps, AreLevelsWithin, IsOpening, kind_scope}
 use Rattle.branch_resolve.specs.declared.steps.Other.{Other}
 use Rattle.branch_resolve.specs.declared.steps.Level.{Level}
+use Rattle.module_ast.proofs.Plains.{by_plain}
 
 -- a position as the program gives it
 pub position_is : (p n : ℕ) → p + n ≤ 268435456 → pos p ≡ to_z w32 p
@@ -26,36 +25,6 @@ pub signed_is : (z : ℤ) (p n : ℕ) → z ≡ pos p → p + n ≤ 268435456 �
 signed_is z p n e h = let f : pos p ≡ to_z w32 (of_z w32 (pos p)) = omega (arith, ints) in f ∙ ap (λ x. to_z w32 (of_z w32 x)) (sym e)
 
 -- ---- an instruction with no sequence in it
-
-abbrev IsBy : Instr → Type 0
-IsBy i = (p : Plain) × (plain_of i ≡ Some p) × ((t : Tree) → before i t ≡ plain p t)
-
-by_plain : (i : Instr) → IsPlainInstr i → IsBy i
-by_plain (Block b a) h = absurd h
-by_plain (Loop b a) h = absurd h
-by_plain (If b a e) h = absurd h
-by_plain Unreachable h = (tree.unreachable, refl, λ t. refl)
-by_plain Nop h = (tree.nop, refl, λ t. refl)
-by_plain (Br l) h = (tree.br l, refl, λ t. refl)
-by_plain (BrIf l) h = (tree.br_if l, refl, λ t. refl)
-by_plain (BrTable ls l) h = (tree.br_table ls l, refl, λ t. refl)
-by_plain Return h = (tree.return_, refl, λ t. refl)
-by_plain (Call f) h = (tree.call f, refl, λ t. refl)
-by_plain (CallIndirect x) h = (tree.call_indirect x, refl, λ t. refl)
-by_plain Drop h = (tree.drop_, refl, λ t. refl)
-by_plain Select h = (tree.select, refl, λ t. refl)
-by_plain (LocalGet x) h = (tree.local_get x, refl, λ t. refl)
-by_plain (LocalSet x) h = (tree.local_set x, refl, λ t. refl)
-by_plain (LocalTee x) h = (tree.local_tee x, refl, λ t. refl)
-by_plain (GlobalGet x) h = (tree.global_get x, refl, λ t. refl)
-by_plain (GlobalSet x) h = (tree.global_set x, refl, λ t. refl)
-by_plain (Load op m) h = (tree.load op m, refl, λ t. refl)
-by_plain (Store op m) h = (tree.store op m, refl, λ t. refl)
-by_plain MemorySize h = (tree.memory_size, refl, λ t. refl)
-by_plain MemoryGrow h = (tree.memory_grow, refl, λ t. refl)
-by_plain (I32Const z) h = (tree.i32_const z, refl, λ t. refl)
-by_plain (I64Const z) h = (tree.i64_const z, refl, λ t. refl)
-by_plain (Num op) h = (tree.num op, refl, λ t. refl)
 
 abbrev goes : Option Plain → Bool
 goes None = true
@@ -80,35 +49,17 @@ pub record Opening (kind : BlockKind) (p : ℕ) (code body k : Tree) : Type 0 wh
   pub target : (kind_scope kind p (code_size body)).target ≤ p + code_size body + 2
 
 pub opening : (kind : BlockKind) (p : ℕ) (code body k : Tree) → IsOpening kind code body k → Opening kind p code body k
-opening kinds.Block p code body k (ty, e) = record {
-  size = ap code_size e;
-  sizes = ap block_sizes e;
-  live = λ b. ap (ends_live b) e;
-  places = λ scopes b. ap (code_places scopes b p) e;
-  begin = refl;
-  end = refl;
-  target = omega arith;
-}
-opening kinds.Loop p code body k (ty, e) = record {
-  size = ap code_size e;
-  sizes = ap block_sizes e;
-  live = λ b. ap (ends_live b) e;
-  places = λ scopes b. ap (code_places scopes b p) e;
-  begin = refl;
-  end = refl;
-  target = omega arith;
-}
-opening kinds.If p code body k (ty, e) = record {
-  size = ap code_size e;
-  sizes = ap block_sizes e;
-  live = λ b. ap (ends_live b) e;
-  places = λ scopes b. ap (code_places scopes b p) e;
-  begin = refl;
-  end = refl;
-  target = omega arith;
-}
 opening kinds.Function p code body k h = absurd h
 opening kinds.Else p code body k h = absurd h
+opening kind p code body k (ty, e) = record {
+  size = ap code_size e;
+  sizes = ap block_sizes e;
+  live = λ b. ap (ends_live b) e;
+  places = λ scopes b. ap (code_places scopes b p) e;
+  begin = refl;
+  end = refl;
+  target = omega arith;
+}
 
 -- the size that is used next
 pub record IsNextSize (xs : List ℕ) (u x : ℕ) (ys : List ℕ) : Type 0 where

@@ -1,23 +1,14 @@
 -- The sizes of the blocks of a sequence, from its instructions.
 use Rattle.std.proofs.Common.{◌≡◌, ℕ, ◌+◌, ◌<◌, ◌≤◌, List, [], ◌∷◌, ◌++◌, length, drop, get_or, refl, sym, ap, subst, zero, suc, ◌∙◌, arith, append_assoc, Some, None}
 use Rattle.std.specs.Prelude.{reverse}
-use Rattle.std.proofs.lemmas.List.{at_drop_more, reverse-append, append-nil, drop_all}
+use Rattle.std.proofs.lemmas.List.{reverse-append, append-nil, drop_all}
 use Rattle.module_ast.specs.declared.code.Instr.{Instr}
 use Rattle.module_ast.specs.declared.code.Instr.TheVariants.{Block, Loop, If}
 use Rattle.module_ast.specs.Tree.{Tree, done, weight}
 use Rattle.module_ast.specs.Seen.{before, code_of}
 use Rattle.module_ast.specs.Positions.{code_size, code_nesting}
 use Rattle.branch_resolve.specs.Levels.{block_sizes}
-
-pub next_instr : (is : List Instr) (k : ℕ) (i : Instr) → k < length is → i ≡ get_or is k i → code_of (drop k is) ≡ before i (code_of (drop (k + 1) is))
-next_instr is k i h e = at_drop_more code_of is k i h ∙ ap (λ j. before j (code_of (drop (k + 1) is))) (sym e)
-
-pub size_before : (i : Instr) (t : Tree) → code_size (before i t) ≡ code_size (before i done) + code_size t
-size_before (If b a None) t = omega arith
-size_before (If b a (Some e)) t = omega arith
-size_before (Block b a) t = omega arith
-size_before (Loop b a) t = omega arith
-size_before i t = omega arith
+use Rattle.module_ast.proofs.Plains.{next_instr, size_before}
 
 one_more : (a t : Tree) → code_size a ∷ (block_sizes a ++ block_sizes t) ≡ code_size a ∷ ((block_sizes a ++ []) ++ block_sizes t)
 one_more a t = ap (λ l. code_size a ∷ (l ++ block_sizes t)) (sym (append-nil (block_sizes a)))
@@ -38,16 +29,10 @@ pub record IsAtMost (i : Instr) (t : Tree) : Type 0 where
 
 at_most_first : (i : Instr) (t : Tree) → IsAtMost i (before i t)
 at_most_first (If b a None) t = record { size = omega arith; nesting = omega arith; weight = omega arith }
-at_most_first (If b a (Some e)) t = record { size = omega arith; nesting = omega arith; weight = omega arith }
-at_most_first (Block b a) t = record { size = omega arith; nesting = omega arith; weight = omega arith }
-at_most_first (Loop b a) t = record { size = omega arith; nesting = omega arith; weight = omega arith }
 at_most_first i t = record { size = omega arith; nesting = omega arith; weight = omega arith }
 
 at_most_behind : (j i : Instr) (t : Tree) → IsAtMost i t → IsAtMost i (before j t)
 at_most_behind (If b a None) i t h = record { size = omega arith; nesting = omega arith; weight = omega arith }
-at_most_behind (If b a (Some e)) i t h = record { size = omega arith; nesting = omega arith; weight = omega arith }
-at_most_behind (Block b a) i t h = record { size = omega arith; nesting = omega arith; weight = omega arith }
-at_most_behind (Loop b a) i t h = record { size = omega arith; nesting = omega arith; weight = omega arith }
 at_most_behind j i t h = record { size = omega arith; nesting = omega arith; weight = omega arith }
 
 at_most_drop : (k : ℕ) (is : List Instr) (i : Instr) → IsAtMost i (code_of (drop k is)) → IsAtMost i (code_of is)

@@ -6,11 +6,12 @@ use Rattle.module_ast.specs.Grammar.{IsBlockType, IsCode, IsExpr, IsPlain}
 use Rattle.module_ast.specs.Profile.{code_node, block_type_node}
 use Rattle.module_ast.specs.Plains.{instr_of}
 use Rattle.module_ast.specs.Seen.{before, onto, code_of, onto_push}
-use Rattle.module_ast.specs.Tree.{Tree, done, plain, Plain, unreachable, nop, br, br_if, br_table, return_, call, call_indirect, drop_, select, local_get, local_set, local_tee, global_get, global_set, load, store, memory_size, memory_grow, i32_const, i64_const, num}
+use Rattle.module_ast.specs.Tree.{Tree, done, Plain}
 use Rattle.module_ast.specs.Tokens.{Token, IsToken, plain_t, else_t, end_t}
 use Rattle.module_ast.specs.declared.code.BlockType.{BlockType}
 use Rattle.module_ast.specs.declared.code.Instr.{Instr}
-use Rattle.module_ast.specs.declared.code.Instr.TheVariants.{Block, Loop, If, Unreachable, Nop, Br, BrIf, BrTable, Return, Call, CallIndirect, Drop, Select, LocalGet, LocalSet, LocalTee, GlobalGet, GlobalSet, Load, Store, MemorySize, MemoryGrow, I32Const, I64Const, Num}
+use Rattle.module_ast.specs.declared.code.Instr.TheVariants.{Block, Loop, If}
+use Rattle.module_ast.proofs.Plains.{the_plain, before_plain}
 use Rattle.code_decode.specs.Opened.{closed_instr}
 use Rattle.code_decode.specs.Steps.{IsKind}
 use Rattle.code_decode.specs.declared.token.Kind.{Kind}
@@ -44,53 +45,7 @@ instrs_join (Block ty a ∷ is) t = ap (grammar.block (block_type_node ty) (code
 instrs_join (Loop ty a ∷ is) t = ap (grammar.loop (block_type_node ty) (code_node a)) (instrs_join is t)
 instrs_join (If ty a None ∷ is) t = ap (grammar.if_then (block_type_node ty) (code_node a)) (instrs_join is t)
 instrs_join (If ty a (Some e) ∷ is) t = ap (grammar.if_else (block_type_node ty) (code_node a) (code_node e)) (instrs_join is t)
-instrs_join (Unreachable ∷ is) t = ap (grammar.plain unreachable) (instrs_join is t)
-instrs_join (Nop ∷ is) t = ap (grammar.plain nop) (instrs_join is t)
-instrs_join (Br a ∷ is) t = ap (grammar.plain (br a)) (instrs_join is t)
-instrs_join (BrIf a ∷ is) t = ap (grammar.plain (br_if a)) (instrs_join is t)
-instrs_join (BrTable a b ∷ is) t = ap (grammar.plain (br_table a b)) (instrs_join is t)
-instrs_join (Return ∷ is) t = ap (grammar.plain return_) (instrs_join is t)
-instrs_join (Call a ∷ is) t = ap (grammar.plain (call a)) (instrs_join is t)
-instrs_join (CallIndirect a ∷ is) t = ap (grammar.plain (call_indirect a)) (instrs_join is t)
-instrs_join (Drop ∷ is) t = ap (grammar.plain drop_) (instrs_join is t)
-instrs_join (Select ∷ is) t = ap (grammar.plain select) (instrs_join is t)
-instrs_join (LocalGet a ∷ is) t = ap (grammar.plain (local_get a)) (instrs_join is t)
-instrs_join (LocalSet a ∷ is) t = ap (grammar.plain (local_set a)) (instrs_join is t)
-instrs_join (LocalTee a ∷ is) t = ap (grammar.plain (local_tee a)) (instrs_join is t)
-instrs_join (GlobalGet a ∷ is) t = ap (grammar.plain (global_get a)) (instrs_join is t)
-instrs_join (GlobalSet a ∷ is) t = ap (grammar.plain (global_set a)) (instrs_join is t)
-instrs_join (Load a b ∷ is) t = ap (grammar.plain (load a b)) (instrs_join is t)
-instrs_join (Store a b ∷ is) t = ap (grammar.plain (store a b)) (instrs_join is t)
-instrs_join (MemorySize ∷ is) t = ap (grammar.plain memory_size) (instrs_join is t)
-instrs_join (MemoryGrow ∷ is) t = ap (grammar.plain memory_grow) (instrs_join is t)
-instrs_join (I32Const a ∷ is) t = ap (grammar.plain (i32_const a)) (instrs_join is t)
-instrs_join (I64Const a ∷ is) t = ap (grammar.plain (i64_const a)) (instrs_join is t)
-instrs_join (Num a ∷ is) t = ap (grammar.plain (num a)) (instrs_join is t)
-
--- a plain instruction before a sequence
-before_plain : (p : Plain) (t : Tree) → before (instr_of p) t ≡ plain p t
-before_plain unreachable t = refl
-before_plain nop t = refl
-before_plain (br a) t = refl
-before_plain (br_if a) t = refl
-before_plain (br_table a b) t = refl
-before_plain return_ t = refl
-before_plain (call a) t = refl
-before_plain (call_indirect a) t = refl
-before_plain drop_ t = refl
-before_plain select t = refl
-before_plain (local_get a) t = refl
-before_plain (local_set a) t = refl
-before_plain (local_tee a) t = refl
-before_plain (global_get a) t = refl
-before_plain (global_set a) t = refl
-before_plain (load a b) t = refl
-before_plain (store a b) t = refl
-before_plain memory_size t = refl
-before_plain memory_grow t = refl
-before_plain (i32_const a) t = refl
-before_plain (i64_const a) t = refl
-before_plain (num a) t = refl
+instrs_join (i ∷ is) t = ap (grammar.plain (the_plain i)) (instrs_join is t)
 
 -- these instructions have these bytes
 abbrev AreInstrs : List ℕ → List Instr → Type 0
@@ -115,10 +70,8 @@ Begun b (kinds.Else ty c) = (t x : List ℕ) × (b ≡ 0x04 ∷ (t ++ (x ++ 0x05
 
 -- a token that opens a sequence begins it
 begun : (k : Kind) (t : Token) (b : List ℕ) → IsKind k t → IsToken b t → Begun b k
-begun (kinds.Block ty) t b e h = subst (IsToken b) e h
-begun (kinds.Loop ty) t b e h = subst (IsToken b) e h
-begun (kinds.Then ty) t b e h = subst (IsToken b) e h
 begun (kinds.Else ty c) t b e h = absurd e
+begun k t b e h = subst (IsToken b) e h
 
 -- with what stands in it and its end
 closed_code : (k : Kind) (c : Tree) (y x : List ℕ) → Begun y k → IsCode x (code_node c) → IsCode (y ++ (x ++ 0x0B ∷ [])) (code_node (before (closed_instr k c) done))

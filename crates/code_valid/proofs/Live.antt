@@ -59,7 +59,6 @@ guarded_goes false e h = refl
 
 goes : (c : Context) (i : Plain) → goes_on i ≡ true → is_stop (stack_effect c i) ≡ false
 goes c unreachable h = cc
-goes c nop h = refl
 goes c (br l) h = cc
 goes c (br_if l) h = some_goes (λ ts. turns (ts ++ I32 ∷ []) ts) (slice_get c.labels l) (λ x. refl)
 goes c (br_table ls l) h = cc
@@ -70,8 +69,6 @@ goes c (call f) h =
 goes c (call_indirect x) h =
     guarded_goes (is_some_list c.tables) (with_some (λ (t : FuncType). turns (t.params ++ I32 ∷ []) t.results) (slice_get c.types x))
     (some_goes (λ (t : FuncType). turns (t.params ++ I32 ∷ []) t.results) (slice_get c.types x) (λ y. refl))
-goes c drop_ h = refl
-goes c select h = refl
 goes c (local_get x) h = some_goes (λ t. turns [] (t ∷ [])) (slice_get c.locals x) (λ x. refl)
 goes c (local_set x) h = some_goes (λ t. turns (t ∷ []) []) (slice_get c.locals x) (λ x. refl)
 goes c (local_tee x) h = some_goes (λ t. turns (t ∷ []) (t ∷ [])) (slice_get c.locals x) (λ x. refl)
@@ -82,9 +79,7 @@ goes c (load op m) h = guarded_goes (is_aligned c m (load_width op)) (turns (I32
 goes c (store op m) h = guarded_goes (is_aligned c m (store_width op)) (turns (I32 ∷ store_type op ∷ []) []) refl
 goes c memory_size h = guarded_goes (is_some_list c.memories) (turns [] (I32 ∷ [])) refl
 goes c memory_grow h = guarded_goes (is_some_list c.memories) (turns (I32 ∷ []) (I32 ∷ [])) refl
-goes c (i32_const z) h = refl
-goes c (i64_const z) h = refl
-goes c (num op) h = refl
+goes c i h = refl
 
 pub step_known : (c : Context) (i : Plain) (s u : List ValType) → goes_on i ≡ true → TypesPlain c i s u → apply (stack_effect c i) (known_types s) ≡ Some (known_types u)
 step_known c i s u h t = apply_known (stack_effect c i) s u (goes c i h) (effect_sound c i s u t)

@@ -1,10 +1,7 @@
 -- How the instructions of a sequence join.
 use Rattle.std.proofs.Common.{◌≡◌, ℕ, ◌+◌, ◌<◌, List, length, drop, get_or, Option, Some, None, true, refl, sym, ap, ◌∙◌, subst, arith}
-use Rattle.std.proofs.lemmas.List.{at_drop_more}
 use Rattle.wasm_num.specs.declared.ValType.{ValType}
 use Rattle.module_ast.specs.declared.code.Instr.{Instr}
-use Rattle.module_ast.specs.declared.code.Instr.TheVariants.{Block, Loop, If, Unreachable, Nop, Br, BrIf, BrTable, Return, Call, CallIndirect, Drop, Select, LocalGet, LocalSet, LocalTee, GlobalGet, GlobalSet, Load, Store, MemorySize, MemoryGrow, I32Const, I64Const, Num}
-use Rattle.module_ast.specs.Tree as tree
 use Rattle.module_ast.specs.Tree.{Tree, done, plain, Plain, weight}
 use Rattle.module_ast.specs.Seen.{before, code_of}
 use Rattle.module_ast.specs.Positions.{code_size, goes_on}
@@ -14,57 +11,9 @@ use Rattle.code_valid.specs.Control.{Control, innermost_stack, with_innermost_st
 use Rattle.code_valid.specs.Survey.{Notes, see, note, on_one, survey}
 use Rattle.module_ast.specs.Plains.{plain_of, IsPlainInstr, goes_on_by}
 use Rattle.code_valid.specs.Acting.{effect_of, marked_by, pass}
-
--- ---- places in a sequence
-
-pub next_instr : (is : List Instr) (k : ℕ) (i : Instr) → k < length is → i ≡ get_or is k i → code_of (drop k is) ≡ before i (code_of (drop (k + 1) is))
-next_instr is k i h e = at_drop_more code_of is k i h ∙ ap (λ j. before j (code_of (drop (k + 1) is))) (sym e)
-
-pub weight_before : (i : Instr) (t : Tree) → weight (before i t) ≡ weight (before i done) + weight t
-weight_before (If b a None) t = omega arith
-weight_before (If b a (Some e)) t = omega arith
-weight_before (Block b a) t = omega arith
-weight_before (Loop b a) t = omega arith
-weight_before i t = omega arith
-
-pub size_before : (i : Instr) (t : Tree) → code_size (before i t) ≡ code_size (before i done) + code_size t
-size_before (If b a None) t = omega arith
-size_before (If b a (Some e)) t = omega arith
-size_before (Block b a) t = omega arith
-size_before (Loop b a) t = omega arith
-size_before i t = omega arith
+use Rattle.module_ast.proofs.Plains.{by_plain}
 
 -- ---- one instruction with no sequence in it
-
-abbrev IsBy : Instr → Type 0
-IsBy i = (p : Plain) × (plain_of i ≡ Some p) × ((t : Tree) → before i t ≡ plain p t)
-
-by_plain : (i : Instr) → IsPlainInstr i → IsBy i
-by_plain (Block b a) h = absurd h
-by_plain (Loop b a) h = absurd h
-by_plain (If b a e) h = absurd h
-by_plain Unreachable h = (tree.unreachable, refl, λ t. refl)
-by_plain Nop h = (tree.nop, refl, λ t. refl)
-by_plain (Br l) h = (tree.br l, refl, λ t. refl)
-by_plain (BrIf l) h = (tree.br_if l, refl, λ t. refl)
-by_plain (BrTable ls l) h = (tree.br_table ls l, refl, λ t. refl)
-by_plain Return h = (tree.return_, refl, λ t. refl)
-by_plain (Call f) h = (tree.call f, refl, λ t. refl)
-by_plain (CallIndirect x) h = (tree.call_indirect x, refl, λ t. refl)
-by_plain Drop h = (tree.drop_, refl, λ t. refl)
-by_plain Select h = (tree.select, refl, λ t. refl)
-by_plain (LocalGet x) h = (tree.local_get x, refl, λ t. refl)
-by_plain (LocalSet x) h = (tree.local_set x, refl, λ t. refl)
-by_plain (LocalTee x) h = (tree.local_tee x, refl, λ t. refl)
-by_plain (GlobalGet x) h = (tree.global_get x, refl, λ t. refl)
-by_plain (GlobalSet x) h = (tree.global_set x, refl, λ t. refl)
-by_plain (Load op m) h = (tree.load op m, refl, λ t. refl)
-by_plain (Store op m) h = (tree.store op m, refl, λ t. refl)
-by_plain MemorySize h = (tree.memory_size, refl, λ t. refl)
-by_plain MemoryGrow h = (tree.memory_grow, refl, λ t. refl)
-by_plain (I32Const z) h = (tree.i32_const z, refl, λ t. refl)
-by_plain (I64Const z) h = (tree.i64_const z, refl, λ t. refl)
-by_plain (Num op) h = (tree.num op, refl, λ t. refl)
 
 pub plain_size : (i : Instr) → IsPlainInstr i → code_size (before i done) ≡ 1
 plain_size i h = ap code_size ((by_plain i h).2 done)

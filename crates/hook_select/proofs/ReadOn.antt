@@ -23,27 +23,7 @@ hooks_alike a b same = λ i. hooks_of (λ g. same g i)
 
 has_test : (test : GroupName → Bool) (g : GroupName) → has (hooks_of test) g ≡ test g
 has_test test groups.Start = refl
-has_test test groups.Nop = refl
-has_test test groups.Unreachable = refl
-has_test test groups.If = refl
-has_test test groups.Br = refl
-has_test test groups.BrIf = refl
-has_test test groups.BrTable = refl
-has_test test groups.Begin = refl
-has_test test groups.End = refl
-has_test test groups.Const = refl
-has_test test groups.Unary = refl
-has_test test groups.Binary = refl
-has_test test groups.Drop = refl
-has_test test groups.Select = refl
-has_test test groups.Local = refl
-has_test test groups.Global = refl
-has_test test groups.Load = refl
-has_test test groups.Store = refl
-has_test test groups.MemorySize = refl
-has_test test groups.MemoryGrow = refl
-has_test test groups.Call = refl
-has_test test groups.Return = refl
+has_test test g = refl
 
 -- the first place that is unknown, else the set
 ends : Option ℕ → Hooks → ListReading

@@ -13,27 +13,7 @@ same_either_way false f = omega arith
 
 map_plain_nothing : (i : Plain) → map_plain nothing i ≡ i
 map_plain_nothing (call f) = ap call (same_either_way (nat_lt f 0) f)
-map_plain_nothing unreachable = refl
-map_plain_nothing nop = refl
-map_plain_nothing (br l) = refl
-map_plain_nothing (br_if l) = refl
-map_plain_nothing (br_table ls l) = refl
-map_plain_nothing return_ = refl
-map_plain_nothing (call_indirect t) = refl
-map_plain_nothing drop_ = refl
-map_plain_nothing select = refl
-map_plain_nothing (local_get x) = refl
-map_plain_nothing (local_set x) = refl
-map_plain_nothing (local_tee x) = refl
-map_plain_nothing (global_get x) = refl
-map_plain_nothing (global_set x) = refl
-map_plain_nothing (load op m) = refl
-map_plain_nothing (store op m) = refl
-map_plain_nothing memory_size = refl
-map_plain_nothing memory_grow = refl
-map_plain_nothing (i32_const z) = refl
-map_plain_nothing (i64_const z) = refl
-map_plain_nothing (num op) = refl
+map_plain_nothing i = refl
 
 pub map_tree_nothing : (t : Tree) → map_tree nothing t ≡ t
 map_tree_nothing done = refl
@@ -46,27 +26,7 @@ map_tree_nothing (if_else ty body other k) =
 
 maps_plain_nothing : (i : Plain) → MapsPlain nothing i
 maps_plain_nothing (call f) = λ (h : f < 2 ^ 32). omega (arith, h)
-maps_plain_nothing unreachable = tt
-maps_plain_nothing nop = tt
-maps_plain_nothing (br l) = tt
-maps_plain_nothing (br_if l) = tt
-maps_plain_nothing (br_table ls l) = tt
-maps_plain_nothing return_ = tt
-maps_plain_nothing (call_indirect t) = tt
-maps_plain_nothing drop_ = tt
-maps_plain_nothing select = tt
-maps_plain_nothing (local_get x) = tt
-maps_plain_nothing (local_set x) = tt
-maps_plain_nothing (local_tee x) = tt
-maps_plain_nothing (global_get x) = tt
-maps_plain_nothing (global_set x) = tt
-maps_plain_nothing (load op m) = tt
-maps_plain_nothing (store op m) = tt
-maps_plain_nothing memory_size = tt
-maps_plain_nothing memory_grow = tt
-maps_plain_nothing (i32_const z) = tt
-maps_plain_nothing (i64_const z) = tt
-maps_plain_nothing (num op) = tt
+maps_plain_nothing i = tt
 
 pub maps_nothing : (t : Tree) → Maps nothing t
 maps_nothing done = tt

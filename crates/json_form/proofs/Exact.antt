@@ -33,41 +33,21 @@ counted least most d n e =
     (subst (λ k. least ≤ k) p.1 (leb-true least m q.0), subst (λ k. k ≤ most) p.1 (leb-true m most q.1)))
 
 pub count_exact : (least most : ℕ) (d : Data) (n : ℕ) → count_form least most d ≡ Some n → number (unsigned n) ≡ d
-count_exact least most null n e = cc
-count_exact least most (boolean b) n e = cc
 count_exact least most (number (unsigned m)) n e = ap (λ k. number (unsigned k)) (sym (passes _ m n e).1)
-count_exact least most (number (negative z)) n e = cc
-count_exact least most (number (float x)) n e = cc
-count_exact least most (string s) n e = cc
-count_exact least most (array ds) n e = cc
-count_exact least most (object ms) n e = cc
+count_exact least most d n e = cc
 
 pub whole_exact : (least most : ℤ) (d : Data) (z : ℤ) → whole_form least most d ≡ Some z → number (of_integer z) ≡ d
-whole_exact least most null z e = cc
-whole_exact least most (boolean b) z e = cc
 whole_exact least most (number (unsigned m)) z e = ap (λ k. number (of_integer k)) (sym (passes _ (pos m) z e).1)
-whole_exact least most (number (negative (pos m))) z e = cc
 whole_exact least most (number (negative (negsuc m))) z e = ap (λ k. number (of_integer k)) (sym (passes _ (negsuc m) z e).1)
-whole_exact least most (number (float x)) z e = cc
-whole_exact least most (string s) z e = cc
-whole_exact least most (array ds) z e = cc
-whole_exact least most (object ms) z e = cc
+whole_exact least most d z e = cc
 
 pub text_exact : (d : Data) (s : List ℕ) → as_str d ≡ Some s → string s ≡ d
 text_exact null s e = cc
-text_exact (boolean b) s e = cc
-text_exact (number n) s e = cc
-text_exact (string t) s e = cc
-text_exact (array ds) s e = cc
-text_exact (object ms) s e = cc
+text_exact d s e = cc
 
 array_exact : (d : Data) (ds : Items) → as_array d ≡ Some ds → array ds ≡ d
 array_exact null ds e = cc
-array_exact (boolean b) ds e = cc
-array_exact (number n) ds e = cc
-array_exact (string t) ds e = cc
-array_exact (array es) ds e = cc
-array_exact (object ms) ds e = cc
+array_exact d ds e = cc
 
 items_more : {A : Type 0} (written : A → Data) (d : Data) (ds : Items) (a : A) → written a ≡ d → (o : Option (List A))
     → ((later : List A) → o ≡ Some later → items_of (map written later) ≡ ds)
@@ -96,26 +76,12 @@ list_exact form written each d found e =
 
 -- Lists of a fixed length, item by item.
 pub two_items : (d : Data) → has_length 2 d ≡ true → (a : Data) × (b : Data) × (d ≡ array (item a (item b no_items)))
-two_items null e = cc
-two_items (boolean b) e = cc
-two_items (number n) e = cc
-two_items (string t) e = cc
-two_items (object ms) e = cc
-two_items (array no_items) e = cc
-two_items (array (item a no_items)) e = cc
 two_items (array (item a (item b no_items))) e = (a, b, refl)
 two_items (array (item a (item b (item c ds)))) e = let many : suc (suc (suc (items_len ds))) ≡ 2 = eqb-true _ _ e in absurd (omega arith)
+two_items d e = cc
 
 pub four_items : (d : Data) → has_length 4 d ≡ true → (a : Data) × (b : Data) × (c : Data) × (e : Data) × (d ≡ array (item a (item b (item c (item e no_items)))))
-four_items null h = cc
-four_items (boolean b) h = cc
-four_items (number n) h = cc
-four_items (string t) h = cc
-four_items (object ms) h = cc
-four_items (array no_items) h = cc
-four_items (array (item a no_items)) h = cc
-four_items (array (item a (item b no_items))) h = cc
-four_items (array (item a (item b (item c no_items)))) h = cc
 four_items (array (item a (item b (item c (item e no_items))))) h = (a, b, c, e, refl)
 four_items (array (item a (item b (item c (item e (item f ds)))))) h =
     let many : suc (suc (suc (suc (suc (items_len ds))))) ≡ 4 = eqb-true _ _ h in absurd (omega arith)
+four_items d h = cc

@@ -36,13 +36,6 @@ access_least op m bytes (rest, e, (a, b, f, h, k)) =
 
 -- instructions without code of their own
 plain_least : (bytes : List ℕ) (p : Plain) → IsPlain bytes p → length (plain_bytes p) ≤ length bytes
-plain_least bytes unreachable h = omega (arith, ap length h)
-plain_least bytes nop h = omega (arith, ap length h)
-plain_least bytes return_ h = omega (arith, ap length h)
-plain_least bytes drop_ h = omega (arith, ap length h)
-plain_least bytes select h = omega (arith, ap length h)
-plain_least bytes memory_size h = omega (arith, ap length h)
-plain_least bytes memory_grow h = omega (arith, ap length h)
 plain_least bytes (num op) h = least_same (num_opcode op ∷ []) bytes h
 plain_least bytes (br x) h = op_least 0x0C x bytes h
 plain_least bytes (br_if x) h = op_least 0x0D x bytes h
@@ -61,6 +54,7 @@ plain_least bytes (load op m) h = access_least (load_opcode op) m bytes h
 plain_least bytes (store op m) h = access_least (store_opcode op) m bytes h
 plain_least bytes (i32_const z) (rest, e, h) = least_op 0x41 (signed_bytes z) rest bytes e (shortest_signed 32 rest z h)
 plain_least bytes (i64_const z) (rest, e, h) = least_op 0x42 (signed_bytes z) rest bytes e (shortest_signed 64 rest z h)
+plain_least bytes p h = omega (arith, ap length h)
 
 -- a block of its type and body, and what follows it
 block_least : (op : ℕ) (ty body k bytes front rest inner t b : List ℕ) → bytes ≡ front ++ rest → front ≡ op ∷ inner → inner ≡ t ++ b ++ 0x0B ∷ [] → length ty ≤ length t → length body ≤ length b → length k ≤ length rest → length (op ∷ (ty ++ body ++ 0x0B ∷ k)) ≤ length bytes

@@ -93,9 +93,7 @@ global_least = record { least = global_at_least }
 -- 5.5.10 exports
 kind_least : (bytes : List ℕ) (k : ExportKind) → IsExportKind bytes k → length (kind_byte k ∷ []) ≤ length bytes
 kind_least bytes kinds.Func h = omega (arith, ap length h)
-kind_least bytes kinds.Table h = omega (arith, ap length h)
-kind_least bytes kinds.Memory h = omega (arith, ap length h)
-kind_least bytes kinds.Global h = omega (arith, ap length h)
+kind_least bytes k h = omega (arith, ap length h)
 
 export_at_least : (bytes : List ℕ) (x : Export) → IsExport bytes (export_node x) → length (export_bytes x) ≤ length bytes
 export_at_least bytes x (front, rest, e, h, (a, b, f, j, k)) =

@@ -57,18 +57,13 @@ modules_unique a b e = sym (module_alone a) ∙ ap module_back e ∙ module_alon
 
 -- no section of a module of the program floats
 pub modules_plain : ModulesHaveNoFloat
-modules_plain m custom_section = refl
 modules_plain m type_section = types_view.plain m.types
 modules_plain m import_section = imports_view.plain m.imports
-modules_plain m function_section = refl
-modules_plain m table_section = refl
-modules_plain m memory_section = refl
 modules_plain m global_section = globals_view.plain m.globals
-modules_plain m export_section = refl
-modules_plain m start_section = refl
 modules_plain m element_section = elements_view.plain m.elements
 modules_plain m code_section = bodies_view.plain m.bodies
 modules_plain m data_section = segments_view.plain m.segments
+modules_plain m _ = refl
 
 -- a tree without floating nodes is that of a module
 pub module_whole : (g : grammar.ModuleNode) → ((kind : grammar.Kind) → section_floats g kind ≡ false) → tree_of (module_back g) ≡ g

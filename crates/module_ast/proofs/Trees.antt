@@ -210,23 +210,17 @@ item_back (grammar.global_item g) = items.Global (global_type_back g)
 -- no item of the program floats
 item_plain : (i : Item) → item_floats (item_node i) ≡ false
 item_plain (items.Func ty) = refl
-item_plain (items.Table r) = refl
-item_plain (items.Memory r) = refl
-item_plain (items.Global g) = refl
+item_plain i = refl
 
 -- an item has one view
 item_alone : (i : Item) → item_back (item_node i) ≡ i
 item_alone (items.Func ty) = refl
-item_alone (items.Table r) = refl
-item_alone (items.Memory r) = refl
-item_alone (items.Global g) = refl
+item_alone i = refl
 
 -- an item that does not float is a view
 item_whole : (i : grammar.ItemNode) → item_floats i ≡ false → item_node (item_back i) ≡ i
-item_whole (grammar.func_item ty) p = refl
-item_whole (grammar.table_item r) p = refl
-item_whole (grammar.memory_item r) p = refl
 item_whole (grammar.global_item g) p = ap grammar.global_item (global_type_whole g p)
+item_whole i p = refl
 
 -- an import of the program, by its item
 abbrev pub import_back : grammar.ImportNode → Import

@@ -61,6 +61,11 @@ counted_some n bytes = let h = unsigned_some n in omega (arith, length-append (u
 pub counted_short : (n : ℕ) (bytes : List ℕ) → n ≤ length bytes → length (unsigned_bytes n ++ bytes) < 2 ^ 32 → IsU32 (unsigned_bytes n) n
 counted_short n bytes h l = u32_spelled n (omega (arith, length-append (unsigned_bytes n) bytes))
 
+-- there are no more items than bytes
+pub items_many : {A : Type 0} (f : A → List ℕ) → ((x : A) → 1 ≤ length (f x)) → (xs : List A) → length xs ≤ length (items_bytes f xs)
+items_many f one [] = omega arith
+items_many f one (x ∷ xs) = omega (arith, one x, items_many f one xs, length-append (f x) (items_bytes f xs))
+
 module _ {A B : Type 0} (item : List ℕ → B → Type 0) (f : A → List ℕ) (view : A → B) (P : A → Type 0) (w : Writes item f view P) where
   -- one item after another
   items_spelled : (xs : List A) → All P xs → length (items_bytes f xs) < 2 ^ 32 → AreItems item (items_bytes f xs) (map view xs)
@@ -73,18 +78,13 @@ module _ {A B : Type 0} (item : List ℕ → B → Type 0) (f : A → List ℕ) 
     items_spelled xs (All-tail P x xs h) (back_short (f x) (items_bytes f xs) l),
   )
 
-  -- there are no more items than bytes
-  items_many : (xs : List A) → length xs ≤ length (items_bytes f xs)
-  items_many [] = omega arith
-  items_many (x ∷ xs) = let h = items_many xs in let k = w.some x in omega (arith, length-append (f x) (items_bytes f xs))
-
   -- a vector
   vec_spelled : (xs : List A) → All P xs → length (vec_bytes f xs) < 2 ^ 32 → IsVec item (vec_bytes f xs) (map view xs)
   vec_spelled xs h l = (
     unsigned_bytes (length xs),
     items_bytes f xs,
     refl,
-    subst (IsU32 (unsigned_bytes (length xs))) (sym (length-map xs view)) (counted_short (length xs) (items_bytes f xs) (items_many xs) l),
+    subst (IsU32 (unsigned_bytes (length xs))) (sym (length-map xs view)) (counted_short (length xs) (items_bytes f xs) (items_many f w.some xs) l),
     items_spelled xs h (back_short (unsigned_bytes (length xs)) (items_bytes f xs) l),
   )
 

@@ -34,14 +34,6 @@ mem_arg_spelled m h = (unsigned_bytes m.align, unsigned_bytes m.offset, refl, u3
 
 -- instructions without code of their own
 pub plain_spelled : (p : Plain) → FitsPlain p → length (plain_bytes p) < 2 ^ 32 → IsPlain (plain_bytes p) p
-plain_spelled unreachable h l = refl
-plain_spelled nop h l = refl
-plain_spelled return_ h l = refl
-plain_spelled drop_ h l = refl
-plain_spelled select h l = refl
-plain_spelled memory_size h l = refl
-plain_spelled memory_grow h l = refl
-plain_spelled (num op) h l = refl
 plain_spelled (br x) h l = (unsigned_bytes x, refl, u32_spelled x h)
 plain_spelled (br_if x) h l = (unsigned_bytes x, refl, u32_spelled x h)
 plain_spelled (call x) h l = (unsigned_bytes x, refl, u32_spelled x h)
@@ -59,6 +51,7 @@ plain_spelled (load op m) h l = (mem_arg_bytes m, refl, mem_arg_spelled m h)
 plain_spelled (store op m) h l = (mem_arg_bytes m, refl, mem_arg_spelled m h)
 plain_spelled (i32_const z) h l = (signed_bytes z, refl, spelled_signed 32 z h)
 plain_spelled (i64_const z) h l = (signed_bytes z, refl, spelled_signed 64 z h)
+plain_spelled p h l = refl
 
 pub code_spelled : (t : Tree) → FitsCode t → length (code_bytes t) < 2 ^ 32 → IsCode (code_bytes t) (code_node t)
 code_spelled done h l = refl

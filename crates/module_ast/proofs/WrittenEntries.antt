@@ -96,9 +96,7 @@ global_writes = record {
 -- 5.5.10 exports
 kind_spelled : (k : ExportKind) → IsExportKind (kind_byte k ∷ []) k
 kind_spelled kinds.Func = refl
-kind_spelled kinds.Table = refl
-kind_spelled kinds.Memory = refl
-kind_spelled kinds.Global = refl
+kind_spelled k = refl
 
 pub export_writes : Writes IsExport export_bytes export_node FitsExport
 export_writes = record {

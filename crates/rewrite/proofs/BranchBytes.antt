@@ -4,7 +4,7 @@ use Rattle.std.specs.Prelude.{unwrap_or}
 use Rattle.leb_binary.specs.Shortest.{unsigned_bytes}
 use Rattle.wasm_num.specs.declared.ValType.TheVariants as types
 use Rattle.module_ast.specs.declared.code.Instr.{Instr}
-use Rattle.module_ast.specs.declared.code.Instr.TheVariants.{Block, Loop, If, Unreachable, Nop, Br, BrIf, BrTable, Return, Call, CallIndirect, Drop, Select, LocalGet, LocalSet, LocalTee, GlobalGet, GlobalSet, Load, Store, MemorySize, MemoryGrow, I32Const, I64Const, Num}
+use Rattle.module_ast.specs.declared.code.Instr.TheVariants.{Block, Loop, If, Br, BrIf, BrTable, Return}
 use Rattle.module_ast.specs.declared.module.Group.{Group}
 use Rattle.module_ast.specs.declared.code.BlockType.TheVariants.{Empty}
 use Rattle.module_ast.specs.Canonical.{plain_bytes, items_bytes, vec_bytes, group_bytes}
@@ -12,7 +12,7 @@ use Rattle.module_ast.specs.Lists.{when}
 use Rattle.module_ast.specs.Plains.{plains, plain_of}
 use Rattle.module_ast.specs.Positions.{Scope, target_of, left_by}
 use Rattle.module_ast.specs.Seen.{before}
-use Rattle.module_ast.specs.Tree.{Tree, done, plain, if_then, Plain, unreachable, nop, br, br_if, br_table, return_, call, call_indirect, drop_, select, local_get, local_set, local_tee, global_get, global_set, load, store, memory_size, memory_grow, i32_const, i64_const, num}
+use Rattle.module_ast.specs.Tree.{Tree, done, plain, if_then, Plain, br, br_if, br_table, return_}
 use Rattle.hook_select.specs.declared.GroupName.TheVariants as groups
 use Rattle.hook_select.specs.Groups.{has}
 use Rattle.hook_mono.specs.declared.HookKey.TheVariants as keys
@@ -28,6 +28,7 @@ use Rattle.rewrite.specs.Sizes.{plains_length, plains_most, IsStraight, IsNarrow
 use Rattle.rewrite.specs.Sizing.{HaveBytes, IsBranchTable, IsStraightInstr, br_told, br_if_told, types_most}
 use Rattle.rewrite.proofs.SizedCode.{code_length, plain_before, plains_before, plains_append, then_length}
 use Rattle.rewrite.proofs.SizedMost.{most_straight}
+use Rattle.module_ast.proofs.Plains.{the_plain}
 
 -- where a label leads
 abbrev target_at : List Scope → (l : ℕ) → ℕ
@@ -141,24 +142,7 @@ straight_of (Br l) h = absurd h
 straight_of (BrIf l) h = absurd h
 straight_of (BrTable ls l) h = absurd h
 straight_of Return h = absurd h
-straight_of Unreachable h = record { i = unreachable; is = refl; straight = tt }
-straight_of Nop h = record { i = nop; is = refl; straight = tt }
-straight_of (Call f) h = record { i = call f; is = refl; straight = tt }
-straight_of (CallIndirect t) h = record { i = call_indirect t; is = refl; straight = tt }
-straight_of Drop h = record { i = drop_; is = refl; straight = tt }
-straight_of Select h = record { i = select; is = refl; straight = tt }
-straight_of (LocalGet x) h = record { i = local_get x; is = refl; straight = tt }
-straight_of (LocalSet x) h = record { i = local_set x; is = refl; straight = tt }
-straight_of (LocalTee x) h = record { i = local_tee x; is = refl; straight = tt }
-straight_of (GlobalGet x) h = record { i = global_get x; is = refl; straight = tt }
-straight_of (GlobalSet x) h = record { i = global_set x; is = refl; straight = tt }
-straight_of (Load op m) h = record { i = load op m; is = refl; straight = tt }
-straight_of (Store op m) h = record { i = store op m; is = refl; straight = tt }
-straight_of MemorySize h = record { i = memory_size; is = refl; straight = tt }
-straight_of MemoryGrow h = record { i = memory_grow; is = refl; straight = tt }
-straight_of (I32Const z) h = record { i = i32_const z; is = refl; straight = tt }
-straight_of (I64Const z) h = record { i = i64_const z; is = refl; straight = tt }
-straight_of (Num op) h = record { i = num op; is = refl; straight = tt }
+straight_of instr h = record { i = the_plain instr; is = refl; straight = tt }
 
 module _ (w : Setting) (narrow : IsNarrow types_most w.site.context) (ss : List Scope) (p : ℕ) (instr : Instr) (h : IsStraightInstr instr) where
   pub template_most : plains_most (template_of w ss p instr) ≤ 34359738816

@@ -1,5 +1,5 @@
 -- The bytes of instructions that were put into a list of the program.
-use Rattle.std.proofs.Common.{◌≡◌, ℕ, zero, suc, ◌+◌, ◌<◌, ◌≤◌, ◌^◌, List, [], ◌∷◌, length, drop, drop-cons, add-one, Some, get_or, refl, sym, ap, ◌∙◌, subst, arith}
+use Rattle.std.proofs.Common.{◌≡◌, ℕ, zero, suc, ◌+◌, ◌<◌, ◌≤◌, ◌^◌, List, [], ◌∷◌, ◌++◌, length, drop, drop-cons, add-one, Some, get_or, refl, sym, ap, ◌∙◌, subst, arith}
 use Rattle.module_ast.specs.declared.code.Instr.{Instr}
 use Rattle.module_ast.specs.declared.code.Instr.TheVariants.{Call}
 use Rattle.module_ast.specs.Canonical.{code_bytes}
@@ -10,15 +10,12 @@ use Rattle.module_ast.specs.Tree.{Tree, done, plain, Plain, unreachable, call}
 use Rattle.i64_split.specs.Pushing.{instrs}
 use Rattle.rewrite.specs.Sizes.{plains_length, plains_most}
 use Rattle.rewrite.specs.Sizing.{AreShortInstrs, HaveBytes, instrs_most}
+use Rattle.module_ast.proofs.Plains.{before_plain, is_plain}
 use Rattle.rewrite.proofs.SizedCode.{plains_before}
-
-before_is : (i : Plain) (t : Tree) → before (instr_of i) t ≡ plain i t
-before_is unreachable t = refl
-before_is i t = refl
 
 code_is : (is : List Plain) → code_of (instrs is) ≡ plains is done
 code_is [] = refl
-code_is (i ∷ is) = before_is i (code_of (instrs is)) ∙ ap (plain i) (code_is is)
+code_is (i ∷ is) = before_plain i (code_of (instrs is)) ∙ ap (plain i) (code_is is)
 
 pub bytes_are : (is : List Plain) → length (code_bytes (code_of (instrs is))) ≡ plains_length is
 bytes_are is = ap (λ k. length (code_bytes k)) (code_is is) ∙ omega (arith, plains_before is done)
@@ -26,10 +23,6 @@ bytes_are is = ap (λ k. length (code_bytes k)) (code_is is) ∙ omega (arith, p
 pub most_is : (is : List Plain) → instrs_most (instrs is) ≡ plains_most is
 most_is [] = refl
 most_is (i ∷ is) = omega (arith, most_is is)
-
-pub is_plain : (i : Plain) → IsPlainInstr (instr_of i)
-is_plain unreachable = tt
-is_plain i = tt
 
 plain_in : (is : List Plain) (k : ℕ) (d : Instr) → k < length (instrs is) → IsPlainInstr (get_or (instrs is) k d)
 plain_in [] k d h = absurd (omega arith)
@@ -52,6 +45,9 @@ counted emitted n e l is a = record {
 }
 
 -- instructions that were put into an empty list
+pub emitted : (old new slice : List Instr) (is : List Plain) → old ≡ [] → new ≡ old ++ instrs is → slice ≡ new → slice ≡ instrs is
+emitted old new slice is empty added same = same ∙ added ∙ ap (λ (l : List Instr). l ++ instrs is) empty
+
 pub few_of : (emitted items : List Instr) (is : List Plain) → emitted ≡ items → items ≡ instrs is → plains_most is < 2 ^ 63 → AreShortInstrs emitted
 few_of emitted items is a b l = record { plains = is; are = a ∙ b; few = l }
 

@@ -4,7 +4,7 @@ use Rattle.std.proofs.lemmas.List.{map-append}
 use Rattle.wasm_num.specs.declared.ValType.{ValType}
 use Rattle.module_ast.specs.declared.code.BlockType.{BlockType}
 use Rattle.module_ast.specs.declared.code.Instr.{Instr}
-use Rattle.module_ast.specs.declared.code.Instr.TheVariants.{Block, Loop, If, Unreachable, Nop, Br, BrIf, BrTable, Return, Call, CallIndirect, Drop, Select, LocalGet, LocalSet, LocalTee, GlobalGet, GlobalSet, Load, Store, MemorySize, MemoryGrow, I32Const, I64Const, Num}
+use Rattle.module_ast.specs.declared.code.Instr.TheVariants.{Block, Loop, If, BrIf}
 use Rattle.wasm_num.specs.declared.BlockKind.TheVariants as kinds
 use Rattle.module_ast.specs.Tree as tree
 use Rattle.hook_select.specs.declared.GroupName.TheVariants as groups
@@ -37,38 +37,11 @@ use Rattle.rewrite.specs.Rewrite.{live_code, if_taken, br_if_before}
 use Rattle.rewrite.specs.Live.{rest_code, code_temps}
 use Rattle.rewrite.specs.Emitted as emitted
 use Rattle.rewrite.specs.Emitted.{HasRoom, template_of, IsNoBranchIf}
-
-pub onto_append : (is js : List Instr) (t : Tree) → onto (is ++ js) t ≡ onto is (onto js t)
-onto_append [] js t = refl
-onto_append (i ∷ is) js t = ap (before i) (onto_append is js t)
-
-instr_before : (i : Plain) (t : Tree) → before (instr_of i) t ≡ plain i t
-instr_before tree.unreachable t = refl
-instr_before tree.nop t = refl
-instr_before (tree.br l) t = refl
-instr_before (tree.br_if l) t = refl
-instr_before (tree.br_table ls l) t = refl
-instr_before tree.return_ t = refl
-instr_before (tree.call f) t = refl
-instr_before (tree.call_indirect x) t = refl
-instr_before tree.drop_ t = refl
-instr_before tree.select t = refl
-instr_before (tree.local_get x) t = refl
-instr_before (tree.local_set x) t = refl
-instr_before (tree.local_tee x) t = refl
-instr_before (tree.global_get x) t = refl
-instr_before (tree.global_set x) t = refl
-instr_before (tree.load op m) t = refl
-instr_before (tree.store op m) t = refl
-instr_before tree.memory_size t = refl
-instr_before tree.memory_grow t = refl
-instr_before (tree.i32_const z) t = refl
-instr_before (tree.i64_const z) t = refl
-instr_before (tree.num op) t = refl
+use Rattle.module_ast.proofs.Plains.{the_plain, before_plain, onto_append}
 
 instrs_onto : (is : List Plain) (t : Tree) → onto (instrs is) t ≡ plains is t
 instrs_onto [] t = refl
-instrs_onto (i ∷ is) t = instr_before i (onto (instrs is) t) ∙ ap (plain i) (instrs_onto is t)
+instrs_onto (i ∷ is) t = before_plain i (onto (instrs is) t) ∙ ap (plain i) (instrs_onto is t)
 
 -- plain instructions that were added, before a sequence
 pub onto_added : (old new : List Instr) (is : List Plain) (t : Tree) → new ≡ old ++ instrs is → onto new t ≡ onto old (plains is t)
@@ -82,12 +55,10 @@ added_two old mid new is js e f = f ∙ ap (λ l. l ++ instrs js) e ∙ append_a
 
 pub ends_before : (i : Instr) (t : Tree) → ends_live true (before i t) ≡ ends_live (goes_on_by i) t
 ends_before (If b a None) t = refl
-ends_before (If b a (Some e)) t = refl
 ends_before i t = refl
 
 pub ends_dead : (i : Instr) (t : Tree) → ends_live false (before i t) ≡ ends_live false t
 ends_dead (If b a None) t = refl
-ends_dead (If b a (Some e)) t = refl
 ends_dead i t = refl
 
 end_code_inner : (w : Setting) (s : Scope) (ss : List Scope) → 0 < length ss → end_code w (s ∷ ss) ≡ tell_end w s
@@ -150,28 +121,7 @@ module _ (pool : Pool) (hooks : Hooks) (s : Site) (p : ℕ) where
       let r = room_append pool first (second ++ third) q.1 in
       let u = room_append pool second third r.1 in
       (room_joined pool (open_temps hooks kinds.If) (first ++ (second ++ [])) q.0 (room_joined pool first (second ++ []) r.0 (room_joined pool second [] u.0 tt)), subst (λ n. HasRoom pool (code_temps hooks s n t)) n u.1)
-  room_before Unreachable t next e h = room_plain tree.unreachable t next e h
-  room_before Nop t next e h = room_plain tree.nop t next e h
-  room_before (Br l) t next e h = room_plain (tree.br l) t next e h
-  room_before (BrIf l) t next e h = room_plain (tree.br_if l) t next e h
-  room_before (BrTable ls l) t next e h = room_plain (tree.br_table ls l) t next e h
-  room_before Return t next e h = room_plain tree.return_ t next e h
-  room_before (Call f) t next e h = room_plain (tree.call f) t next e h
-  room_before (CallIndirect x) t next e h = room_plain (tree.call_indirect x) t next e h
-  room_before Drop t next e h = room_plain tree.drop_ t next e h
-  room_before Select t next e h = room_plain tree.select t next e h
-  room_before (LocalGet x) t next e h = room_plain (tree.local_get x) t next e h
-  room_before (LocalSet x) t next e h = room_plain (tree.local_set x) t next e h
-  room_before (LocalTee x) t next e h = room_plain (tree.local_tee x) t next e h
-  room_before (GlobalGet x) t next e h = room_plain (tree.global_get x) t next e h
-  room_before (GlobalSet x) t next e h = room_plain (tree.global_set x) t next e h
-  room_before (Load op m) t next e h = room_plain (tree.load op m) t next e h
-  room_before (Store op m) t next e h = room_plain (tree.store op m) t next e h
-  room_before MemorySize t next e h = room_plain tree.memory_size t next e h
-  room_before MemoryGrow t next e h = room_plain tree.memory_grow t next e h
-  room_before (I32Const z) t next e h = room_plain (tree.i32_const z) t next e h
-  room_before (I64Const z) t next e h = room_plain (tree.i64_const z) t next e h
-  room_before (Num op) t next e h = room_plain (tree.num op) t next e h
+  room_before i t next e h = room_plain (the_plain i) t next e h
 
 -- ---- blocks
 

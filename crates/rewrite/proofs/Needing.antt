@@ -27,7 +27,7 @@ use Rattle.hook_mono.specs.Needed.{Site, end_keys, plain_keys, open_keys, close_
 use Rattle.rewrite.specs.declared.needs.OpenBlock.{OpenBlock}
 use Rattle.rewrite.specs.declared.needs.Needs.{Needs}
 use Rattle.rewrite.specs.Needing.{with_wanted, with_each_wanted, own_keys, told_keys, blocks_kept, blocks_kept_at, rest_left, all_left, with_ends, kind_opened, with_open_block, left_out_to, after_live, into_block, after_place}
-use Rattle.wasm_sem.proofs.Placed.{places_length}
+use Rattle.rewrite.proofs.SizedPlaces.{body_count}
 use Rattle.rewrite.proofs.Known.{wanted_each, few_more, few_each}
 use Rattle.rewrite.proofs.Unended.{AreUnended, ends_of, entry_of, leave_none, leave_one, unended_each, left_ends, branched}
 use Rattle.rewrite.proofs.Chained.{kinds_of, kinds_before, kinds_behind, open_before, open_behind, AreChained, places_chained}
@@ -239,13 +239,6 @@ few_added s d y n = go y.live
 
 -- ---- all places
 
--- no place but the entry and the last `end` stands beside the opcodes
-places_few : (code : Tree) → length (places code) ≡ code_size code + 2
-places_few code =
-    let f = function_scope code in
-    let inside = code_places (f ∷ []) true 0 code in
-    omega (arith, places_length (f ∷ []) true 0 code, length-append inside (at f.end (ends_live true code) (closes f) [] ∷ []))
-
 -- the keys so far, the open blocks, and the places that are left
 pub record IsUnderway (hooks : Hooks) (s : Site) (n : Needs) (left : List positions.Place) : Type 0 where
   pub around : List BlockKind
@@ -262,7 +255,7 @@ underway_first hooks s few = record {
   same = refl;
   unended = refl;
   rest = sym (wanted_each hooks [] (flat_map (live_keys s) (places s.body.code)));
-  few = omega (arith, places_few s.body.code);
+  few = omega (arith, body_count s.body.code);
 }
 
 pub underway_next : (hooks : Hooks) (s : Site) (n : Needs) (x : positions.Place) (left : List positions.Place) (y : Place) (d : ℕ) → IsPlaceOf x y → d ≡ length (blocks_around x.scopes)

@@ -101,10 +101,7 @@ most_before w p key =
 
 pub most_opening : (w : Setting) (p : ℕ) (kind : BlockKind) → plains_most (before_opening w p kind) ≤ 80
 most_opening w p kinds.If = most_before w p (keys.Plain groups.If)
-most_opening w p kinds.Function = omega arith
-most_opening w p kinds.Block = omega arith
-most_opening w p kinds.Loop = omega arith
-most_opening w p kinds.Else = omega arith
+most_opening w p kind = omega arith
 
 -- the entry, the results, and an end
 pub most_entry : (w : Setting) → plains_most (entry_code w) ≤ 96
@@ -144,34 +141,24 @@ most_told w p l to ends =
 -- ---- code round an instruction
 
 most_num : (i : Plain) (ts : List Temp) → plains_most (num_code i ts) ≤ most_bytes (instr_of i) + 80
-most_num i [] = omega arith
-most_num i (a ∷ []) = omega arith
-most_num i (a ∷ r ∷ []) = omega arith
 most_num i (a ∷ b ∷ r ∷ []) = omega arith
-most_num i (a ∷ b ∷ r ∷ c ∷ ts) = omega arith
+most_num i ts = omega arith
 
 most_result : (i : Plain) (ts : List Temp) → plains_most (result_code i ts) ≤ most_bytes (instr_of i) + 80
-most_result i [] = omega arith
 most_result i (r ∷ []) = omega arith
-most_result i (r ∷ a ∷ ts) = omega arith
+most_result i ts = omega arith
 
 most_store : (i : Plain) (ts : List Temp) → plains_most (store_code i ts) ≤ most_bytes (instr_of i) + 80
-most_store i [] = omega arith
-most_store i (a ∷ []) = omega arith
 most_store i (a ∷ v ∷ []) = omega arith
-most_store i (a ∷ v ∷ c ∷ ts) = omega arith
+most_store i ts = omega arith
 
 most_drop : (ts : List Temp) → plains_most (drop_code ts) ≤ 96
-most_drop [] = omega arith
 most_drop (a ∷ []) = omega arith
-most_drop (a ∷ b ∷ ts) = omega arith
+most_drop ts = omega arith
 
 most_select : (ts : List Temp) → plains_most (select_code ts) ≤ 96
-most_select [] = omega arith
-most_select (a ∷ []) = omega arith
-most_select (a ∷ b ∷ []) = omega arith
 most_select (a ∷ b ∷ c ∷ []) = omega arith
-most_select (a ∷ b ∷ c ∷ d ∷ ts) = omega arith
+most_select ts = omega arith
 
 -- with at most three temporaries
 most_watched : (w : Setting) (p : ℕ) (key : HookKey) (first : List Plain) (code : List Temp → List Plain) (tys : List ValType) (i : Plain)
@@ -257,10 +244,6 @@ num_three op = omega arith
 pub most_straight : (most : ℕ) (w : Setting) → IsNarrow most w.site.context → (scopes : List Scope) (p : ℕ) (i : Plain) → IsStraight i → plains_most (template w scopes p i) ≤ 128 * most + 448
 most_straight most w narrow scopes p unreachable s = omega (arith, most_append (tells w (pos p) (keys.Plain groups.Unreachable) []) (unreachable ∷ []), most_tells w (pos p) (keys.Plain groups.Unreachable) [])
 most_straight most w narrow scopes p nop s = omega (arith, most_append (tells w (pos p) (keys.Plain groups.Nop) []) (nop ∷ []), most_tells w (pos p) (keys.Plain groups.Nop) [])
-most_straight most w narrow scopes p (br l) s = absurd s
-most_straight most w narrow scopes p (br_if l) s = absurd s
-most_straight most w narrow scopes p (br_table ls l) s = absurd s
-most_straight most w narrow scopes p return_ s = absurd s
 most_straight most w narrow scopes p (call f) s = omega (arith, most_call w p f (type_of_callee w.site.context f), most_callee most w.site.context narrow f)
 most_straight most w narrow scopes p (call_indirect ty) s =
     let t = indirect_type w.site.context ty in
@@ -298,3 +281,4 @@ most_straight most w narrow scopes p (i32_const z) s = omega (arith, most_tells 
 most_straight most w narrow scopes p (i64_const z) s = omega (arith, most_tells w (pos p) (keys.Const types.I64) (low_word z ∷ high_word z ∷ []))
 most_straight most w narrow scopes p (num op) s =
     omega (arith, most_watched w p (keys.Num op) [] (num_code (num op)) (num_operands op ++ num_result op ∷ []) (num op) (omega arith) (num_three op) (omega arith) (most_num (num op)))
+most_straight most w narrow scopes p i s = absurd s

@@ -1,12 +1,14 @@
 -- The places of a body as the count of its bytes comes to them.
-use Rattle.std.proofs.Common.{◌≡◌, ℕ, ◌+◌, ◌*◌, ◌<◌, ◌≤◌, ◌^◌, List, [], ◌∷◌, ◌++◌, length, Bool, true, false, ◌&&◌, refl, zero, suc, ◌%◌, ◌/◌, nat_lt, length-append, arith}
+use Rattle.std.proofs.Common.{◌≡◌, ℕ, ◌+◌, ◌*◌, ◌<◌, ◌≤◌, ◌^◌, List, [], ◌∷◌, ◌++◌, length, Bool, true, false, ◌&&◌, length-append, arith}
 use Rattle.std.specs.List.{AllByRecursion}
-use Rattle.leb_binary.specs.Shortest.{unsigned_bytes, unsigned_within}
+use Rattle.leb_binary.specs.Shortest.{unsigned_bytes}
 use Rattle.module_ast.specs.Canonical.{items_bytes, plain_bytes, code_bytes, expr_bytes}
 use Rattle.module_ast.specs.Plains.{instr_of}
 use Rattle.module_ast.specs.Positions.{Scope, Place, function_scope, block_scope, loop_scope, if_scope, then_scope, else_scope, code_size, goes_on, ends_live, at, alternates, closes, code_places, places}
 use Rattle.module_ast.specs.Tree.{Tree, done, plain, block, loop, if_then, if_else, Plain, br_table}
 use Rattle.module_ast.proofs.Each.{all_both}
+use Rattle.module_ast.proofs.Writers.{unsigned_some, items_many}
+use Rattle.wasm_sem.proofs.Placed.{places_length}
 use Rattle.index_remap.specs.declared.Remap.{Remap}
 use Rattle.index_remap.specs.Remap.{Maps}
 use Rattle.wasm_encode.specs.Lengths.{most_bytes}
@@ -19,24 +21,10 @@ opcodes_append : (xs ys : List Place) → opcodes_most (xs ++ ys) ≡ opcodes_mo
 opcodes_append [] ys = omega arith
 opcodes_append (x ∷ xs) ys = omega (arith, opcodes_append xs ys)
 
--- a number has a byte at least
-spelled_count : (b : Bool) (n : ℕ) (rest : List ℕ) → 1 ≤ length (elim b as (λ (c : Bool). List ℕ) [ true ↦ n ∷ [] | false ↦ (128 + n % 128) ∷ rest ])
-spelled_count true n rest = omega arith
-spelled_count false n rest = omega arith
-
-number_count : (n : ℕ) → 1 ≤ length (unsigned_bytes n)
-number_count zero = omega arith
-number_count (suc n) = spelled_count (nat_lt (suc n) 128) (suc n) (unsigned_within n (suc n / 128))
-
--- so has a label
-labels_count : (ls : List ℕ) → length ls ≤ length (items_bytes unsigned_bytes ls)
-labels_count [] = omega arith
-labels_count (l ∷ ls) = omega (arith, length-append (unsigned_bytes l) (items_bytes unsigned_bytes ls), number_count l, labels_count ls)
-
 -- by the bytes of the instruction
 plain_most : (i : Plain) → most_bytes (instr_of i) ≤ 16 + 5 * length (plain_bytes i)
 plain_most (br_table ls l) =
-    omega (arith, length-append (unsigned_bytes (length ls) ++ items_bytes unsigned_bytes ls) (unsigned_bytes l), length-append (unsigned_bytes (length ls)) (items_bytes unsigned_bytes ls), labels_count ls)
+    omega (arith, length-append (unsigned_bytes (length ls) ++ items_bytes unsigned_bytes ls) (unsigned_bytes l), length-append (unsigned_bytes (length ls)) (items_bytes unsigned_bytes ls), items_many unsigned_bytes unsigned_some ls)
 plain_most i = omega arith
 
 -- a sequence
@@ -92,50 +80,10 @@ body_most code =
 
 -- ---- how many places there are
 
-code_count : (scopes : List Scope) (live : Bool) (p : ℕ) (k : Tree) → length (code_places scopes live p k) ≡ code_size k
-code_count scopes live p done = refl
-code_count scopes live p (plain i k) = omega (arith, code_count scopes (live && goes_on i) (p + 1) k)
-code_count scopes live p (block ty body k) =
-    let s = block_scope p body in
-    omega (
-      arith,
-      length-append (code_places (s ∷ scopes) live (p + 1) body) (at s.end (ends_live live body) (closes s) scopes ∷ code_places scopes live (s.end + 1) k),
-      code_count (s ∷ scopes) live (p + 1) body,
-      code_count scopes live (s.end + 1) k,
-    )
-code_count scopes live p (loop ty body k) =
-    let s = loop_scope p body in
-    omega (
-      arith,
-      length-append (code_places (s ∷ scopes) live (p + 1) body) (at s.end (ends_live live body) (closes s) scopes ∷ code_places scopes live (s.end + 1) k),
-      code_count (s ∷ scopes) live (p + 1) body,
-      code_count scopes live (s.end + 1) k,
-    )
-code_count scopes live p (if_then ty body k) =
-    let s = if_scope p body in
-    omega (
-      arith,
-      length-append (code_places (s ∷ scopes) live (p + 1) body) (at s.end (ends_live live body) (closes s) scopes ∷ code_places scopes live (s.end + 1) k),
-      code_count (s ∷ scopes) live (p + 1) body,
-      code_count scopes live (s.end + 1) k,
-    )
-code_count scopes live p (if_else ty body other k) =
-    let a = then_scope p body other in
-    let b = else_scope p body other in
-    let last = at b.end (ends_live live other) (closes b) scopes ∷ code_places scopes live (b.end + 1) k in
-    omega (
-      arith,
-      length-append (code_places (a ∷ scopes) live (p + 1) body) (at a.end live (alternates a b (ends_live live body)) scopes ∷ (code_places (b ∷ scopes) live (a.end + 1) other ++ last)),
-      length-append (code_places (b ∷ scopes) live (a.end + 1) other) last,
-      code_count (a ∷ scopes) live (p + 1) body,
-      code_count (b ∷ scopes) live (a.end + 1) other,
-      code_count scopes live (b.end + 1) k,
-    )
-
 pub body_count : (code : Tree) → length (places code) ≡ code_size code + 2
 body_count code =
     let f = function_scope code in
-    omega (arith, length-append (code_places (f ∷ []) true 0 code) (at f.end (ends_live true code) (closes f) [] ∷ []), code_count (f ∷ []) true 0 code)
+    omega (arith, length-append (code_places (f ∷ []) true 0 code) (at f.end (ends_live true code) (closes f) [] ∷ []), places_length (f ∷ []) true 0 code)
 
 -- ---- what fits
 
@@ -148,37 +96,22 @@ module _ (r : Remap) where
   code_fits s around live p (plain i k) low maps = ((omega arith, maps.0), code_fits s around (live && goes_on i) (p + 1) k (omega arith) maps.1)
   code_fits s around live p (block ty body k) low maps =
       let t = block_scope p body in
-      let ss = s ∷ around in (
-        (omega arith, tt),
-        all_both (FitsPlace r) (code_places (t ∷ ss) live (p + 1) body) (at t.end (ends_live live body) (closes t) ss ∷ code_places ss live (t.end + 1) k)
-            (code_fits t ss live (p + 1) body (omega arith) maps.0) ((omega arith, λ e. cc), code_fits s around live (t.end + 1) k (omega arith) maps.1),
-      )
+      ((omega arith, tt), all_both (FitsPlace r) _ _ (code_fits t (s ∷ around) live (p + 1) body (omega arith) maps.0) ((omega arith, λ e. cc), code_fits s around live (t.end + 1) k (omega arith) maps.1))
   code_fits s around live p (loop ty body k) low maps =
       let t = loop_scope p body in
-      let ss = s ∷ around in (
-        (omega arith, tt),
-        all_both (FitsPlace r) (code_places (t ∷ ss) live (p + 1) body) (at t.end (ends_live live body) (closes t) ss ∷ code_places ss live (t.end + 1) k)
-            (code_fits t ss live (p + 1) body (omega arith) maps.0) ((omega arith, λ e. cc), code_fits s around live (t.end + 1) k (omega arith) maps.1),
-      )
+      ((omega arith, tt), all_both (FitsPlace r) _ _ (code_fits t (s ∷ around) live (p + 1) body (omega arith) maps.0) ((omega arith, λ e. cc), code_fits s around live (t.end + 1) k (omega arith) maps.1))
   code_fits s around live p (if_then ty body k) low maps =
       let t = if_scope p body in
-      let ss = s ∷ around in (
-        (omega arith, tt),
-        all_both (FitsPlace r) (code_places (t ∷ ss) live (p + 1) body) (at t.end (ends_live live body) (closes t) ss ∷ code_places ss live (t.end + 1) k)
-            (code_fits t ss live (p + 1) body (omega arith) maps.0) ((omega arith, λ e. cc), code_fits s around live (t.end + 1) k (omega arith) maps.1),
-      )
+      ((omega arith, tt), all_both (FitsPlace r) _ _ (code_fits t (s ∷ around) live (p + 1) body (omega arith) maps.0) ((omega arith, λ e. cc), code_fits s around live (t.end + 1) k (omega arith) maps.1))
   code_fits s around live p (if_else ty body other k) low maps =
       let a = then_scope p body other in
       let b = else_scope p body other in
-      let ss = s ∷ around in
-      let last = at b.end (ends_live live other) (closes b) ss ∷ code_places ss live (b.end + 1) k in (
+      (
         (omega arith, tt),
-        all_both (FitsPlace r) (code_places (a ∷ ss) live (p + 1) body) (at a.end live (alternates a b (ends_live live body)) ss ∷ (code_places (b ∷ ss) live (a.end + 1) other ++ last))
-            (code_fits a ss live (p + 1) body (omega arith) maps.0) (
-              (omega arith, omega arith),
-              all_both (FitsPlace r) (code_places (b ∷ ss) live (a.end + 1) other) last
-                  (code_fits b ss live (a.end + 1) other (omega arith) maps.1) ((omega arith, λ e. cc), code_fits s around live (b.end + 1) k (omega arith) maps.2),
-            ),
+        all_both (FitsPlace r) _ _ (code_fits a (s ∷ around) live (p + 1) body (omega arith) maps.0) (
+          (omega arith, omega arith),
+          all_both (FitsPlace r) _ _ (code_fits b (s ∷ around) live (a.end + 1) other (omega arith) maps.1) ((omega arith, λ e. cc), code_fits s around live (b.end + 1) k (omega arith) maps.2),
+        ),
       )
 
   pub body_fits : (code : Tree) → code_size code < 2 ^ 31 → Maps r code → AllFit (places code)

@@ -13,15 +13,10 @@ part_clean f back v bound false xs deep gs (ys, e, d, a) k = ap (some_in f.float
 
 -- sections below an id
 pub earlier_clean : (m : ModuleNode) (n : ℕ) → (1 < n → section_floats m type_section ≡ false) → (2 < n → section_floats m import_section ≡ false) → (6 < n → section_floats m global_section ≡ false) → (9 < n → section_floats m element_section ≡ false) → (10 < n → section_floats m code_section ≡ false) → (j : Kind) → id_of j < n → n ≤ 11 → section_floats m j ≡ false
-earlier_clean m n h1 h2 h6 h9 h10 custom_section l b = refl
 earlier_clean m n h1 h2 h6 h9 h10 type_section l b = h1 l
 earlier_clean m n h1 h2 h6 h9 h10 import_section l b = h2 l
-earlier_clean m n h1 h2 h6 h9 h10 function_section l b = refl
-earlier_clean m n h1 h2 h6 h9 h10 table_section l b = refl
-earlier_clean m n h1 h2 h6 h9 h10 memory_section l b = refl
 earlier_clean m n h1 h2 h6 h9 h10 global_section l b = h6 l
-earlier_clean m n h1 h2 h6 h9 h10 export_section l b = refl
-earlier_clean m n h1 h2 h6 h9 h10 start_section l b = refl
 earlier_clean m n h1 h2 h6 h9 h10 element_section l b = h9 l
 earlier_clean m n h1 h2 h6 h9 h10 code_section l b = h10 l
 earlier_clean m n h1 h2 h6 h9 h10 data_section l b = absurd (omega arith)
+earlier_clean m n h1 h2 h6 h9 h10 j l b = refl

@@ -23,11 +23,9 @@ locals_same bound (y ∷ ys) =
 
 -- the first four quantities do not depend on code
 pub counts_same : (bound : ℕ) (m : Module) (w : Which) → order_of w < 4 → limited_counts (without_deep bound m) w ≡ limited_counts m w
-counts_same bound m Functions l = refl
-counts_same bound m Types l = refl
-counts_same bound m Parameters l = refl
 counts_same bound m Locals l = locals_same bound m.bodies
 counts_same bound m Nesting l = absurd (omega arith)
+counts_same bound m w l = refl
 
 pub within_same : (limits : Limits) (bound : ℕ) (m : Module) → ((w : Which) → order_of w < 4 → AreWithin (bound_of limits w) (limited_counts (without_deep bound m) w)) → (w : Which) → order_of w < 4 → AreWithin (bound_of limits w) (limited_counts m w)
 within_same limits bound m h w l = subst (AreWithin (bound_of limits w)) (counts_same bound m w l) (h w l)

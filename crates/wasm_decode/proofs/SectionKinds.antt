@@ -15,17 +15,7 @@ wrong_content k content id h e s i p =
 -- ids are below 12
 pub id_below : (k : Kind) → id_of k < 12
 id_below custom_section = omega arith
-id_below type_section = omega arith
-id_below import_section = omega arith
-id_below function_section = omega arith
-id_below table_section = omega arith
-id_below memory_section = omega arith
-id_below global_section = omega arith
-id_below export_section = omega arith
-id_below start_section = omega arith
-id_below element_section = omega arith
-id_below code_section = omega arith
-id_below data_section = omega arith
+id_below k = omega arith
 
 -- ---- one section more
 

@@ -70,12 +70,8 @@ no_call_plain inst e (call_indirect x) k o h = absurd h
 no_call_plain inst e i k o h = refl
 
 no_call : (inst : Instance) (e : Env) (k : Tree) (o : List Value) → NextIsNoCall k → told_code inst e k o ≡ []
-no_call inst e done o h = refl
 no_call inst e (plain i k) o h = no_call_plain inst e i k o h
-no_call inst e (block ty body k) o h = refl
-no_call inst e (loop ty body k) o h = refl
-no_call inst e (if_then ty body k) o h = refl
-no_call inst e (if_else ty body other k) o h = refl
+no_call inst e k o h = refl
 
 -- where no call comes next
 pub nothing_told : (inst : Instance) (c : Configuration) → Innermost (λ (fr : Frame). NextIsNoCall fr.top.rest) c → told_items inst c ≡ []

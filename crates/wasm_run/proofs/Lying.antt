@@ -2,9 +2,9 @@
 use Rattle.std.proofs.Common.{◌≡◌, ℕ, zero, suc, ◌+◌, ◌<◌, List, [], ◌∷◌, ◌++◌, length, set, Some, refl, sym, ap, ◌∙◌, arith, append_assoc, length-append}
 use Rattle.std.specs.Prelude.{reverse, slice_get, slice_set}
 use Rattle.std.proofs.lemmas.List.{reverse-reverse, reverse-append, length-reverse, length-set, set-append_left}
-use Rattle.std.proofs.lemmas.Option.{none-some}
 use Rattle.wasm_num.specs.declared.Value.{Value}
 use Rattle.module_ast.specs.Tree.{Tree}
+use Rattle.module_ast.proofs.Indexed.{get_first}
 use Rattle.wasm_sem.specs.Machine.{Frame}
 use Rattle.wasm_run.specs.Flat.{Flat, moved_spots, local_place, from_below, set_from_below}
 use Rattle.wasm_run.specs.Kept.{ops_of, spots_of, all_values, under, all_spots, Lies}
@@ -22,13 +22,8 @@ lies_moved f fr below k h = record { values = h.values; spots = ap (moved_spots 
 
 -- ---- locals
 
-get_front : {A : Type 0} (ys zs : List A) (i : ℕ) (x : A) → slice_get ys i ≡ Some x → slice_get (ys ++ zs) i ≡ Some x
-get_front [] zs i x h = absurd (none-some x h)
-get_front (y ∷ ys) zs zero x h = h
-get_front (y ∷ ys) zs (suc i) x h = get_front ys zs i x h
-
 get_middle : {A : Type 0} (xs ys zs : List A) (n i : ℕ) (x : A) → n ≡ length xs → slice_get ys i ≡ Some x → slice_get (xs ++ (ys ++ zs)) (n + i) ≡ Some x
-get_middle [] ys zs n i x e h = let k : n + i ≡ i = omega (arith, e) in ap (slice_get (ys ++ zs)) k ∙ get_front ys zs i x h
+get_middle [] ys zs n i x e h = let k : n + i ≡ i = omega (arith, e) in ap (slice_get (ys ++ zs)) k ∙ get_first ys zs i x h
 get_middle (a ∷ xs) ys zs n i x e h =
     let k : n + i ≡ suc (length xs + i) = omega (arith, e) in
     ap (slice_get (a ∷ (xs ++ (ys ++ zs)))) k ∙ get_middle xs ys zs (length xs) i x refl h

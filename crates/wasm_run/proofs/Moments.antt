@@ -77,9 +77,7 @@ module _ (m : Module) (s : Script) (made : ℕ) (f : Flat) (memory : Held) (glob
         (ended.bases, subst (λ st. KeepsStore inst st u g) (sym (ap (λ (x : Env). x.store) q ∙ env_store inst e.phase e (Returned vs))) keeps)
     went e fr below (reduces (configuration x (h ∷ hs))) follows room (lies, keeps) =
         (lies, keeps, follows_room m t.value_room t.spot_room fr below (h ∷ hs) follows (subst (λ n. HaveRoom m n t.spot_room (fr ∷ below)) (sym values) (subst (λ n. HaveRoom m f.value_room n (fr ∷ below)) (sym labels) room)))
-    went e fr below (traps trap) follows room w = absurd w
-    went e fr below ends follows room w = absurd w
-    went e fr below stuck follows room w = absurd w
+    went e fr below n follows room w = absurd w
 
     -- and leads there
     leads : (e : Env) (fr : Frame) (below : List Frame) (n : Next) → (e.phase ≡ over → ⊥) → NextGoesOn e n → NextAnswers inst e n → Went inst e n t u g → LeadsTo (configuration e (fr ∷ below)) (after_step inst (configuration e (fr ∷ below)) n) t
@@ -93,16 +91,12 @@ module _ (m : Module) (s : Script) (made : ℕ) (f : Flat) (memory : Held) (glob
     leads e fr below (reduces (configuration x (h ∷ hs))) busy on none (lies, keeps) =
         let bases = ap length lies.bases in
         (record { inside = tt; same = record { phase = on.phase; started = on.started; answers = on.answers } }, omega (arith, bases))
-    leads e fr below (traps trap) busy on none w = absurd w
-    leads e fr below ends busy on none w = absurd w
-    leads e fr below stuck busy on none w = absurd w
+    leads e fr below n busy on none w = absurd w
 
     -- or trapped
     trapped : (e : Env) (fr : Frame) (below : List Frame) (n : Next) (trap : Trap) → HasTrapped inst e n trap u g → ((empty : Flat) → empty.bases ≡ [] → KeepsConfiguration m s (after_step inst (configuration e (fr ∷ below)) n) empty u g) × (n ≡ traps trap)
     trapped e fr below (traps v) trap (same, keeps) = (λ empty none. (none, subst (λ st. KeepsStore inst st u g) (sym (env_store inst e.phase e (Trapped v))) keeps), ap traps same)
-    trapped e fr below (reduces c) trap h = absurd h
-    trapped e fr below ends trap h = absurd h
-    trapped e fr below stuck trap h = absurd h
+    trapped e fr below n trap h = absurd h
 
     -- nothing has changed
     same_running : IsSame f memory globals t u g → IsRunning m s made t u g

@@ -92,27 +92,18 @@ module _ (m : Module) (values labels : ℕ) where
   -- so they fit
   next_fits : (inst : Instance) (fr : Frame) (below : List Frame) (c : Configuration) (n : Next) → NextFollows fr below n → IsConfigurationWithin m (after_step inst c n) → HaveRoom m values labels (fr ∷ below) → HasRoomFor values labels n
   next_fits inst fr below c (reduces (configuration f fs)) follows w h = frames_fit fs w (follows_room fr below fs follows h)
-  next_fits inst fr below c (traps t) follows w h = tt
-  next_fits inst fr below c ends follows w h = tt
-  next_fits inst fr below c stuck follows w h = tt
+  next_fits inst fr below c n follows w h = tt
 
 -- of a step that calls no function
 step_room : (values labels : ℕ) (k : Tree) (n : Next) → (NextIsNoCall k → HasRoomFor values labels n) → HasStepRoom values labels k n
-step_room values labels done n h = h tt
 step_room values labels (plain (call f) k) n h = tt
 step_room values labels (plain (call_indirect x) k) n h = tt
-step_room values labels (plain i k) n h = h tt
-step_room values labels (block ty body k) n h = h tt
-step_room values labels (loop ty body k) n h = h tt
-step_room values labels (if_then ty body k) n h = h tt
-step_room values labels (if_else ty body other k) n h = h tt
+step_room values labels k n h = h tt
 
 -- it finds what it asks for
 ready_unless : (n : Next) → n ≢ stuck → IsUnstuck n
-ready_unless (reduces c) h = tt
-ready_unless (traps t) h = tt
-ready_unless ends h = tt
 ready_unless stuck h = h refl
+ready_unless n h = tt
 
 -- ---- moments of a run
 

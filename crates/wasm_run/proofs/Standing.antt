@@ -6,6 +6,7 @@ use Rattle.module_ast.specs.declared.code.Instr.{Instr}
 use Rattle.module_ast.specs.declared.code.Instr.TheVariants as instrs
 use Rattle.module_ast.specs.Tree.{Tree, done, Plain, plain, unreachable, nop, br, br_if, br_table, return_, call, call_indirect, drop_, select, local_get, local_set, local_tee, global_get, global_set, load, store, memory_size, memory_grow, i32_const, i64_const, num}
 use Rattle.module_ast.specs.Seen.{before}
+use Rattle.module_ast.proofs.Plains.{the_plain}
 use Rattle.run_store.specs.Held.{Held}
 use Rattle.wasm_sem.specs.declared.Trap.{Trap}
 use Rattle.wasm_sem.specs.Store.{Store}
@@ -86,52 +87,27 @@ module _ (s : Flat) (memory : Held) (globals : List Value) (inst : Instance) (e 
   grows (Some v) st o = refl
 
   computes : (ts : List ValType) (op : NumOp) (st : Store) (o : List Value) → HasLocals (reduce_num ts op st fr.locals o)
-  computes [] op st o = tt
-  computes (t ∷ []) op st [] = tt
   computes (t ∷ []) op st (a ∷ o) = nums (unary op a) st o
-  computes (t ∷ u ∷ []) op st [] = tt
-  computes (t ∷ u ∷ []) op st (b ∷ []) = tt
   computes (t ∷ u ∷ []) op st (b ∷ a ∷ o) = nums (binary op a b) st o
-  computes (t ∷ u ∷ w ∷ ts) op st o = tt
+  computes ts op st o = tt
 
   keeps_locals : (p : Plain) (st : Store) (o : List Value) → HasLocals (reduce_simple inst.limit p st fr.locals o)
-  keeps_locals unreachable st o = tt
   keeps_locals nop st o = refl
-  keeps_locals (br n) st o = tt
-  keeps_locals (br_if n) st o = tt
-  keeps_locals (br_table ns n) st o = tt
-  keeps_locals return_ st o = tt
-  keeps_locals (call f) st o = tt
-  keeps_locals (call_indirect x) st o = tt
-  keeps_locals drop_ st [] = tt
   keeps_locals drop_ st (v ∷ o) = refl
-  keeps_locals select st [] = tt
-  keeps_locals select st (I64 n ∷ o) = tt
-  keeps_locals select st (I32 n ∷ []) = tt
-  keeps_locals select st (I32 n ∷ b ∷ []) = tt
   keeps_locals select st (I32 n ∷ b ∷ a ∷ o) = gets (selected_value a b n) st o
   keeps_locals (local_get x) st o = gets (slice_get fr.locals x) st o
-  keeps_locals (local_set x) st [] = tt
   keeps_locals (local_set x) st (v ∷ o) = sets (slice_get fr.locals x) (reduct st (slice_set fr.locals x v) o) (length-set fr.locals x v)
-  keeps_locals (local_tee x) st [] = tt
   keeps_locals (local_tee x) st (v ∷ o) = sets (slice_get fr.locals x) (reduct st (slice_set fr.locals x v) (v ∷ o)) (length-set fr.locals x v)
   keeps_locals (global_get x) st o = gets (slice_get st.globals x) st o
-  keeps_locals (global_set x) st [] = tt
   keeps_locals (global_set x) st (v ∷ o) = sets (slice_get st.globals x) (reduct (record st { globals = slice_set st.globals x v }) fr.locals o) refl
-  keeps_locals (load op m) st [] = tt
-  keeps_locals (load op m) st (I64 n ∷ o) = tt
   keeps_locals (load op m) st (I32 n ∷ o) = loads (load_value op (n + m.offset) st.memory) st o
-  keeps_locals (store op m) st [] = tt
-  keeps_locals (store op m) st (v ∷ []) = tt
-  keeps_locals (store op m) st (v ∷ I64 n ∷ o) = tt
   keeps_locals (store op m) st (v ∷ I32 n ∷ o) = stores (store_bytes op v) (n + m.offset) st o
   keeps_locals memory_size st o = refl
-  keeps_locals memory_grow st [] = tt
-  keeps_locals memory_grow st (I64 n ∷ o) = tt
   keeps_locals memory_grow st (I32 n ∷ o) = grows (grown_memory inst.limit n st.memory) st o
   keeps_locals (i32_const z) st o = refl
   keeps_locals (i64_const z) st o = refl
   keeps_locals (num op) st o = computes (num_operands op) op st o
+  keeps_locals p st o = tt
 
   -- such an instruction, as it stands in the code
   pub record IsPlain (i : Instr) : Type 0 where
@@ -200,23 +176,16 @@ module _ (s : Flat) (memory : Held) (globals : List Value) (inst : Instance) (e 
         go not_simple trap h = absurd h
 
   pub plain_of : (i : Instr) → IsSimple i → IsPlain i
-  plain_of instrs.Unreachable h = record { plain_is = unreachable; is = λ k. refl; comes = λ k. refl; has_room = λ k n h. h }
-  plain_of instrs.Nop h = record { plain_is = nop; is = λ k. refl; comes = λ k. refl; has_room = λ k n h. h }
-  plain_of instrs.Drop h = record { plain_is = drop_; is = λ k. refl; comes = λ k. refl; has_room = λ k n h. h }
-  plain_of instrs.Select h = record { plain_is = select; is = λ k. refl; comes = λ k. refl; has_room = λ k n h. h }
-  plain_of (instrs.LocalGet x) h = record { plain_is = local_get x; is = λ k. refl; comes = λ k. refl; has_room = λ k n h. h }
-  plain_of (instrs.LocalSet x) h = record { plain_is = local_set x; is = λ k. refl; comes = λ k. refl; has_room = λ k n h. h }
-  plain_of (instrs.LocalTee x) h = record { plain_is = local_tee x; is = λ k. refl; comes = λ k. refl; has_room = λ k n h. h }
-  plain_of (instrs.GlobalGet x) h = record { plain_is = global_get x; is = λ k. refl; comes = λ k. refl; has_room = λ k n h. h }
-  plain_of (instrs.GlobalSet x) h = record { plain_is = global_set x; is = λ k. refl; comes = λ k. refl; has_room = λ k n h. h }
-  plain_of (instrs.Load op a) h = record { plain_is = load op a; is = λ k. refl; comes = λ k. refl; has_room = λ k n h. h }
-  plain_of (instrs.Store op a) h = record { plain_is = store op a; is = λ k. refl; comes = λ k. refl; has_room = λ k n h. h }
-  plain_of instrs.MemorySize h = record { plain_is = memory_size; is = λ k. refl; comes = λ k. refl; has_room = λ k n h. h }
-  plain_of instrs.MemoryGrow h = record { plain_is = memory_grow; is = λ k. refl; comes = λ k. refl; has_room = λ k n h. h }
-  plain_of (instrs.I32Const z) h = record { plain_is = i32_const z; is = λ k. refl; comes = λ k. refl; has_room = λ k n h. h }
-  plain_of (instrs.I64Const z) h = record { plain_is = i64_const z; is = λ k. refl; comes = λ k. refl; has_room = λ k n h. h }
-  plain_of (instrs.Num op) h = record { plain_is = num op; is = λ k. refl; comes = λ k. refl; has_room = λ k n h. h }
-  plain_of i h = absurd h
+  plain_of (instrs.Block ty a) h = absurd h
+  plain_of (instrs.Loop ty a) h = absurd h
+  plain_of (instrs.If ty a b) h = absurd h
+  plain_of (instrs.Br n) h = absurd h
+  plain_of (instrs.BrIf n) h = absurd h
+  plain_of (instrs.BrTable ns n) h = absurd h
+  plain_of instrs.Return h = absurd h
+  plain_of (instrs.Call f) h = absurd h
+  plain_of (instrs.CallIndirect x) h = absurd h
+  plain_of i h = record { plain_is = the_plain i; is = λ k. refl; comes = λ k. refl; has_room = λ k n h. h }
 
   -- the machine stands before one
   abbrev pub straight_before : (i : Instr) (k : Tree) → IsSimple i → fr.top.rest ≡ before i k → (x : Moment) × IsMomentBefore s memory globals i x
@@ -246,40 +215,23 @@ module _ (s : Flat) (memory : Held) (globals : List Value) (inst : Instance) (e 
 
   -- what they come to, the innermost label standing behind
   same_step : (i : Instr) (k : Tree) (o : List Value) → IsControl i → reduce_code inst e fr below (before i k) o ≡ reduce_code inst e (moved k) below (before i k) o
-  same_step (instrs.Block ty a) k o h = refl
-  same_step (instrs.Loop ty a) k o h = refl
-  same_step (instrs.If ty a None) k [] h = refl
   same_step (instrs.If ty a None) k (I32 n ∷ o) h = refl
-  same_step (instrs.If ty a None) k (I64 n ∷ o) h = refl
-  same_step (instrs.If ty a (Some b)) k [] h = refl
   same_step (instrs.If ty a (Some b)) k (I32 n ∷ o) h = refl
-  same_step (instrs.If ty a (Some b)) k (I64 n ∷ o) h = refl
-  same_step (instrs.Br n) k o h = refl
-  same_step (instrs.BrIf n) k o h = refl
-  same_step (instrs.BrTable ns n) k o h = refl
-  same_step instrs.Return k o h = refl
-  same_step i k o h = absurd h
+  same_step i k o h = refl
 
   module _ (i : Instr) (k : Tree) (kind : IsControl i) (at : fr.top.rest ≡ before i k) where
     next_is : the_step ≡ next_of inst e (moved k) below i
     next_is = ap (λ t. reduce_code inst e fr below t fr.top.ops) at ∙ same_step i k fr.top.ops kind
 
     control_room : (i : Instr) → IsControl i → HasStepRoom s.value_room s.spot_room (before i k) the_step → HasRoomFor s.value_room s.spot_room the_step
-    control_room (instrs.Block ty a) kind h = h
-    control_room (instrs.Loop ty a) kind h = h
+    control_room (instrs.Call f) kind h = absurd kind
+    control_room (instrs.CallIndirect x) kind h = absurd kind
     control_room (instrs.If ty a None) kind h = h
-    control_room (instrs.If ty a (Some b)) kind h = h
-    control_room (instrs.Br n) kind h = h
-    control_room (instrs.BrIf n) kind h = h
-    control_room (instrs.BrTable ns n) kind h = h
-    control_room instrs.Return kind h = h
-    control_room i kind h = absurd kind
+    control_room i kind h = h
 
     labels : (n : Next) (room : ℕ) → HasRoomFor s.value_room room n → HasLabelRoom room n
     labels (reduces (configuration f fs)) room h = h.1
-    labels (traps t) room h = tt
-    labels ends room h = tt
-    labels stuck room h = tt
+    labels n room h = tt
 
     pub moving : (u : Flat) (place : Tree) → place ≡ before i k → u ≡ record s { spots = moved_spots k s.spots } → IsMoving u place i inst e (moved k) below
     moving u place p q = subst (λ u. IsMoving u place i inst e (moved k) below) (sym q) (record {
@@ -298,6 +250,4 @@ module _ (s : Flat) (memory : Held) (globals : List Value) (inst : Instance) (e 
         go : (n : Next) → Comes inst e n u → Went inst e n u memory globals
         go (reduces (configuration f [])) (vs, q, ended) = (vs, q, ended, record { memory_is = standing.memory_is; globals_are = standing.globals_are })
         go (reduces (configuration f (fr ∷ below))) (q, lies) = (lies, kept f q)
-        go (traps t) h = absurd h
-        go ends h = absurd h
-        go stuck h = absurd h
+        go n h = absurd h

@@ -50,8 +50,7 @@ no_call_before : (i : Instr) (k : Tree) → ((func : ℕ) → i ≡ instrs.Call 
 no_call_before (instrs.Call func) k h g = absurd (h func refl)
 no_call_before (instrs.CallIndirect ty) k h g = absurd (g ty refl)
 no_call_before (instrs.If ty a None) k h g = tt
-no_call_before (instrs.If ty a (Some b)) k h g = tt
-no_call_before _ k h g = tt
+no_call_before i k h g = tt
 
 pub no_call_there : (c : Configuration) (i : Instr) (k : Tree) → ((func : ℕ) → i ≡ instrs.Call func → ⊥) → ((ty : ℕ) → i ≡ instrs.CallIndirect ty → ⊥) → Innermost (λ (fr : Frame). fr.top.rest ≡ before i k) c
     → Innermost (λ (fr : Frame). NextIsNoCall fr.top.rest) c

@@ -10,48 +10,36 @@ use Rattle.module_ast.specs.declared.module.Module.{Module}
 use Rattle.module_ast.specs.Spaces.{imported_funcs, imported_tables, imported_memories, tables_of, memories_of}
 use Rattle.wasm_valid.specs.Imported.{IfFunc, IfTable, IfMemory}
 
+-- an import of any kind before others stands for itself: so do all of them
+each_by : {X : Type 0} (P : X → Type 0) (If : Import → Type 0) (imported : List Import → List X) → All P (imported []) → ((i : Import) (is : List Import) → (If i × All P (imported is)) ↔ All P (imported (i ∷ is)))
+    → (is : List Import) → All If is ↔ All P (imported is)
+each_by P If imported none first [] = (λ _. none, λ _. All-nil If)
+each_by P If imported none first (i ∷ is) =
+    let one = first i is in
+    let rest = each_by P If imported none first is in
+    (λ h. one.0 (All-head If i is h, rest.0 (All-tail If i is h)), λ h. All-cons If i is (one.1 h).0 (rest.1 (one.1 h).1))
+
 -- an import before others, of any kind
 func_first : (P : ℕ → Type 0) (i : Import) (item : Item) (is : List Import) → (let j = record i { item = item } in (IfFunc item P × All P (imported_funcs is)) ↔ All P (imported_funcs (j ∷ is)))
 func_first P i (items.Func ty) is = (λ h. All-cons P ty (imported_funcs is) h.0 h.1, λ h. (All-head P ty (imported_funcs is) h, All-tail P ty (imported_funcs is) h))
-func_first P i (items.Table _) is = (λ h. h.1, λ h. (tt, h))
-func_first P i (items.Memory _) is = (λ h. h.1, λ h. (tt, h))
-func_first P i (items.Global _) is = (λ h. h.1, λ h. (tt, h))
+func_first P i item is = (λ h. h.1, λ h. (tt, h))
 
 pub each_func : (P : ℕ → Type 0) (is : List Import) → All (λ (i : Import). IfFunc i.item P) is ↔ All P (imported_funcs is)
-each_func P [] = (λ _. All-nil P, λ _. All-nil (λ (i : Import). IfFunc i.item P))
-each_func P (i ∷ is) =
-    let Q : Import → Type 0 = λ j. IfFunc j.item P in
-    let first = func_first P i i.item is in
-    let rest = each_func P is in
-    (λ h. first.0 (All-head Q i is h, rest.0 (All-tail Q i is h)), λ h. All-cons Q i is (first.1 h).0 (rest.1 (first.1 h).1))
+each_func P = each_by P (λ i. IfFunc i.item P) imported_funcs (All-nil P) (λ i is. func_first P i i.item is)
 
 table_first : (P : Range → Type 0) (i : Import) (item : Item) (is : List Import) → (let j = record i { item = item } in (IfTable item P × All P (imported_tables is)) ↔ All P (imported_tables (j ∷ is)))
 table_first P i (items.Table r) is = (λ h. All-cons P r (imported_tables is) h.0 h.1, λ h. (All-head P r (imported_tables is) h, All-tail P r (imported_tables is) h))
-table_first P i (items.Func _) is = (λ h. h.1, λ h. (tt, h))
-table_first P i (items.Memory _) is = (λ h. h.1, λ h. (tt, h))
-table_first P i (items.Global _) is = (λ h. h.1, λ h. (tt, h))
+table_first P i item is = (λ h. h.1, λ h. (tt, h))
 
 pub each_table : (P : Range → Type 0) (is : List Import) → All (λ (i : Import). IfTable i.item P) is ↔ All P (imported_tables is)
-each_table P [] = (λ _. All-nil P, λ _. All-nil (λ (i : Import). IfTable i.item P))
-each_table P (i ∷ is) =
-    let Q : Import → Type 0 = λ j. IfTable j.item P in
-    let first = table_first P i i.item is in
-    let rest = each_table P is in
-    (λ h. first.0 (All-head Q i is h, rest.0 (All-tail Q i is h)), λ h. All-cons Q i is (first.1 h).0 (rest.1 (first.1 h).1))
+each_table P = each_by P (λ i. IfTable i.item P) imported_tables (All-nil P) (λ i is. table_first P i i.item is)
 
 memory_first : (P : Range → Type 0) (i : Import) (item : Item) (is : List Import) → (let j = record i { item = item } in (IfMemory item P × All P (imported_memories is)) ↔ All P (imported_memories (j ∷ is)))
 memory_first P i (items.Memory r) is = (λ h. All-cons P r (imported_memories is) h.0 h.1, λ h. (All-head P r (imported_memories is) h, All-tail P r (imported_memories is) h))
-memory_first P i (items.Func _) is = (λ h. h.1, λ h. (tt, h))
-memory_first P i (items.Table _) is = (λ h. h.1, λ h. (tt, h))
-memory_first P i (items.Global _) is = (λ h. h.1, λ h. (tt, h))
+memory_first P i item is = (λ h. h.1, λ h. (tt, h))
 
 pub each_memory : (P : Range → Type 0) (is : List Import) → All (λ (i : Import). IfMemory i.item P) is ↔ All P (imported_memories is)
-each_memory P [] = (λ _. All-nil P, λ _. All-nil (λ (i : Import). IfMemory i.item P))
-each_memory P (i ∷ is) =
-    let Q : Import → Type 0 = λ j. IfMemory j.item P in
-    let first = memory_first P i i.item is in
-    let rest = each_memory P is in
-    (λ h. first.0 (All-head Q i is h, rest.0 (All-tail Q i is h)), λ h. All-cons Q i is (first.1 h).0 (rest.1 (first.1 h).1))
+each_memory P = each_by P (λ i. IfMemory i.item P) imported_memories (All-nil P) (λ i is. memory_first P i i.item is)
 
 -- what holds of all of two lists together holds of each
 split_all : {X : Type 0} (P : X → Type 0) (xs ys : List X) → All P (xs ++ ys) → All P xs × All P ys
@@ -75,20 +63,11 @@ tests_both first second whole joined = record {
   fails = λ a e p. (λ t. absurd (cc), λ w. p.1 (joined.1 w).0);
 }
 
-tables_joined : (P : Range → Type 0) (m : Module) → (All (λ (i : Import). IfTable i.item P) m.imports × All P m.tables) ↔ All P (tables_of m)
-tables_joined P m =
-    let each = each_table P m.imports in
-    let both = both_all P (imported_tables m.imports) m.tables in
-    (λ h. both.0 (each.0 h.0, h.1), λ h. (each.1 (both.1 h).0, (both.1 h).1))
+joined : {X : Type 0} (P : X → Type 0) (If : Type 0) (xs ys : List X) → If ↔ All P xs → (If × All P ys) ↔ All P (xs ++ ys)
+joined P If xs ys each = let both = both_all P xs ys in (λ h. both.0 (each.0 h.0, h.1), λ h. (each.1 (both.1 h).0, (both.1 h).1))
 
 pub tables_tests : (P : Range → Type 0) (m : Module) → TestsBoth (All (λ (i : Import). IfTable i.item P) m.imports) (All P m.tables) (All P (tables_of m))
-tables_tests P m = tests_both (All (λ (i : Import). IfTable i.item P) m.imports) (All P m.tables) (All P (tables_of m)) (tables_joined P m)
-
-memories_joined : (P : Range → Type 0) (m : Module) → (All (λ (i : Import). IfMemory i.item P) m.imports × All P m.memories) ↔ All P (memories_of m)
-memories_joined P m =
-    let each = each_memory P m.imports in
-    let both = both_all P (imported_memories m.imports) m.memories in
-    (λ h. both.0 (each.0 h.0, h.1), λ h. (each.1 (both.1 h).0, (both.1 h).1))
+tables_tests P m = tests_both (All (λ (i : Import). IfTable i.item P) m.imports) (All P m.tables) (All P (tables_of m)) (joined P _ (imported_tables m.imports) m.tables (each_table P m.imports))
 
 pub memories_tests : (P : Range → Type 0) (m : Module) → TestsBoth (All (λ (i : Import). IfMemory i.item P) m.imports) (All P m.memories) (All P (memories_of m))
-memories_tests P m = tests_both (All (λ (i : Import). IfMemory i.item P) m.imports) (All P m.memories) (All P (memories_of m)) (memories_joined P m)
+memories_tests P m = tests_both (All (λ (i : Import). IfMemory i.item P) m.imports) (All P m.memories) (All P (memories_of m)) (joined P _ (imported_memories m.imports) m.memories (each_memory P m.imports))

@@ -21,25 +21,7 @@ rule_at n = slice_get (rules.one_result ∷ (nine ++ others)) n
 
 rule_at-number : (r : Rule) → rule_at (number_of r) ≡ Some r
 rule_at-number rules.one_result = refl
-rule_at-number rules.import_types = refl
-rule_at-number rules.function_types = refl
-rule_at-number rules.one_table = refl
-rule_at-number rules.one_memory = refl
-rule_at-number rules.table_limits = refl
-rule_at-number rules.memory_pages = refl
-rule_at-number rules.memory_limits = refl
-rule_at-number rules.init_constant = refl
-rule_at-number rules.init_global = refl
-rule_at-number rules.init_type = refl
-rule_at-number rules.export_indices = refl
-rule_at-number rules.export_names = refl
-rule_at-number rules.start_index = refl
-rule_at-number rules.start_type = refl
-rule_at-number rules.element_tables = refl
-rule_at-number rules.element_offsets = refl
-rule_at-number rules.element_funcs = refl
-rule_at-number rules.segment_memories = refl
-rule_at-number rules.segment_offsets = refl
+rule_at-number r = refl
 
 same_rule : (r s : Rule) → number_of r ≡ number_of s → r ≡ s
 same_rule r s e =
@@ -74,25 +56,7 @@ first_found m n (true ∷ bs) (r ∷ rs) (e, test, rest) below =
 
 number_small : (r : Rule) → number_of r < 21
 number_small rules.one_result = omega arith
-number_small rules.import_types = omega arith
-number_small rules.function_types = omega arith
-number_small rules.one_table = omega arith
-number_small rules.one_memory = omega arith
-number_small rules.table_limits = omega arith
-number_small rules.memory_pages = omega arith
-number_small rules.memory_limits = omega arith
-number_small rules.init_constant = omega arith
-number_small rules.init_global = omega arith
-number_small rules.init_type = omega arith
-number_small rules.export_indices = omega arith
-number_small rules.export_names = omega arith
-number_small rules.start_index = omega arith
-number_small rules.start_type = omega arith
-number_small rules.element_tables = omega arith
-number_small rules.element_offsets = omega arith
-number_small rules.element_funcs = omega arith
-number_small rules.segment_memories = omega arith
-number_small rules.segment_offsets = omega arith
+number_small r = omega arith
 
 -- there are no rules but these twenty
 pub keeps_all : (m : Module) → KeepsBelow m 21 → KeepsRules m
@@ -100,25 +64,7 @@ keeps_all m h r = h r (number_small r)
 
 number_some : (r : Rule) → 1 ≤ number_of r
 number_some rules.one_result = omega arith
-number_some rules.import_types = omega arith
-number_some rules.function_types = omega arith
-number_some rules.one_table = omega arith
-number_some rules.one_memory = omega arith
-number_some rules.table_limits = omega arith
-number_some rules.memory_pages = omega arith
-number_some rules.memory_limits = omega arith
-number_some rules.init_constant = omega arith
-number_some rules.init_global = omega arith
-number_some rules.init_type = omega arith
-number_some rules.export_indices = omega arith
-number_some rules.export_names = omega arith
-number_some rules.start_index = omega arith
-number_some rules.start_type = omega arith
-number_some rules.element_tables = omega arith
-number_some rules.element_offsets = omega arith
-number_some rules.element_funcs = omega arith
-number_some rules.segment_memories = omega arith
-number_some rules.segment_offsets = omega arith
+number_some r = omega arith
 
 pub keeps_none : (m : Module) → KeepsBelow m 1
 keeps_none m r h = absurd (omega (arith, number_some r))

@@ -3,7 +3,8 @@ use Rattle.module_ast.specs.Tree.{weight}
 use Rattle.module_ast.specs.Seen.{before, code_of}
 use Rattle.module_ast.specs.Positions.{code_size}
 use Rattle.code_valid.proofs.Moves.{kept}
-use Rattle.code_valid.proofs.Sequences.{next_instr, weight_before, size_before, more_surveyed}
+use Rattle.code_valid.proofs.Sequences.{more_surveyed}
+use Rattle.module_ast.proofs.Plains.{next_instr, weight_before, size_before}
 use Rattle.code_valid.proofs.surveying.+surveying.Goals as goal
 
 pub survey_code-loop-instr-preserved : goal.survey_code-loop-instr-preserved

@@ -2,7 +2,8 @@ use Rattle.std.proofs.Common.{arith, ◌+◌, ap, sym, ◌∙◌, drop, subst}
 use Rattle.module_ast.specs.Tree.{weight}
 use Rattle.module_ast.specs.Seen.{code_of, onto, onto_push}
 use Rattle.index_remap.specs.Remap.{map_tree, Maps}
-use Rattle.index_remap.proofs.Along.{next_instr, weight_before, maps_parts}
+use Rattle.module_ast.proofs.Plains.{next_instr, weight_before}
+use Rattle.index_remap.proofs.Along.{maps_parts}
 use Rattle.index_remap.proofs.Remap.+map.Goals as goal
 
 pub map_body-map_instr-requires : goal.map_body-map_instr-requires

@@ -6,7 +6,7 @@ use Rattle.module_ast.specs.Lists.{when}
 use Rattle.module_ast.specs.Tree.{Tree, weight, done}
 use Rattle.module_ast.specs.Seen.{before, code_of}
 use Rattle.module_ast.specs.Positions.{code_size, ends_live, block_scope, loop_scope, if_scope, then_scope, else_scope}
-use Rattle.code_valid.proofs.Sequences.{next_instr, weight_before, size_before}
+use Rattle.module_ast.proofs.Plains.{next_instr, weight_before, size_before}
 use Rattle.rewrite.proofs.SizesAlong.{at_instr, opened, both_opened, block_first, loop_first}
 use Rattle.index_remap.specs.Remap.{Maps, map_tree}
 use Rattle.index_remap.proofs.Along.{maps_parts}

@@ -1,16 +1,10 @@
-use Rattle.std.proofs.Common.{◌≡◌, ◌∙◌, ◌++◌, List, [], ap}
-use Rattle.module_ast.specs.declared.code.Instr.{Instr}
-use Rattle.module_ast.specs.Tree.{Plain}
-use Rattle.i64_split.specs.Pushing.{instrs}
 use Rattle.rewrite.specs.Emitted.{target_word}
 use Rattle.rewrite.specs.Sizing.{br_told}
 use Rattle.rewrite.proofs.Blocks.{target_is}
 use Rattle.rewrite.proofs.BranchBytes.{br_bytes}
 use Rattle.rewrite.proofs.EndSums.{left_is_sum}
+use Rattle.rewrite.proofs.Emitting.{emitted}
 use Rattle.rewrite.proofs.setting.Setting.br_length.Goals as goal
-
-emitted : (old new slice : List Instr) (is : List Plain) → old ≡ [] → new ≡ old ++ instrs is → slice ≡ new → slice ≡ instrs is
-emitted old new slice is empty added same = same ∙ added ∙ ap (λ (l : List Instr). l ++ instrs is) empty
 
 pub returns-clause-length : goal.returns-clause-length
 returns-clause-length c ss a =

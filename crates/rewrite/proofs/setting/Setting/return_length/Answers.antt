@@ -1,16 +1,12 @@
-use Rattle.std.proofs.Common.{◌≡◌, ◌∙◌, ◌++◌, List, [], ◌∷◌, refl, ap, arith, pos}
-use Rattle.module_ast.specs.declared.code.Instr.{Instr}
-use Rattle.module_ast.specs.Tree.{Plain, return_}
+use Rattle.std.proofs.Common.{◌++◌, [], ◌∷◌, refl, arith, pos}
+use Rattle.module_ast.specs.Tree.{return_}
 use Rattle.i64_split.specs.Pushing.{instrs}
-use Rattle.rewrite.proofs.Emitting.{few_of}
+use Rattle.rewrite.proofs.Emitting.{emitted, few_of}
 use Rattle.rewrite.specs.Templates.{tell_results}
 use Rattle.rewrite.proofs.SizedMost.{most_append, most_results}
 use Rattle.rewrite.proofs.BranchBytes.{return_bytes}
 use Rattle.rewrite.proofs.EndSums.{all_is_sum}
 use Rattle.rewrite.proofs.setting.Setting.return_length.Goals as goal
-
-emitted : (old new slice : List Instr) (is : List Plain) → old ≡ [] → new ≡ old ++ instrs is → slice ≡ new → slice ≡ instrs is
-emitted old new slice is empty added same = same ∙ added ∙ ap (λ (l : List Instr). l ++ instrs is) empty
 
 pub emitted_length-requires : goal.emitted_length-requires
 emitted_length-requires c =

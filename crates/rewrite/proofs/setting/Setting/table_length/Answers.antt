@@ -1,16 +1,11 @@
-use Rattle.std.proofs.Common.{◌≡◌, ◌∙◌, ◌++◌, List, [], ap, arith}
-use Rattle.module_ast.specs.declared.code.Instr.{Instr}
-use Rattle.module_ast.specs.Tree.{Plain}
-use Rattle.i64_split.specs.Pushing.{instrs}
+use Rattle.std.proofs.Common.{arith}
 use Rattle.hook_select.specs.declared.GroupName.TheVariants as groups
 use Rattle.hook_mono.specs.declared.HookKey.TheVariants as keys
 use Rattle.rewrite.specs.Templates.{tell_before}
 use Rattle.rewrite.proofs.SizedMost.{most_before}
 use Rattle.rewrite.proofs.BranchBytes.{table_bytes}
+use Rattle.rewrite.proofs.Emitting.{emitted}
 use Rattle.rewrite.proofs.setting.Setting.table_length.Goals as goal
-
-emitted : (old new slice : List Instr) (is : List Plain) → old ≡ [] → new ≡ old ++ instrs is → slice ≡ new → slice ≡ instrs is
-emitted old new slice is empty added same = same ∙ added ∙ ap (λ (l : List Instr). l ++ instrs is) empty
 
 pub overflow_add-result : goal.overflow_add-result
 overflow_add-result c =

@@ -1,14 +1,9 @@
-use Rattle.std.proofs.Common.{◌≡◌, ◌∙◌, ◌++◌, List, [], refl, ap, arith}
-use Rattle.module_ast.specs.declared.code.Instr.{Instr}
-use Rattle.module_ast.specs.Tree.{Plain}
+use Rattle.std.proofs.Common.{refl, arith}
 use Rattle.i64_split.specs.Pushing.{instrs}
-use Rattle.rewrite.proofs.Emitting.{few_of}
+use Rattle.rewrite.proofs.Emitting.{emitted, few_of}
 use Rattle.rewrite.specs.Emitted.{template_of}
 use Rattle.rewrite.proofs.BranchBytes.{template_most, straight_bytes}
 use Rattle.rewrite.proofs.setting.Setting.template_length.Goals as goal
-
-emitted : (old new slice : List Instr) (is : List Plain) → old ≡ [] → new ≡ old ++ instrs is → slice ≡ new → slice ≡ instrs is
-emitted old new slice is empty added same = same ∙ added ∙ ap (λ (l : List Instr). l ++ instrs is) empty
 
 pub emitted_length-requires : goal.emitted_length-requires
 emitted_length-requires c =

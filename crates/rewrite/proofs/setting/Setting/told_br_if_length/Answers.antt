@@ -1,9 +1,8 @@
-use Rattle.std.proofs.Common.{◌≡◌, ◌∙◌, ◌++◌, List, [], refl, ap, sym, arith, length-append}
+use Rattle.std.proofs.Common.{◌≡◌, ◌∙◌, [], refl, sym, arith, length-append}
 use Rattle.leb_binary.specs.Shortest.{unsigned_bytes}
-use Rattle.module_ast.specs.declared.code.Instr.{Instr}
-use Rattle.module_ast.specs.Tree.{Plain, done}
+use Rattle.module_ast.specs.Tree.{done}
 use Rattle.i64_split.specs.Pushing.{instrs}
-use Rattle.rewrite.proofs.Emitting.{few_of}
+use Rattle.rewrite.proofs.Emitting.{emitted, few_of}
 use Rattle.std.proofs.Common.{true, false, subst}
 use Rattle.rewrite.specs.Emitted.{target_word}
 use Rattle.rewrite.specs.Sizing.{br_if_told, HaveBytes}
@@ -12,9 +11,6 @@ use Rattle.rewrite.proofs.SizedMost.{most_told}
 use Rattle.rewrite.proofs.BranchBytes.{untaken_bytes, taken_bytes}
 use Rattle.rewrite.proofs.EndSums.{left_is_sum}
 use Rattle.rewrite.proofs.setting.Setting.told_br_if_length.Goals as goal
-
-emitted : (old new slice : List Instr) (is : List Plain) → old ≡ [] → new ≡ old ++ instrs is → slice ≡ new → slice ≡ instrs is
-emitted old new slice is empty added same = same ∙ added ∙ ap (λ (l : List Instr). l ++ instrs is) empty
 
 pub emitted_length-requires : goal.emitted_length-requires
 emitted_length-requires c =

@@ -5,7 +5,7 @@ use Rattle.wasm_num.specs.declared.Value.{Value}
 use Rattle.module_ast.specs.Typing.{push}
 use Rattle.wasm_run.specs.Flat.{Flat}
 use Rattle.wasm_run.proofs.Pushed.{push_more}
-use Rattle.wasm_run.proofs.Lists.{reverse-take}
+use Rattle.ctrl_stack.proofs.Lists.{reverse-take}
 use Rattle.wasm_run.proofs.stack.Stack.values_below.Goals as goal
 
 pub loop-place-preserved : goal.loop-place-preserved
