@@ -141,9 +141,10 @@ pub fn class_of(opcode: u8) -> Class
             Some(op) => Class::Plain(Operands::Arg(Access::Store(op))),
             None => Class::Float(FloatOperands::Arg),
         },
-        0x45..=0xBF => match NumOp::of_opcode(opcode) {
+        0x45..=0xFF => match NumOp::of_opcode(opcode) {
             Some(op) => Class::Plain(Operands::Bare(Bare::Num(op))),
-            None => Class::Float(FloatOperands::Nothing),
+            None if opcode <= 0xBF => Class::Float(FloatOperands::Nothing),
+            None => listed(opcode),
         },
         _ => listed(opcode),
     }

@@ -1,6 +1,6 @@
 -- A first byte, and what spells the rest, are a token; and no token begins behind the last of them.
 use Rattle.std.proofs.Common.{◌≡◌, ℕ, suc, ◌+◌, ◌<◌, ◌≤◌, inl, inr, List, [], ◌∷◌, ◌++◌, length, refl, sym, ap, ◌∙◌, subst, length-append, arith}
-use Rattle.std.specs.Prelude.{Bool, true, false, cond, nat_lt, ◌==◌, ◌&&◌, ◌||◌, Option, Some, None, find}
+use Rattle.std.specs.Prelude.{Bool, true, false, not, cond, nat_lt, ◌==◌, ◌&&◌, ◌||◌, Option, Some, None, find}
 use Rattle.std.specs.List.{AllByRecursion}
 use Rattle.std.specs.Option.{option_map_or}
 use Rattle.std.proofs.lemmas.Bool.Decides.{nat_tests}
@@ -181,7 +181,7 @@ sound b rest t h = sound_choice b (is_float_op b) (is_float_access b) (is_op b) 
 pub token_some : (b : ℕ) (bytes rest : List ℕ) (t : Token) → IsFront (Spells (shape_at b)) bytes rest t → IsFront IsToken (b ∷ bytes) rest t
 token_some b bytes rest t (front, e, p) = (b ∷ front, ap (λ l. b ∷ l) e, sound b front t p)
 
--- no integer instruction outside of these runs of opcodes is a load, a store or a number instruction
+-- no load, store or floating instruction has such an opcode
 abbrev pub is_apart : ℕ → Bool
 is_apart b = nat_lt b 0x28 || (nat_lt 0x3E b && nat_lt b 0x45) || nat_lt 0xBF b
 
@@ -193,10 +193,6 @@ store_not_apart : (op : StoreOp) → is_apart (store_opcode op) ≡ false
 store_not_apart stores.I32Store = refl
 store_not_apart op = refl
 
-num_not_apart : (op : NumOp) → is_apart (num_opcode op) ≡ false
-num_not_apart nums.I32Eqz = refl
-num_not_apart op = refl
-
 apart_is_integer : (b : ℕ) → is_apart b ≡ true → shape_at b ≡ integer_shape b
 unfolding shape_at
 apart_is_integer b h =
@@ -204,24 +200,42 @@ apart_is_integer b h =
     let second : is_float_access b ≡ false = grind (arith, nat_tests) in
     ap (λ c. cond c float_bare (cond (is_float_access b) float_arg (integer_shape b))) first ∙ ap (λ c. cond c float_arg (integer_shape b)) second
 
--- so the list tells what they are
-pub apart : (b : ℕ) → is_apart b ≡ true → shape_at b ≡ listed_shape b
-apart b h =
+-- so where it is no number instruction, the list tells what it is
+pub apart : (b : ℕ) → is_apart b ≡ true → num_of_opcode b ≡ None → shape_at b ≡ listed_shape b
+apart b h no_num =
     let no_load = load_none b (λ op e. true≢false (sym h ∙ ap is_apart (sym e) ∙ load_not_apart op)) in
     let no_store = store_none b (λ op e. true≢false (sym h ∙ ap is_apart (sym e) ∙ store_not_apart op)) in
-    let no_num = num_none b (λ op e. true≢false (sym h ∙ ap is_apart (sym e) ∙ num_not_apart op)) in
     apart_is_integer b h
     ∙ ap (λ o. option_map_or (λ op. arg (load op)) o (option_map_or (λ op. arg (store op)) (store_of_opcode b) (option_map_or (λ op. bare (num op)) (num_of_opcode b) (listed_shape b)))) no_load
     ∙ ap (λ o. option_map_or (λ op. arg (store op)) o (option_map_or (λ op. bare (num op)) (num_of_opcode b) (listed_shape b))) no_store
     ∙ ap (λ o. option_map_or (λ op. bare (num op)) o (listed_shape b)) no_num
 
--- no token begins with this byte or a greater one
-large : (b : ℕ) → 192 ≤ b → shape_at b ≡ nothing
-large b h = apart b (grind (arith, nat_tests)) ∙ chosen (λ s. s ≡ nothing) (λ row. row.1) (find (λ row. row.0 == b) listed) nothing (λ row found. absurd (too_large row found)) refl
+-- number instructions have opcodes from the first one of a test on, each a byte
+is_numbered : ℕ → Bool
+is_numbered b = not (nat_lt b 0x45) && nat_lt b 256
+
+numbered : (op : NumOp) → is_numbered (num_opcode op) ≡ true
+unfolding is_numbered
+numbered nums.I32Eqz = refl
+numbered op = refl
+
+unnumbered : (b : ℕ) → is_numbered b ≡ false → num_of_opcode b ≡ None
+unnumbered b h = num_none b (λ op e. true≢false (sym (numbered op) ∙ ap is_numbered e ∙ h))
+
+pub low_is_no_num : (b : ℕ) → b < 0x45 → num_of_opcode b ≡ None
+unfolding is_numbered
+low_is_no_num b h = unnumbered b (grind (arith, nat_tests))
+
+-- no token begins with what is no byte
+large : (b : ℕ) → 256 ≤ b → shape_at b ≡ nothing
+unfolding is_numbered
+large b h =
+    apart b (grind (arith, nat_tests)) (unnumbered b (grind (arith, nat_tests)))
+    ∙ chosen (λ s. s ≡ nothing) (λ row. row.1) (find (λ row. row.0 == b) listed) nothing (λ row found. absurd (too_large row found)) refl
   where
     too_large : (row : ℕ × Shape) → find (λ row. row.0 == b) listed ≡ Some row → ⊥
     too_large row found =
-        let small : nat_lt row.0 192 ≡ true = found_in (λ row. nat_lt row.0 192 ≡ true) (λ row. row.0 == b) listed row ((refl, (refl, (refl, (refl, (refl, (refl, (refl, (refl, (refl, (refl, (refl, (refl, (refl, (refl, (refl, (refl, (refl, (refl, (refl, (refl, (refl, (refl, (refl, (refl, (refl, (refl, tt))))))))))))))))))))))))))) found in
+        let small : nat_lt row.0 256 ≡ true = found_in (λ row. nat_lt row.0 256 ≡ true) (λ row. row.0 == b) listed row ((refl, (refl, (refl, (refl, (refl, (refl, (refl, (refl, (refl, (refl, (refl, (refl, (refl, (refl, (refl, (refl, (refl, (refl, (refl, (refl, (refl, (refl, (refl, (refl, (refl, (refl, tt))))))))))))))))))))))))))) found in
         let is : row.0 ≡ b = eqb-true row.0 b (found_passes (λ row. row.0 == b) listed row found) in
         grind (arith, nat_tests)
 

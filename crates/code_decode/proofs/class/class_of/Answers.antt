@@ -4,10 +4,10 @@ use Rattle.wasm_num.proofs.Opcodes.{num_exact}
 use Rattle.module_ast.specs.Tokens.{shape_at}
 use Rattle.module_ast.proofs.Opcodes.{load_exact, store_exact}
 use Rattle.module_ast.proofs.Tokens.{load_told, store_told, num_told}
-use Rattle.module_ast.proofs.SpelledTokens.{apart}
+use Rattle.module_ast.proofs.SpelledTokens.{apart, low_is_no_num}
 use Rattle.code_decode.proofs.Classes.{no_load, no_store, no_num}
 use Rattle.code_decode.proofs.class.class_of.Goals as goal
-use Rattle.code_decode.proofs.class.class_of.Goals.{in_default-via-then-opcode-lt40, in_default-via-else-opcode-lt40+else-opcode-lt54+else-opcode-lt63+then-opcode-lt69, in_default-via-else-opcode-lt40+else-opcode-lt54+else-opcode-lt63+else-opcode-lt69+else-opcode-lt192}
+use Rattle.code_decode.proofs.class.class_of.Goals.{in_default-via-then-opcode-lt40, in_default-via-else-opcode-lt40+else-opcode-lt54+else-opcode-lt63+then-opcode-lt69}
 
 pub returns-in-Some : goal.returns-in-Some
 returns-in-Some c = ap shape_at (sym (load_exact c.args.opcode c.in-Some.op (sym c.in-Some.ensures))) ∙ load_told c.in-Some.op
@@ -32,7 +32,9 @@ returns-in-None-of_opcode-2 c = no_num c.args.opcode (omega arith) (omega arith)
 pub returns-in_default : goal.returns-in_default
 returns-in_default c =
     elim c.in_default.branch [
-      | in_default-via-then-opcode-lt40 w ↦ apart c.args.opcode (grind (arith, nat_tests)) ∙ c.listed.ensures
-      | in_default-via-else-opcode-lt40+else-opcode-lt54+else-opcode-lt63+then-opcode-lt69 w ↦ apart c.args.opcode (grind (arith, nat_tests)) ∙ c.listed.ensures
-      | in_default-via-else-opcode-lt40+else-opcode-lt54+else-opcode-lt63+else-opcode-lt69+else-opcode-lt192 w ↦ apart c.args.opcode (grind (arith, nat_tests)) ∙ c.listed.ensures
+      | in_default-via-then-opcode-lt40 w ↦ apart c.args.opcode (grind (arith, nat_tests)) (low_is_no_num c.args.opcode (omega arith)) ∙ c.listed-in_default.ensures
+      | in_default-via-else-opcode-lt40+else-opcode-lt54+else-opcode-lt63+then-opcode-lt69 w ↦ apart c.args.opcode (grind (arith, nat_tests)) (low_is_no_num c.args.opcode (omega arith)) ∙ c.listed-in_default.ensures
     ]
+
+pub returns-in-None-2 : goal.returns-in-None-2
+returns-in-None-2 c = apart c.args.opcode (grind (arith, nat_tests)) (sym c.in-None-2.ensures) ∙ c.listed.ensures
