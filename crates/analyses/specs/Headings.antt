@@ -5,13 +5,13 @@ use Rattle.analyses.specs.declared.Kind.{Kind}
 use Rattle.analyses.specs.declared.Kind.TheVariants.{Blocks, Branches, Calls, Memory}
 use Rattle.analyses.specs.declared.Row.{Row}
 use Rattle.analyses.specs.declared.ledger.Heading.{Heading}
-use Rattle.analyses.specs.declared.ledger.Tally.{Tally}
+use Rattle.analyses.specs.declared.ledger.Totals.{Totals}
 use Rattle.analyses.specs.Book.{Key}
 
 abbrev pub key_of_heading : Heading → Key
 key_of_heading h = record { func = h.func; instr = h.instr; tag = h.tag; other = h.other }
 
-abbrev pub row_of_entry : Heading × Tally → Row
+abbrev pub row_of_entry : Heading × Totals → Row
 row_of_entry e = record {
   func = e.0.func;
   instr = e.0.instr;
@@ -22,23 +22,23 @@ row_of_entry e = record {
   greatest = e.1.greatest;
 }
 
-abbrev pub book_of_entries : List (Heading × Tally) → List Row
+abbrev pub book_of_entries : List (Heading × Totals) → List Row
 book_of_entries es = map row_of_entry es
 
 -- of the first event under a heading
-abbrev pub first_tally : Kind → (address : ℕ) → Tally
+abbrev pub first_tally : Kind → (address : ℕ) → Totals
 first_tally Memory a = record { count = 1; least = a; greatest = a }
 first_tally Blocks a = record { count = 1; least = 0; greatest = 0 }
 first_tally Branches a = record { count = 1; least = 0; greatest = 0 }
 first_tally Calls a = record { count = 1; least = 0; greatest = 0 }
 
 -- with an event more
-abbrev pub counted_tally : Kind → (address : ℕ) → Tally → Tally
+abbrev pub counted_tally : Kind → (address : ℕ) → Totals → Totals
 counted_tally Memory a t = record { count = t.count + 1; least = min t.least a; greatest = max t.greatest a }
 counted_tally Blocks a t = record t { count = t.count + 1 }
 counted_tally Branches a t = record t { count = t.count + 1 }
 counted_tally Calls a t = record t { count = t.count + 1 }
 
 -- no count is above n
-abbrev pub CountsUpTo : ℕ → List (Heading × Tally) → Type 0
-CountsUpTo n es = All (λ (t : Tally). t.count ≤ n) (values_of es)
+abbrev pub CountsUpTo : ℕ → List (Heading × Totals) → Type 0
+CountsUpTo n es = All (λ (t : Totals). t.count ≤ n) (values_of es)

@@ -24,19 +24,19 @@ pub struct Heading {
 
 // How often it came, and for memory the least and the greatest address.
 #[derive(Clone, Copy, Debug)]
-pub struct Tally {
+pub struct Totals {
     pub count: u64,
     pub least: u64,
     pub greatest: u64,
 }
 
-impl Tally {
+impl Totals {
     // Of the first event under a heading.
-    fn first(kind: Kind, address: u64) -> Tally
+    fn first(kind: Kind, address: u64) -> Totals
         ensures { result ≡ first_tally kind address }
     {
         let address = if kind == Kind::Memory { address } else { 0 };
-        Tally {
+        Totals {
             count: 1,
             least: address,
             greatest: address,
@@ -44,24 +44,24 @@ impl Tally {
     }
 
     // With an event more.
-    fn counted(&self, kind: Kind, address: u64) -> Tally
+    fn counted(&self, kind: Kind, address: u64) -> Totals
         requires { self.now.count + 1 < 2 ^ 64 }
         ensures { result ≡ counted_tally kind address self.now }
     {
         let count = self.count + 1;
         match kind {
-            Kind::Memory => Tally {
+            Kind::Memory => Totals {
                 count,
                 least: self.least.min(address),
                 greatest: self.greatest.max(address),
             },
-            _ => Tally { count, ..*self },
+            _ => Totals { count, ..*self },
         }
     }
 }
 
 // The row of an entry.
-fn row(heading: &Heading, tally: &Tally) -> Row
+fn row(heading: &Heading, tally: &Totals) -> Row
     ensures { result ≡ row_of_entry (heading.now, tally.now) }
 {
     Row {
@@ -77,7 +77,7 @@ fn row(heading: &Heading, tally: &Tally) -> Row
 
 // Counts an event under a heading. `Err` comes where there is no memory for a new row, and changes nothing.
 fn count_under(
-    rows: &mut BTreeMap<Heading, Tally>,
+    rows: &mut BTreeMap<Heading, Totals>,
     kind: Kind,
     heading: Heading,
     address: u64,
@@ -90,7 +90,7 @@ fn count_under(
 {
     let tally = match rows.get(&heading) {
         Some(before) => before.counted(kind, address),
-        None => Tally::first(kind, address),
+        None => Totals::first(kind, address),
     };
     rows.insert(heading, tally)?;
     Ok(())
@@ -102,7 +102,7 @@ pub struct Ledger {
     alloc: Global,
     kind: Kind,
     taken: u64,
-    rows: BTreeMap<Heading, Tally>,
+    rows: BTreeMap<Heading, Totals>,
 }
 
 impl Model for Ledger {

@@ -6,7 +6,7 @@ use Rattle.app_plan.specs.Feeding.{fed, AreFedPart}
 use Rattle.app_plan.specs.Printing.{ShelfState}
 use Rattle.app_plan.specs.Texts.{bad_words_text, no_memory_text}
 use Rattle.app_plan.proofs.Contents.{unchanged_same, unchanged_after}
-use Rattle.app_plan.specs.declared.told.Told.{Told}
+use Rattle.app_plan.specs.declared.told.Printed.{Printed}
 use Rattle.app_plan.specs.declared.told.Refusal.{Refusal}
 use Rattle.app_plan.specs.declared.told.Refusal.TheVariants.{NoMemory}
 use Rattle.app_plan.specs.Wants.{Value, Read, Gives, ReadCause}
@@ -42,7 +42,7 @@ cause_on read next value old mid new was is _ _ g p few fewer (memory_ended w t)
 
 -- a read that gave what it must, and what came then
 pub went_on : (read : Read) (next : Value read.want → Plan) (value : Value read.want) (old mid new : ShelfState) (was is : List ToolState)
-    (result : Result Told Refusal) → Gives old.contents read value → Unchanged old.contents mid.contents → old.reads ≤ mid.reads → mid.writes ≡ old.writes
+    (result : Result Printed Refusal) → Gives old.contents read value → Unchanged old.contents mid.contents → old.reads ≤ mid.reads → mid.writes ≡ old.writes
     → Yields (Some (next value)) mid new was is result → Yields (Some (reads read next)) old new was is result
 went_on read next value old mid new was is (Ok told) g p few same (e, made, s, t) = (
   e,
@@ -78,7 +78,7 @@ was_refused plan reason text at tools refusal l r =
     (memory_ended (inl (unchanged_same at.contents)) (inl refl))
 
 -- or a text alone is told
-pub took_text : (text : List ℕ) (finish : Finish) (at : ShelfState) (tools : List ToolState) (told : Told) → told.status ≡ finish_status finish
+pub took_text : (text : List ℕ) (finish : Finish) (at : ShelfState) (tools : List ToolState) (told : Printed) → told.status ≡ finish_status finish
     → told.text.items ≡ text → Yields (Some (printing text finish)) at at tools tools (Ok told)
 took_text text finish at tools told s t = (
   prints text finish,
@@ -104,7 +104,7 @@ was_no_command at tools refusal r =
     (memory_ended (inl (unchanged_same at.contents)) (inl refl))
 
 -- what the words gave has this plan, or none
-pub planned : {A : Type 0} (plan : A → Plan) (o : Option A) (a : A) (old new : ShelfState) (was is : List ToolState) (result : Result Told Refusal)
+pub planned : {A : Type 0} (plan : A → Plan) (o : Option A) (a : A) (old new : ShelfState) (was is : List ToolState) (result : Result Printed Refusal)
     → Some a ≡ o → Yields (Some (plan a)) old new was is result → Yields (option_map plan o) old new was is result
 planned plan o a old new was is result e y = subst (λ x. Yields (option_map plan x) old new was is result) e y
 

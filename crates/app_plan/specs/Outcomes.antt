@@ -3,7 +3,7 @@ use Rattle.std.specs.Prelude.{◌≡◌, ℕ, ◌⊎◌, List, Option, Some, Non
 use Rattle.analyses.specs.Tools.{ToolState}
 use Rattle.app_plan.specs.Printing.{ShelfState, PrintState, Said}
 use Rattle.app_plan.specs.Texts.{no_memory_text}
-use Rattle.app_plan.specs.declared.told.Told.{Told}
+use Rattle.app_plan.specs.declared.told.Printed.{Printed}
 use Rattle.app_plan.specs.declared.told.Refusal.{Refusal}
 use Rattle.app_plan.specs.declared.told.Refusal.TheVariants.{Line, NoMemory}
 use Rattle.app_plan.specs.Plans.{reason_status, finish_status, Effect, Plan}
@@ -24,7 +24,7 @@ refusal_text NoMemory = no_memory_text
 abbrev pub IsRefusal : (status : ℕ) → (text : List ℕ) → Refusal → Type 0
 IsRefusal status text refusal = (refusal ≡ NoMemory) ⊎ ((refusal_status refusal ≡ status) × (refusal_text refusal ≡ text))
 
-abbrev pub Yields : Option Plan → (old new : ShelfState) → (was is : List ToolState) → Result Told Refusal → Type 0
+abbrev pub Yields : Option Plan → (old new : ShelfState) → (was is : List ToolState) → Result Printed Refusal → Type 0
 Yields plan old new was is (Ok told) =
     (e : Effect) × IsMade plan old.contents new.contents was is e × (told.status ≡ finish_status e.finish) × (told.text.items ≡ e.text)
 Yields plan old new was is (Err refusal) = Cause plan old new was is (refusal_status refusal) (refusal_text refusal)

@@ -11,5 +11,5 @@ mod writing;
 pub use kinds::{Kinds, read_kinds};
 pub use loading::{LONGEST_SUBJECT, load, load_info, load_script};
 pub use sheet::Sheet;
-pub use told::{Refusal, Told, bad_words, refused, tell};
+pub use told::{Printed, Refusal, bad_words, refused, tell};
 pub use writing::put;

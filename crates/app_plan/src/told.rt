@@ -13,7 +13,7 @@ use std::alloc::{AllocError, Global};
 
 /// What is printed, and the status of the program where it is.
 #[derive(Drop)]
-pub struct Told {
+pub struct Printed {
     pub status: u8,
     pub text: Vec<u8>,
 }
@@ -70,7 +70,7 @@ fn refuse<K: Sink>(out: &mut K, refusal: &Refusal) -> u8
 }
 
 /// Prints the text of an answer, or the line of a refusal, and answers the status.
-pub fn tell<K: Sink>(out: &mut K, ending: Result<Told, Refusal>) -> u8
+pub fn tell<K: Sink>(out: &mut K, ending: Result<Printed, Refusal>) -> u8
     ensures ended { (plan : Option Plan) (old new : ShelfState) (was is : List ToolState) → Yields plan old new was is ending
         → Ends plan old new was is (print_state (K.written out.old) (K.faults out.old)) (print_state (K.written out.new) (K.faults out.new)) result }
     ensures print_count { K.faults out.old ≤ K.faults out.new }

@@ -10,7 +10,7 @@ use Rattle.wasm_num.specs.declared.BlockKind.TheVariants as kinds
 use Rattle.branch_resolve.specs.Scopes.{blocks_around}
 use Rattle.branch_resolve.specs.Walks.{IsPlaceOf}
 use Rattle.branch_resolve.specs.declared.Block.{Block}
-use Rattle.branch_resolve.specs.declared.steps.Part.{Part}
+use Rattle.branch_resolve.specs.declared.steps.Sequence.{Sequence}
 use Rattle.branch_resolve.specs.declared.steps.Other.{Other}
 use Rattle.branch_resolve.specs.declared.steps.Level.{Level}
 use Rattle.branch_resolve.specs.declared.steps.Steps.{Steps}
@@ -18,7 +18,7 @@ use Rattle.branch_resolve.specs.declared.place.Place.{Place}
 use Rattle.branch_resolve.specs.declared.place.Opcode.{Opcode}
 use Rattle.branch_resolve.specs.declared.place.Opcode.TheVariants.{Enters, Acts, Opens, Alternates, Closes}
 
-abbrev pub scope_of : Part → Scope
+abbrev pub scope_of : Sequence → Scope
 scope_of a = record { kind = a.kind; begin = a.begin; end = a.end; target = a.target }
 
 abbrev pub level_scopes : List Level → List Scope
@@ -76,10 +76,10 @@ outer_sizes (l ∷ ls) = other_sizes l.other ++ (block_sizes (code_of l.behind.n
 
 -- ---- what holds of a walk: positions are within what a file can have
 
-abbrev pub IsPartWithin : Part → (behind : Tree) → Type 0
+abbrev pub IsPartWithin : Sequence → (behind : Tree) → Type 0
 IsPartWithin a behind = (a.end + 1 + code_size behind ≤ 268435456) × (a.target ≤ 268435456)
 
-abbrev pub IsOtherWithin : Option Other → Part → (behind : Tree) → Type 0
+abbrev pub IsOtherWithin : Option Other → Sequence → (behind : Tree) → Type 0
 IsOtherWithin None a behind = IsPartWithin a behind
 IsOtherWithin (Some o) a behind = IsPartWithin a (code_of o.code.now) × IsPartWithin o.part behind
 

@@ -14,14 +14,14 @@ use wasm_num::BlockKind;
 
 // A block, a side of an `if`, or the function: where it begins, where its end stands, and where a branch to it leads.
 #[derive(Clone, Copy, Debug)]
-pub struct Part {
+pub struct Sequence {
     pub kind: BlockKind,
     pub begin: i32,
     pub end: u32,
     pub target: u32,
 }
 
-impl Part {
+impl Sequence {
     pub fn block(&self) -> Block
         requires end { self.now.end ≤ 268435456 }
         requires target { self.now.target ≤ 268435456 }
@@ -39,14 +39,14 @@ impl Part {
 // The else part that follows a then part.
 #[derive(Clone, Copy, Debug)]
 pub struct Other<'m> {
-    pub part: Part,
+    pub part: Sequence,
     pub code: &'m [Instr],
 }
 
 // A sequence, from inside: whether its block is live, an else part that follows, and the instructions behind the block.
 #[derive(Clone, Copy, Debug)]
 pub struct Level<'m> {
-    pub part: Part,
+    pub part: Sequence,
     pub live: bool,
     pub other: Option<Other<'m>>,
     pub behind: &'m [Instr],
@@ -65,20 +65,20 @@ pub struct Steps<'m> {
 }
 
 // The part that a block of this kind is, without an else part.
-fn part_of(kind: BlockKind, position: u32, inside: u32) -> Part
+fn part_of(kind: BlockKind, position: u32, inside: u32) -> Sequence
     requires { position + inside + 2 ≤ 268435456 }
     ensures { scope_of result ≡ kind_scope kind position inside }
 {
     let begin = position as i32;
     let end = position + inside + 1;
     match kind {
-        BlockKind::Loop => Part {
+        BlockKind::Loop => Sequence {
             kind,
             begin,
             end,
             target: position,
         },
-        _ => Part {
+        _ => Sequence {
             kind,
             begin,
             end,
@@ -88,20 +88,20 @@ fn part_of(kind: BlockKind, position: u32, inside: u32) -> Part
 }
 
 // The sides of an `if`.
-fn sides_of(position: u32, inside: u32, inside_other: u32) -> (Part, Part)
+fn sides_of(position: u32, inside: u32, inside_other: u32) -> (Sequence, Sequence)
     requires { position + inside + inside_other + 3 ≤ 268435456 }
     ensures then_part { scope_of result.0 ≡ then_side position inside inside_other }
     ensures else_part { scope_of result.1 ≡ else_side position inside inside_other }
 {
     let else_place = position + inside + 1;
     let end = else_place + inside_other + 1;
-    let then_part = Part {
+    let then_part = Sequence {
         kind: BlockKind::If,
         begin: position as i32,
         end: else_place,
         target: else_place + inside_other + 2,
     };
-    let else_part = Part {
+    let else_part = Sequence {
         kind: BlockKind::Else,
         begin: else_place as i32,
         end,

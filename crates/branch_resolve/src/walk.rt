@@ -10,7 +10,7 @@ use crate::Block;
 use crate::place::{Opcode, Place};
 use crate::scopes::Scopes;
 use crate::sizes::Sizes;
-use crate::steps::{Level, Part, Steps};
+use crate::steps::{Level, Sequence, Steps};
 use module_ast::code::Code;
 use std::alloc::{AllocError, Global};
 use std::marker::Model;
@@ -81,7 +81,7 @@ impl<'m> Walk<'m> {
         ensures left { IfOk result (λ walk. walk.left ≡ places code.now) }
         ensures scopes { IfOk result (λ walk. walk.scopes ≡ []) }
     {
-        let function = Part {
+        let function = Sequence {
             kind: BlockKind::Function,
             begin: -1,
             end: sizes.whole,

@@ -15,11 +15,11 @@ use wasm_num::{BlockKind, NoMemory, ValType};
 
 /// The open blocks of a body, of which contracts see the innermost one with its operands apart.
 #[derive(Drop)]
-pub(crate) struct Blocks {
+pub(crate) struct OpenBlocks {
     stack: CtrlStack,
 }
 
-impl Model for Blocks {
+impl Model for OpenBlocks {
     ghost use Rattle.code_valid.specs.Control.{Control, control_of, Stands};
 
     ghost Value = { Control };
@@ -29,12 +29,12 @@ impl Model for Blocks {
     ghost invariant = { λ a. Stands a.stack };
 }
 
-impl Blocks {
+impl OpenBlocks {
     /// A function with these results, before its first instruction.
-    pub fn new(alloc: Global, results: Types) -> Result<Blocks, NoMemory>
+    pub fn new(alloc: Global, results: Types) -> Result<OpenBlocks, NoMemory>
         ensures { IfOk result (λ s. s ≡ control_of (function_stack results)) }
     {
-        Ok(Blocks {
+        Ok(OpenBlocks {
             stack: CtrlStack::new(alloc, results)?,
         })
     }

@@ -8,7 +8,7 @@ ghost use Rattle.module_ast.specs.Validity.{KeepsRules, TypesBody, HasBodyMarks}
 ghost use Rattle.code_valid.specs.Bodies.{TypesIn, HasMarksIn};
 ghost use Rattle.code_valid.specs.declared.invalid.BodyInvalid.{BodyInvalid};
 
-use crate::blocks::Blocks;
+use crate::blocks::OpenBlocks;
 use crate::env::Env;
 use crate::invalid::BodyInvalid;
 use crate::marks::Marks;
@@ -68,7 +68,7 @@ pub(crate) fn survey_body(alloc: Global, env: &Env, code: &Code) -> Result<Marks
     ensures invalid { IsErrOf result BodyInvalid.Invalid → ¬ TypesIn env.now code.now }
 {
     let results = copied(alloc, env.results())?;
-    let mut blocks = Blocks::new(alloc, results)?;
+    let mut blocks = OpenBlocks::new(alloc, results)?;
     let mut walk = Walk::new(alloc);
     survey_code(alloc, env, code, &mut blocks, &mut walk)?;
     blocks.end()?;

@@ -7,7 +7,7 @@ ghost use Rattle.code_valid.specs.Control.{innermost_stack, labels_of, context_i
 ghost use Rattle.code_valid.specs.Answers.{Moves};
 ghost use Rattle.code_valid.specs.Acting.{effect_of, marked_by};
 
-use crate::blocks::Blocks;
+use crate::blocks::OpenBlocks;
 use crate::env::Env;
 use crate::invalid::BodyInvalid;
 use module_ast::code::Instr;
@@ -21,7 +21,7 @@ pub(crate) fn act(
     alloc: Global,
     env: &Env,
     instr: &Instr,
-    blocks: &mut Blocks,
+    blocks: &mut OpenBlocks,
 ) -> Result<Option<ValType>, BodyInvalid>
     ensures moves { Moves result (apply (effect_of (context_in env.now blocks.old) instr.now) (innermost_stack blocks.old)) blocks.old blocks.new }
     ensures marks { IfOk result (λ ty. ty ≡ marked_by instr.now blocks.old.operands blocks.new.operands) }
@@ -37,7 +37,7 @@ pub(crate) fn act(
 }
 
 // What an instruction does to the operands, its mark left out.
-fn turn(alloc: Global, env: &Env, instr: &Instr, blocks: &mut Blocks) -> Result<(), BodyInvalid>
+fn turn(alloc: Global, env: &Env, instr: &Instr, blocks: &mut OpenBlocks) -> Result<(), BodyInvalid>
     ensures { Moves result (apply (effect_of (context_in env.now blocks.old) instr.now) (innermost_stack blocks.old)) blocks.old blocks.new }
 {
     match instr {
@@ -69,14 +69,14 @@ fn turn(alloc: Global, env: &Env, instr: &Instr, blocks: &mut Blocks) -> Result<
 
 // ---- branches and calls
 
-fn br(alloc: Global, env: &Env, label: u32, blocks: &mut Blocks) -> Result<(), BodyInvalid>
+fn br(alloc: Global, env: &Env, label: u32, blocks: &mut OpenBlocks) -> Result<(), BodyInvalid>
     ensures { Moves result (apply (stack_effect (context_in env.now blocks.old) (tree.br label)) (innermost_stack blocks.old)) blocks.old blocks.new }
 {
     let types = blocks.label_copy(alloc, label)?;
     blocks.stop(&types)
 }
 
-fn br_if(alloc: Global, env: &Env, label: u32, blocks: &mut Blocks) -> Result<(), BodyInvalid>
+fn br_if(alloc: Global, env: &Env, label: u32, blocks: &mut OpenBlocks) -> Result<(), BodyInvalid>
     ensures { Moves result (apply (stack_effect (context_in env.now blocks.old) (tree.br_if label)) (innermost_stack blocks.old)) blocks.old blocks.new }
 {
     let types = blocks.label_copy(alloc, label)?;
@@ -88,7 +88,7 @@ fn br_table(
     env: &Env,
     labels: &[u32],
     label: u32,
-    blocks: &mut Blocks,
+    blocks: &mut OpenBlocks,
 ) -> Result<(), BodyInvalid>
     ensures { Moves result (apply (stack_effect (context_in env.now blocks.old) (tree.br_table labels.now label)) (innermost_stack blocks.old)) blocks.old blocks.new }
 {
@@ -101,7 +101,7 @@ fn br_table(
 }
 
 // Whether a branch to each of these labels takes these types.
-fn all_take(blocks: &Blocks, types: &[ValType], labels: &[u32]) -> bool
+fn all_take(blocks: &OpenBlocks, types: &[ValType], labels: &[u32]) -> bool
     ensures { result ≡ all_take (labels_of blocks.now) types.now labels.now }
 {
     for label in labels {
@@ -112,7 +112,7 @@ fn all_take(blocks: &Blocks, types: &[ValType], labels: &[u32]) -> bool
     true
 }
 
-fn takes_these(blocks: &Blocks, types: &[ValType], label: u32) -> bool
+fn takes_these(blocks: &OpenBlocks, types: &[ValType], label: u32) -> bool
     ensures { result ≡ takes_these types.now (slice_get (labels_of blocks.now) label) }
 {
     match blocks.label(label) {
@@ -127,7 +127,7 @@ fn same_types(left: &[ValType], right: &[ValType]) -> bool
     left == right
 }
 
-fn call(env: &Env, func: u32, blocks: &mut Blocks) -> Result<(), BodyInvalid>
+fn call(env: &Env, func: u32, blocks: &mut OpenBlocks) -> Result<(), BodyInvalid>
     ensures { Moves result (apply (stack_effect (context_in env.now blocks.old) (tree.call func)) (innermost_stack blocks.old)) blocks.old blocks.new }
 {
     match env.func(func) {
@@ -139,7 +139,7 @@ fn call(env: &Env, func: u32, blocks: &mut Blocks) -> Result<(), BodyInvalid>
     }
 }
 
-fn call_indirect(env: &Env, index: u32, blocks: &mut Blocks) -> Result<(), BodyInvalid>
+fn call_indirect(env: &Env, index: u32, blocks: &mut OpenBlocks) -> Result<(), BodyInvalid>
     ensures { Moves result (apply (stack_effect (context_in env.now blocks.old) (tree.call_indirect index)) (innermost_stack blocks.old)) blocks.old blocks.new }
 {
     if !env.has_table() {
@@ -153,7 +153,7 @@ fn call_indirect(env: &Env, index: u32, blocks: &mut Blocks) -> Result<(), BodyI
 
 // ---- variables
 
-fn local_get(env: &Env, local: u32, blocks: &mut Blocks) -> Result<(), BodyInvalid>
+fn local_get(env: &Env, local: u32, blocks: &mut OpenBlocks) -> Result<(), BodyInvalid>
     ensures { Moves result (apply (stack_effect (context_in env.now blocks.old) (tree.local_get local)) (innermost_stack blocks.old)) blocks.old blocks.new }
 {
     match env.local(local) {
@@ -162,7 +162,7 @@ fn local_get(env: &Env, local: u32, blocks: &mut Blocks) -> Result<(), BodyInval
     }
 }
 
-fn local_set(env: &Env, local: u32, blocks: &mut Blocks) -> Result<(), BodyInvalid>
+fn local_set(env: &Env, local: u32, blocks: &mut OpenBlocks) -> Result<(), BodyInvalid>
     ensures { Moves result (apply (stack_effect (context_in env.now blocks.old) (tree.local_set local)) (innermost_stack blocks.old)) blocks.old blocks.new }
 {
     match env.local(local) {
@@ -171,7 +171,7 @@ fn local_set(env: &Env, local: u32, blocks: &mut Blocks) -> Result<(), BodyInval
     }
 }
 
-fn local_tee(env: &Env, local: u32, blocks: &mut Blocks) -> Result<(), BodyInvalid>
+fn local_tee(env: &Env, local: u32, blocks: &mut OpenBlocks) -> Result<(), BodyInvalid>
     ensures { Moves result (apply (stack_effect (context_in env.now blocks.old) (tree.local_tee local)) (innermost_stack blocks.old)) blocks.old blocks.new }
 {
     match env.local(local) {
@@ -180,7 +180,7 @@ fn local_tee(env: &Env, local: u32, blocks: &mut Blocks) -> Result<(), BodyInval
     }
 }
 
-fn global_get(env: &Env, global: u32, blocks: &mut Blocks) -> Result<(), BodyInvalid>
+fn global_get(env: &Env, global: u32, blocks: &mut OpenBlocks) -> Result<(), BodyInvalid>
     ensures { Moves result (apply (stack_effect (context_in env.now blocks.old) (tree.global_get global)) (innermost_stack blocks.old)) blocks.old blocks.new }
 {
     match env.global(global) {
@@ -189,7 +189,7 @@ fn global_get(env: &Env, global: u32, blocks: &mut Blocks) -> Result<(), BodyInv
     }
 }
 
-fn global_set(env: &Env, global: u32, blocks: &mut Blocks) -> Result<(), BodyInvalid>
+fn global_set(env: &Env, global: u32, blocks: &mut OpenBlocks) -> Result<(), BodyInvalid>
     ensures { Moves result (apply (stack_effect (context_in env.now blocks.old) (tree.global_set global)) (innermost_stack blocks.old)) blocks.old blocks.new }
 {
     match env.global(global) {
@@ -227,7 +227,7 @@ fn is_aligned(env: &Env, align: u32, width: u32) -> bool
     env.has_memory() && fits_width(align, width)
 }
 
-fn load(env: &Env, op: LoadOp, at: MemArg, blocks: &mut Blocks) -> Result<(), BodyInvalid>
+fn load(env: &Env, op: LoadOp, at: MemArg, blocks: &mut OpenBlocks) -> Result<(), BodyInvalid>
     ensures { Moves result (apply (stack_effect (context_in env.now blocks.old) (tree.load op at)) (innermost_stack blocks.old)) blocks.old blocks.new }
 {
     if is_aligned(env, at.align, op.width()) {
@@ -237,7 +237,7 @@ fn load(env: &Env, op: LoadOp, at: MemArg, blocks: &mut Blocks) -> Result<(), Bo
     }
 }
 
-fn store(env: &Env, op: StoreOp, at: MemArg, blocks: &mut Blocks) -> Result<(), BodyInvalid>
+fn store(env: &Env, op: StoreOp, at: MemArg, blocks: &mut OpenBlocks) -> Result<(), BodyInvalid>
     ensures { Moves result (apply (stack_effect (context_in env.now blocks.old) (tree.store op at)) (innermost_stack blocks.old)) blocks.old blocks.new }
 {
     if is_aligned(env, at.align, op.width()) {
@@ -247,7 +247,7 @@ fn store(env: &Env, op: StoreOp, at: MemArg, blocks: &mut Blocks) -> Result<(), 
     }
 }
 
-fn memory_size(env: &Env, blocks: &mut Blocks) -> Result<(), BodyInvalid>
+fn memory_size(env: &Env, blocks: &mut OpenBlocks) -> Result<(), BodyInvalid>
     ensures { Moves result (apply (stack_effect (context_in env.now blocks.old) tree.memory_size) (innermost_stack blocks.old)) blocks.old blocks.new }
 {
     if env.has_memory() {
@@ -257,7 +257,7 @@ fn memory_size(env: &Env, blocks: &mut Blocks) -> Result<(), BodyInvalid>
     }
 }
 
-fn memory_grow(env: &Env, blocks: &mut Blocks) -> Result<(), BodyInvalid>
+fn memory_grow(env: &Env, blocks: &mut OpenBlocks) -> Result<(), BodyInvalid>
     ensures { Moves result (apply (stack_effect (context_in env.now blocks.old) tree.memory_grow) (innermost_stack blocks.old)) blocks.old blocks.new }
 {
     if env.has_memory() {

@@ -13,7 +13,7 @@ ghost use Rattle.code_valid.specs.Survey.{survey};
 ghost use Rattle.module_ast.specs.Plains.{IsPlainInstr};
 ghost use Rattle.code_valid.specs.Answers.{OnlyMemory, SurveysCode, Steps, Passes};
 
-use crate::blocks::Blocks;
+use crate::blocks::OpenBlocks;
 use crate::env::Env;
 use crate::invalid::BodyInvalid;
 use crate::plain::act;
@@ -29,7 +29,7 @@ pub(crate) fn survey_code(
     alloc: Global,
     env: &Env,
     code: &Code,
-    blocks: &mut Blocks,
+    blocks: &mut OpenBlocks,
     walk: &mut Walk,
 ) -> Result<(), BodyInvalid>
     requires { walk.old.position + code_size code.now < 2 ^ 32 }
@@ -51,7 +51,7 @@ fn survey_part(
     kind: BlockKind,
     ty: BlockType,
     body: &Code,
-    blocks: &mut Blocks,
+    blocks: &mut OpenBlocks,
     walk: &mut Walk,
 ) -> Result<(), BodyInvalid>
     requires { walk.old.position + code_size body.now + 1 < 2 ^ 32 }
@@ -74,7 +74,7 @@ fn survey_if(
     ty: BlockType,
     body: &Code,
     other: &Option<Code>,
-    blocks: &mut Blocks,
+    blocks: &mut OpenBlocks,
     walk: &mut Walk,
 ) -> Result<(), BodyInvalid>
     requires { walk.old.position + code_size (before (If ty body.now other.now) done) < 2 ^ 32 }
@@ -113,7 +113,7 @@ fn survey_instr(
     alloc: Global,
     env: &Env,
     instr: &Instr,
-    blocks: &mut Blocks,
+    blocks: &mut OpenBlocks,
     walk: &mut Walk,
 ) -> Result<(), BodyInvalid>
     requires { walk.old.position + code_size (before instr.now done) < 2 ^ 32 }
@@ -141,7 +141,7 @@ fn survey_plain(
     alloc: Global,
     env: &Env,
     instr: &Instr,
-    blocks: &mut Blocks,
+    blocks: &mut OpenBlocks,
     walk: &mut Walk,
 ) -> Result<(), BodyInvalid>
     requires plain { IsPlainInstr instr.now }
@@ -169,7 +169,7 @@ fn results_of(alloc: Global, ty: BlockType) -> Result<Types, BodyInvalid>
     }
 }
 
-fn push_results(ty: BlockType, blocks: &mut Blocks) -> Result<(), BodyInvalid>
+fn push_results(ty: BlockType, blocks: &mut OpenBlocks) -> Result<(), BodyInvalid>
     ensures { OnlyMemory result (blocks.new ≡ with_innermost_stack (put_types (block_results ty) (innermost_stack blocks.old)) blocks.old) }
 {
     match ty {

@@ -5,7 +5,7 @@ ghost use Rattle.branch_resolve.specs.declared.Block.{Block as BlockSpec};
 ghost use Rattle.static_info.specs.Form.{AreTablesAfter};
 ghost use Rattle.static_info.specs.Read.{chosen_label, table_at, end_event, jump_events, table_events, is_selected};
 
-use crate::told::Told;
+use crate::told::Selected;
 use branch_resolve::Block;
 use hook_select::Event;
 use module_ast::module::Loc;
@@ -49,7 +49,7 @@ fn end_event(func: u32, block: &Block) -> Event
 }
 
 // Tells the ends of these blocks of the function.
-fn add_ends(told: &mut Told, func: u32, blocks: &[Block]) -> Result<(), NoMemory>
+fn add_ends(told: &mut Selected, func: u32, blocks: &[Block]) -> Result<(), NoMemory>
     ensures { OnOk result (told.new.events.items ≡ told.old.events.items ++ filter (is_selected told.old.hooks) (map (end_event func) blocks.now)) }
 {
     for block in blocks {
@@ -60,7 +60,7 @@ fn add_ends(told: &mut Told, func: u32, blocks: &[Block]) -> Result<(), NoMemory
 
 // Tells a br_table to the label, inside these blocks and maybe more, and the ends of the blocks that it leaves.
 fn add_jump(
-    told: &mut Told,
+    told: &mut Selected,
     hook: u32,
     loc: Loc,
     index: u32,
@@ -86,7 +86,7 @@ fn add_jump(
 // Tells a br_table with this index, and the ends of the blocks that it leaves.
 pub(crate) fn add_branch(
     alloc: Global,
-    told: &mut Told,
+    told: &mut Selected,
     hook: u32,
     func: &FuncInfo,
     loc: Loc,

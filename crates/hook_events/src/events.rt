@@ -12,7 +12,7 @@ ghost use Rattle.hook_events.specs.Branches.{is_branch, is_call, is_access};
 ghost use Rattle.static_info.specs.declared.Info.{Info as InfoSpec};
 
 use crate::branches::add_branch;
-use crate::told::Told;
+use crate::told::Selected;
 use crate::words::Words;
 use hook_mono::HookKey;
 use hook_select::{Event, GroupName};
@@ -289,7 +289,7 @@ impl<'i> Reading<'i> {
     // Tells what a call of a key's hook stands for in a function that is defined. Words are left behind the position.
     fn add_known(
         &self,
-        told: &mut Told,
+        told: &mut Selected,
         func: &FuncInfo,
         key: &HookKey,
         loc: Loc,
@@ -312,7 +312,7 @@ impl<'i> Reading<'i> {
     // Tells what a call of a key's hook stands for.
     pub(crate) fn add_events(
         &self,
-        told: &mut Told,
+        told: &mut Selected,
         key: &HookKey,
         args: &Values,
     ) -> Result<(), NoMemory>

@@ -12,7 +12,7 @@ ghost use Rattle.static_info.specs.Read.{numbers, read_hook};
 ghost use Rattle.hook_events.specs.Words.{AreWords};
 
 use crate::events::Reading;
-use crate::told::Told;
+use crate::told::Selected;
 use hook_select::Event;
 use run_store::table::Table;
 use static_info::Info;
@@ -41,7 +41,7 @@ pub fn read_hook(
     requires words { AreWords args.now }
     ensures { IfOk result (λ events. events.items ≡ read_hook info.now table.now hook (numbers args.now)) }
 {
-    let mut told = Told::new(alloc, info.groups);
+    let mut told = Selected::new(alloc, info.groups);
     if let Some(key) = info.hooks.as_slice().get(hook as usize) {
         let reading = Reading {
             alloc,

@@ -9,18 +9,18 @@ use wasm_num::NoMemory;
 
 // The events that are told, of the selected groups alone.
 #[derive(Drop)]
-pub(crate) struct Told {
+pub(crate) struct Selected {
     pub(crate) hooks: Hooks,
     pub(crate) events: Vec<Event>,
 }
 
-impl Told {
+impl Selected {
     // Nothing is told yet.
-    pub(crate) fn new(alloc: Global, hooks: Hooks) -> Told
+    pub(crate) fn new(alloc: Global, hooks: Hooks) -> Selected
         ensures hooks { result.hooks ≡ hooks }
         ensures nothing { result.events.items ≡ [] }
     {
-        Told {
+        Selected {
             hooks,
             events: Vec::new(alloc),
         }

@@ -10,14 +10,14 @@ use module_ast::seq::Seq;
 use std::alloc::{AllocError, Global};
 
 /// A part of a module that is copied with all that it holds.
-pub trait Part: Sized + Drop {
+pub trait DeepCopy: Sized + Drop {
     /// It once more. An `Err` comes where there is no memory.
     fn copy(&self, alloc: Global) -> Result<Self, AllocError>
         ensures { IfOk result (λ copy. copy ≡ self.now) };
 }
 
 /// These parts once more. An `Err` comes where there is no memory.
-pub fn copy_parts<T: Part>(alloc: Global, parts: &Seq<T>) -> Result<Seq<T>, AllocError>
+pub fn copy_parts<T: DeepCopy>(alloc: Global, parts: &Seq<T>) -> Result<Seq<T>, AllocError>
     ensures { IfOk result (λ copies. copies ≡ parts.now) }
 {
     let items = parts.as_slice();
@@ -36,7 +36,7 @@ pub fn copy_list<T: Copy>(alloc: Global, list: &Seq<T>) -> Result<Seq<T>, AllocE
     Ok(Seq::from_vec(items))
 }
 
-impl Part for Name {
+impl DeepCopy for Name {
     #[tactic(auto, using(leb_binary::proofs::Texts::texts_alike))]
     fn copy(&self, alloc: Global) -> Result<Name, AllocError> {
         let text = String::from_str(alloc, self.as_str())?;
@@ -44,7 +44,7 @@ impl Part for Name {
     }
 }
 
-impl Part for Code {
+impl DeepCopy for Code {
     // Nothing is added to its calls.
     #[tactic(auto, using(crate::proofs::Nothing::map_tree_nothing, crate::proofs::Nothing::maps_nothing))]
     fn copy(&self, alloc: Global) -> Result<Code, AllocError> {
@@ -56,7 +56,7 @@ impl Part for Code {
     }
 }
 
-impl Part for FuncType {
+impl DeepCopy for FuncType {
     fn copy(&self, alloc: Global) -> Result<FuncType, AllocError> {
         let params = copy_list(alloc, &self.params)?;
         let results = copy_list(alloc, &self.results)?;
@@ -64,7 +64,7 @@ impl Part for FuncType {
     }
 }
 
-impl Part for Import {
+impl DeepCopy for Import {
     fn copy(&self, alloc: Global) -> Result<Import, AllocError> {
         let module = self.module.copy(alloc)?;
         let name = self.name.copy(alloc)?;
@@ -73,14 +73,14 @@ impl Part for Import {
     }
 }
 
-impl Part for GlobalDef {
+impl DeepCopy for GlobalDef {
     fn copy(&self, alloc: Global) -> Result<GlobalDef, AllocError> {
         let init = self.init.copy(alloc)?;
         Ok(GlobalDef { ty: self.ty, init })
     }
 }
 
-impl Part for Segment {
+impl DeepCopy for Segment {
     fn copy(&self, alloc: Global) -> Result<Segment, AllocError> {
         let offset = self.offset.copy(alloc)?;
         let bytes = copy_list(alloc, &self.bytes)?;

@@ -8,7 +8,7 @@ mod modules;
 
 ghost use Rattle.std.specs.Prelude.{◌≡◌, ◌+◌, ◌^◌, ◌<◌};
 
-pub use crate::copies::{Part, copy_list, copy_parts};
+pub use crate::copies::{DeepCopy, copy_list, copy_parts};
 
 /// An index below `imports` stays, any other rises by `added`.
 #[derive(Clone, Copy, Debug, PartialEq, Eq)]

@@ -7,7 +7,7 @@ ghost use Rattle.module_ast.specs.declared.module.Export.{Export};
 ghost use Rattle.index_remap.specs.Remap.{map_index, map_reference, map_export, map_element, map_module, MapsIndex, MapsReference, MapsModule};
 
 use crate::Remap;
-use crate::copies::{Part, copy_list, copy_parts};
+use crate::copies::{DeepCopy, copy_list, copy_parts};
 use module_ast::module::{
     Element, Export, ExportKind, FuncType, GlobalDef, Import, Module, Range, Segment,
 };

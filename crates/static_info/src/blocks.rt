@@ -49,13 +49,13 @@ impl Span {
 /// The blocks of a function, which contracts see as a list. Those around a position are found without a walk over all of
 /// them: the list is cut in halves again and again, and of each piece it is kept where its blocks begin and end.
 #[derive(Debug, Drop)]
-pub struct Blocks {
+pub struct BlockTable {
     blocks: Vec<Block>,
     // The spans of the first half and of the pieces in it, of the second half and of those in it, and then of the whole.
     spans: Vec<Span>,
 }
 
-impl Model for Blocks {
+impl Model for BlockTable {
     ghost use Rattle.std.specs.Prelude.{List};
     ghost use Rattle.branch_resolve.specs.declared.Block.{Block as shown};
     ghost use Rattle.static_info.specs.Halves.{AreSpansOf};
@@ -67,28 +67,28 @@ impl Model for Blocks {
     ghost invariant = { λ a. AreSpansOf a.blocks.items a.spans.items };
 }
 
-impl Blocks {
+impl BlockTable {
     ghost use Rattle.std.specs.Prelude.{[]};
 
     /// No blocks, as of an imported function. It allocates nothing.
-    pub fn none(alloc: Global) -> Blocks
+    pub fn none(alloc: Global) -> BlockTable
         ensures { result ≡ [] }
     {
-        Blocks {
+        BlockTable {
             blocks: Vec::new(alloc),
             spans: Vec::new(alloc),
         }
     }
 
     /// These blocks, in order. It goes over them once. An `Err` comes where there is no memory.
-    pub fn from_vec(alloc: Global, blocks: Vec<Block>) -> Result<Blocks, NoMemory>
+    pub fn from_vec(alloc: Global, blocks: Vec<Block>) -> Result<BlockTable, NoMemory>
         ensures { IfOk result (λ made. made ≡ blocks.items) }
     {
         let mut spans = Vec::new(alloc);
         if !blocks.is_empty() {
             let _whole = add_spans(blocks.as_slice(), &mut spans)?;
         }
-        Ok(Blocks { blocks, spans })
+        Ok(BlockTable { blocks, spans })
     }
 
     /// The blocks, in order.

@@ -7,7 +7,7 @@ ghost use Rattle.hook_mono.specs.Keys.{distinct_keys};
 ghost use Rattle.json_form.specs.Form.{ReadsForm, list_form};
 ghost use Rattle.static_info.specs.Shape.{types_form, kind_form, position_form, label_form, block_form, table_form, imported_form, defined_form, func_form, group_form, same_groups, set_of_groups, groups_form, hook_form, distinct_form, hooks_form};
 
-use crate::blocks::Blocks;
+use crate::blocks::BlockTable;
 use crate::groups::groups_of;
 use crate::{FuncInfo, TableInfo};
 use branch_resolve::Block;
@@ -103,7 +103,7 @@ fn read_defined(alloc: Global, value: &Value) -> Result<FuncInfo, FormFault>
         params,
         results,
         defined: true,
-        blocks: Blocks::from_vec(alloc, blocks.into_vec())?,
+        blocks: BlockTable::from_vec(alloc, blocks.into_vec())?,
         tables,
     })
 }
@@ -119,7 +119,7 @@ fn read_imported(alloc: Global, value: &Value) -> Result<FuncInfo, FormFault>
         params,
         results,
         defined: false,
-        blocks: Blocks::none(alloc),
+        blocks: BlockTable::none(alloc),
         tables: Seq::from_vec(Vec::new(alloc)),
     })
 }

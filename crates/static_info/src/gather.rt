@@ -10,13 +10,13 @@ ghost use Rattle.static_info.specs.Form.{IsWellFormed};
 ghost use Rattle.static_info.specs.Gathered.{begun_blocks, instr_tables, opcode_tables};
 ghost use Rattle.static_info.specs.Info.{live_blocks, live_tables, type_of_index, imported_info, defined_info, defined_infos, info_of};
 
-use crate::blocks::Blocks;
+use crate::blocks::BlockTable;
 use crate::keys::copy_keys;
 use crate::{FuncInfo, Info, TableInfo};
 use branch_resolve::{Block, Opcode, Place, Sizes, Walk};
 use hook_mono::HookTable;
 use hook_select::Hooks;
-use index_remap::{Part, copy_parts};
+use index_remap::{DeepCopy, copy_parts};
 use module_ast::code::{Code, Instr};
 use module_ast::module::{Body, FuncType, Item, Module};
 use module_ast::seq::Seq;
@@ -125,7 +125,7 @@ fn imported_info(alloc: Global, m: &Module, index: u32) -> Result<FuncInfo, NoMe
         params: ty.params,
         results: ty.results,
         defined: false,
-        blocks: Blocks::none(alloc),
+        blocks: BlockTable::none(alloc),
         tables: Seq::from_vec(Vec::new(alloc)),
     })
 }
@@ -147,7 +147,7 @@ fn defined_info(
         params: ty.params,
         results: ty.results,
         defined: true,
-        blocks: Blocks::from_vec(alloc, all.blocks)?,
+        blocks: BlockTable::from_vec(alloc, all.blocks)?,
         tables: Seq::from_vec(all.tables),
     })
 }

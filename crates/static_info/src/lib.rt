@@ -14,7 +14,7 @@ mod owner;
 mod parsing;
 mod written;
 
-pub use crate::blocks::Blocks;
+pub use crate::blocks::BlockTable;
 pub use crate::gather::info_of;
 pub use crate::owner::belongs;
 pub use crate::parsing::{InfoFault, from_json};
@@ -39,7 +39,7 @@ pub struct FuncInfo {
     pub params: Seq<ValType>,
     pub results: Seq<ValType>,
     pub defined: bool,
-    pub blocks: Blocks,
+    pub blocks: BlockTable,
     pub tables: Seq<TableInfo>,
 }
 

@@ -19,7 +19,7 @@ use Rattle.wasabi_app.specs.Making.{hook_count, output_length, information_text,
 use Rattle.app_plan.specs.Printing.{ShelfState}
 use Rattle.wasabi_app.specs.Texts.{taken_text, too_large_text, wrote_text}
 use Rattle.app_plan.specs.Writing.{PutCause, FilesCause, WroteAll}
-use Rattle.app_plan.specs.declared.told.Told.{Told}
+use Rattle.app_plan.specs.declared.told.Printed.{Printed}
 use Rattle.app_plan.specs.declared.told.Refusal.{Refusal}
 use Rattle.app_plan.specs.declared.told.Refusal.TheVariants.{NoMemory}
 use Rattle.app_plan.specs.Ends.{IsMade, unread, unwritten}
@@ -152,7 +152,7 @@ pub unloaded : (line : Line) (a b : ShelfState) (tools : List ToolState) (refusa
 unloaded line a b tools refusal r u = unread (module_read line.subject narrow_file narrow) (refusal_status refusal) (refusal_text refusal) (inl refl) r u refl
 
 -- it is, and this came of it
-pub loaded : (line : Line) (m : Module) (a b c : ShelfState) (tools : List ToolState) (result : Result Told Refusal)
+pub loaded : (line : Line) (m : Module) (a b c : ShelfState) (tools : List ToolState) (result : Result Printed Refusal)
     → Gives a.contents (module_read line.subject narrow_file narrow) m → Unchanged a.contents b.contents → a.reads ≤ b.reads → b.writes ≡ a.writes
     → Yields (Some (output_plan line m)) b c tools tools result → Yields (Some (instrument_plan line)) a c tools tools result
 loaded line m a b c tools result g u few same y =

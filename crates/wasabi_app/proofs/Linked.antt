@@ -18,7 +18,7 @@ use Rattle.wasabi_app.specs.Linking.{link_reason, link_text, IsUnlinkedBy, IsUnl
 use Rattle.wasabi_app.specs.Texts.{ok_text, counts_of}
 use Rattle.app_plan.proofs.Contents.{unchanged_same}
 use Rattle.wasabi_app.proofs.RunEnds.{call_within}
-use Rattle.app_plan.specs.declared.told.Told.{Told}
+use Rattle.app_plan.specs.declared.told.Printed.{Printed}
 use Rattle.app_plan.specs.declared.told.Refusal.{Refusal}
 use Rattle.app_plan.specs.declared.told.Refusal.TheVariants as refusals
 use Rattle.app_plan.specs.Wants.{module_read, script_read, Gives}
@@ -72,7 +72,7 @@ was_unlinked m s SegmentRange plan at tools refusal e is = told_why m s plan at 
 was_unlinked m s NoMemory plan at tools refusal e is = want_of_memory (played m s plan) at tools refusal is
 
 -- they were run, and what came of it is told
-pub was_run : (m : Module) (s : Script) (at : ShelfState) (o : Summary) (tools : List ToolState) (result : Result Told Refusal) → Links m s
+pub was_run : (m : Module) (s : Script) (at : ShelfState) (o : Summary) (tools : List ToolState) (result : Result Printed Refusal) → Links m s
     → o ≡ ending_of m s → IfOk result (λ t. t.status ≡ run_status o) → IfOk result (λ t. t.text.items ≡ run_text s.calls o)
     → IfErr result (λ r. r ≡ refusals.NoMemory)
     → Yields (Some (played m s (printing (ending_text m s) (ending_finish m s)))) at at tools tools result

@@ -12,7 +12,7 @@ use Rattle.outside_io.specs.Outside.{Contents, Unchanged}
 use Rattle.analyses.specs.Tools.{ToolState}
 use Rattle.app_plan.specs.Printing.{ShelfState, PrintState}
 use Rattle.app_plan.specs.Plans.{Ending, Plan, LeadsTo, Leads}
-use Rattle.app_plan.specs.declared.told.Told.{Told}
+use Rattle.app_plan.specs.declared.told.Printed.{Printed}
 use Rattle.app_plan.specs.declared.told.Refusal.{Refusal}
 use Rattle.app_plan.specs.declared.told.Refusal.TheVariants.{NoMemory}
 use Rattle.app_plan.specs.Texts.{bad_words_text}
@@ -81,7 +81,7 @@ all_else names P words held each = by (given words) refl
 -- ---- the plan of words
 
 -- words that were read, and what came of the plan of their mode
-pub followed : (words : List (List ℕ)) (g : Given) (old new : ShelfState) (was is : List ToolState) (result : Result Told Refusal) → given words ≡ Some g
+pub followed : (words : List (List ℕ)) (g : Given) (old new : ShelfState) (was is : List ToolState) (result : Result Printed Refusal) → given words ≡ Some g
     → Yields (plan_in g.mode g) old new was is result → Yields (plan_of words) old new was is result
 followed words g old new was is result e y =
     subst (λ p. Yields p old new was is result) (sym (ap (option_and_then (λ (h : Given). plan_in h.mode h)) e)) y
@@ -95,7 +95,7 @@ not_followed words at tools refusal (inr (e, r)) =
     subst (λ p. Yields p at at tools tools (Err refusal)) (sym (ap (option_and_then (λ (h : Given). plan_in h.mode h)) e)) (was_no_command at tools refusal r)
 
 -- so for a mode with this name
-pub by_name : (name : List ℕ) (g : Given) (plan : Option Plan) (old new : ShelfState) (was is : List ToolState) (result : Result Told Refusal) → g.mode ≡ name
+pub by_name : (name : List ℕ) (g : Given) (plan : Option Plan) (old new : ShelfState) (was is : List ToolState) (result : Result Printed Refusal) → g.mode ≡ name
     → plan_in name g ≡ plan → Yields plan old new was is result → Yields (plan_in g.mode g) old new was is result
 by_name name g plan old new was is result e p y =
     subst (λ n. Yields (plan_in n g) old new was is result) (sym e) (subst (λ x. Yields x old new was is result) (sym p) y)

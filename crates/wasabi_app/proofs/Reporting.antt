@@ -14,7 +14,7 @@ use Rattle.analyses.specs.Book.{HaveTags}
 use Rattle.analyses.specs.Tools.{ToolState}
 use Rattle.app_plan.specs.declared.kinds.Kinds.{Kinds}
 use Rattle.wasabi_app.specs.declared.feeding.Tally.{Tally}
-use Rattle.app_plan.specs.declared.told.Told.{Told}
+use Rattle.app_plan.specs.declared.told.Printed.{Printed}
 use Rattle.app_plan.specs.declared.told.Refusal.{Refusal}
 use Rattle.app_plan.specs.declared.told.Refusal.TheVariants as refusals
 use Rattle.wasabi_app.specs.Reporting.{tools_text, events_told, reports_text}
@@ -76,7 +76,7 @@ text_of kinds m info s o tally first now p =
 
 -- it is told
 pub was_reported : (kinds : Kinds) (m : Module) (info : Info) (s : Script) (o : Summary) (tally : Tally) (first now : List ToolState) (at : ShelfState)
-    (result : Result Told Refusal) → IsRunOf kinds m info s o tally first now → IfOk result (λ t. t.status ≡ run_status o)
+    (result : Result Printed Refusal) → IsRunOf kinds m info s o tally first now → IfOk result (λ t. t.status ≡ run_status o)
     → IfOk result (λ t. t.text.items ≡ run_text s.calls o ++ tools_text kinds now tally) → IfErr result (λ r. r ≡ refusals.NoMemory)
     → Yields (Some (reported_plan kinds m info s)) at at first now result
 was_reported kinds m info s o tally first now at (Ok told) p status text none =
@@ -110,7 +110,7 @@ pub no_subject : (line : ReportLine) (a b : ShelfState) (tools : List ToolState)
 no_subject line a b tools refusal r u = unread (module_read line.subject wide_file wide) (refusal_status refusal) (refusal_text refusal) (inl refl) r u refl
 
 -- it is, and this came of the rest
-pub with_subject : (line : ReportLine) (m : Module) (a b c : ShelfState) (first now : List ToolState) (result : Result Told Refusal)
+pub with_subject : (line : ReportLine) (m : Module) (a b c : ShelfState) (first now : List ToolState) (result : Result Printed Refusal)
     → Gives a.contents (module_read line.subject wide_file wide) m → Unchanged a.contents b.contents → a.reads ≤ b.reads → b.writes ≡ a.writes
     → Yields (Some (loaded_plan line m)) b c first now result → Yields (Some (report_plan line)) a c first now result
 with_subject line m a b c first now result g u few same y =
@@ -121,7 +121,7 @@ pub no_info : (line : ReportLine) (m : Module) (a b : ShelfState) (tools : List 
     → RefusedBy (info_read line.info m) a b refusal → Unchanged a.contents b.contents → Yields (Some (loaded_plan line m)) a b tools tools (Err refusal)
 no_info line m a b tools refusal r u = unread (info_read line.info m) (refusal_status refusal) (refusal_text refusal) (inl refl) r u refl
 
-pub with_info : (line : ReportLine) (m : Module) (info : Info) (a b c : ShelfState) (first now : List ToolState) (result : Result Told Refusal)
+pub with_info : (line : ReportLine) (m : Module) (info : Info) (a b c : ShelfState) (first now : List ToolState) (result : Result Printed Refusal)
     → Gives a.contents (info_read line.info m) info → Unchanged a.contents b.contents → a.reads ≤ b.reads → b.writes ≡ a.writes
     → Yields (Some (informed_plan line m info)) b c first now result → Yields (Some (loaded_plan line m)) a c first now result
 with_info line m info a b c first now result g u few same y =
@@ -133,7 +133,7 @@ pub no_script : (line : ReportLine) (m : Module) (info : Info) (a b : ShelfState
     → Yields (Some (informed_plan line m info)) a b tools tools (Err refusal)
 no_script line m info a b tools refusal r u = unread (script_read line.script) (refusal_status refusal) (refusal_text refusal) (inl refl) r u refl
 
-pub with_script : (line : ReportLine) (m : Module) (info : Info) (s : Script) (a b c : ShelfState) (first now : List ToolState) (result : Result Told Refusal)
+pub with_script : (line : ReportLine) (m : Module) (info : Info) (s : Script) (a b c : ShelfState) (first now : List ToolState) (result : Result Printed Refusal)
     → Gives a.contents (script_read line.script) s → Unchanged a.contents b.contents → a.reads ≤ b.reads → b.writes ≡ a.writes
     → Yields (Some (reported_plan line.kinds m info s)) b c first now result → Yields (Some (informed_plan line m info)) a c first now result
 with_script line m info s a b c first now result g u few same y =

@@ -20,7 +20,7 @@ use Rattle.module_gen.proofs.MadeModules.{made_fits, made_narrow, made_short, ma
 use Rattle.analyses.specs.Tools.{ToolState}
 use Rattle.report.specs.Text.{events_text}
 use Rattle.report.proofs.Pieces.{on_err}
-use Rattle.app_plan.specs.declared.told.Told.{Told}
+use Rattle.app_plan.specs.declared.told.Printed.{Printed}
 use Rattle.app_plan.specs.Feeding.{fed, AreFedPart}
 use Rattle.app_plan.specs.Files.{IsFit}
 use Rattle.app_plan.specs.declared.kinds.Kinds.{Kinds}
@@ -96,7 +96,7 @@ module _ (number steps : ℕ) (front : List ℕ) (o : Module) (info : Info) (s :
   summary_is : summary_of o s s.steps ≡ summary_of o (trial_script number steps) steps
   summary_is = ap (λ (x : Script). summary_of o x x.steps) script_is
 
-  told_so : {E : Type 0} (ended : Summary) (tally : Tally) (result : Result Told E) → ended ≡ summary_of o s s.steps
+  told_so : {E : Type 0} (ended : Summary) (tally : Tally) (result : Result Printed E) → ended ≡ summary_of o s s.steps
       → tally ≡ tally_of (events_told info o s s.steps) → IfOk result (λ t. t.status ≡ run_status ended)
       → IfOk result (λ t. t.text.items ≡ runs_text front (run_text s.calls ended) (events_text tally.events tally.strays))
       → IfOk result (IsTold number steps front o info)
@@ -113,7 +113,7 @@ module _ (number steps : ℕ) (front : List ℕ) (o : Module) (info : Info) (s :
       }
 
   -- it ended, or made its steps
-  pub was_run : {E : Type 0} (ended : Summary) (tally : Tally) (was is : List ToolState) (result : Result Told E) → ended ≡ summary_of o s s.steps
+  pub was_run : {E : Type 0} (ended : Summary) (tally : Tally) (was is : List ToolState) (result : Result Printed E) → ended ≡ summary_of o s s.steps
       → tally ≡ tally_of (events_told info o s s.steps) → is ≡ fed all_reports (events_told info o s s.steps) was
       → IfOk result (λ t. t.status ≡ run_status ended)
       → IfOk result (λ t. t.text.items ≡ runs_text front (run_text s.calls ended) (events_text tally.events tally.strays))
@@ -145,7 +145,7 @@ module _ (number first second : ℕ) (m : Module) (bytes : List ℕ) (info : Inf
       ap (λ b. count b info) made.written ∙ ap (count (output_bytes m all_hooks)) made.information
 
   -- the output that was run is the module's
-  pub both_run : {E : Type 0} (front : List ℕ) (o : Module) (was is : List ToolState) (result : Result Told E)
+  pub both_run : {E : Type 0} (front : List ℕ) (o : Module) (was is : List ToolState) (result : Result Printed E)
       → front ≡ front_text (sizes_text number (length (module_bytes m)) (length (funcs_of m)) (length bytes) (length info.hooks)) (told_of_run number first m)
       → o ≡ output m all_hooks → IsRun number second front o info was is result → AreTried number first second m was is result
   both_run front o was is result front_was output_is run =

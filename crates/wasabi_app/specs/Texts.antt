@@ -4,7 +4,7 @@ use Rattle.module_ast.specs.declared.module.Body.{Body}
 use Rattle.module_ast.specs.declared.module.Module.{Module}
 use Rattle.module_ast.specs.Positions.{code_size}
 use Rattle.app_plan.specs.Texts.{concat_texts}
-use Rattle.wasabi_app.specs.declared.counts.Counts.{Counts as ReadCounts}
+use Rattle.wasabi_app.specs.declared.counts.ModuleCounts.{ModuleCounts as ReadCounts}
 
 abbrev pub taken_text : (name : List ℕ) → List ℕ
 taken_text name = concat_texts (codes "error 9: " ∷ name ∷ codes " is already instrumented\n" ∷ [])
@@ -36,7 +36,7 @@ abbrev pub instruction_count : List Body → ℕ
 instruction_count bodies = sum_by (λ b. code_size b.code + 1) bodies
 
 -- how many of each thing a module has: functions, tables, memories and globals are those that it defines itself
-pub record Counts : Type 0 where
+pub record ModuleCounts : Type 0 where
   pub types : ℕ
   pub imports : ℕ
   pub functions : ℕ
@@ -49,7 +49,7 @@ pub record Counts : Type 0 where
   pub instructions : ℕ
 
 -- the counts that were made
-abbrev pub counts_in : ReadCounts → Counts
+abbrev pub counts_in : ReadCounts → ModuleCounts
 counts_in c = record {
   types = c.types;
   imports = c.imports;
@@ -63,7 +63,7 @@ counts_in c = record {
   instructions = c.instructions;
 }
 
-abbrev pub counts_of : Module → Counts
+abbrev pub counts_of : Module → ModuleCounts
 counts_of m = record {
   types = length m.types;
   imports = length m.imports;
@@ -77,15 +77,15 @@ counts_of m = record {
   instructions = instruction_count m.bodies;
 }
 
-abbrev pub first_counts_text : Counts → List ℕ
+abbrev pub first_counts_text : ModuleCounts → List ℕ
 first_counts_text c =
     concat_texts (codes "ok types " ∷ decimal c.types ∷ codes " imports " ∷ decimal c.imports ∷ codes " functions " ∷ decimal c.functions
     ∷ codes " tables " ∷ decimal c.tables ∷ codes " memories " ∷ decimal c.memories ∷ [])
 
-abbrev pub last_counts_text : Counts → List ℕ
+abbrev pub last_counts_text : ModuleCounts → List ℕ
 last_counts_text c =
     concat_texts (codes " globals " ∷ decimal c.globals ∷ codes " exports " ∷ decimal c.exports ∷ codes " elements " ∷ decimal c.elements
     ∷ codes " segments " ∷ decimal c.segments ∷ codes " instructions " ∷ decimal c.instructions ∷ codes "\n" ∷ [])
 
-abbrev pub ok_text : Counts → List ℕ
+abbrev pub ok_text : ModuleCounts → List ℕ
 ok_text c = first_counts_text c ++ last_counts_text c

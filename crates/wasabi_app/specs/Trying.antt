@@ -16,7 +16,7 @@ use Rattle.report.specs.Text.{events_line}
 use Rattle.analyses.specs.Tools.{ToolState}
 use Rattle.app_plan.specs.Feeding.{AreFedPart, fed}
 use Rattle.app_plan.specs.Kinds.{all_reports}
-use Rattle.app_plan.specs.declared.told.Told.{Told}
+use Rattle.app_plan.specs.declared.told.Printed.{Printed}
 use Rattle.app_plan.specs.declared.told.Refusal.{Refusal}
 use Rattle.app_plan.specs.declared.told.Refusal.TheVariants.{NoMemory}
 use Rattle.app_plan.specs.Outcomes.{IsRefusal}
@@ -36,18 +36,18 @@ pub record IsTriable (m : Module) : Type 0 where
   pub free : IsFree m
 
 -- what is told of a run of an output, with the information that its hook calls are read with, behind the text on its original
-pub record IsTold (number steps : ℕ) (front : List ℕ) (o : Module) (info : Info) (told : Told) : Type 0 where
+pub record IsTold (number steps : ℕ) (front : List ℕ) (o : Module) (info : Info) (told : Printed) : Type 0 where
   pub status : told.status ≡ finish_status (finish_of (summary_of o (trial_script number steps) steps))
   pub text : told.text.items ≡ runs_text front (told_of_run number steps o) (events_line (events_told info o (trial_script number steps) steps))
 
 -- it is told, and the analyses took its events; else memory ended, and they took the first of these
-pub record IsRun {E : Type 0} (number steps : ℕ) (front : List ℕ) (o : Module) (info : Info) (was is : List ToolState) (result : Result Told E) : Type 0 where
+pub record IsRun {E : Type 0} (number steps : ℕ) (front : List ℕ) (o : Module) (info : Info) (was is : List ToolState) (result : Result Printed E) : Type 0 where
   pub told : IfOk result (IsTold number steps front o info)
   pub fed : OnOk result (is ≡ fed all_reports (events_told info o (trial_script number steps) steps) was)
   pub part : OnErr result (AreFedPart all_reports (events_told info o (trial_script number steps) steps) was is)
 
 -- so it is with the output of a module with all hooks
-abbrev pub AreTried : {E : Type 0} (number first second : ℕ) → Module → (was is : List ToolState) → Result Told E → Type 0
+abbrev pub AreTried : {E : Type 0} (number first second : ℕ) → Module → (was is : List ToolState) → Result Printed E → Type 0
 AreTried number first second m = IsRun number second (pair_front number first m) (output m all_hooks) (info_of m all_hooks)
 
 -- there are none: the output is longer than any that is written, or memory ends

@@ -12,7 +12,7 @@ use std::alloc::{AllocError, Global};
 
 /// How many of each thing a module has; of functions, tables, memories and globals, those that it defines itself.
 #[derive(Clone, Copy)]
-pub(crate) struct Counts {
+pub(crate) struct ModuleCounts {
     pub(crate) types: usize,
     pub(crate) imports: usize,
     pub(crate) functions: usize,
@@ -25,14 +25,14 @@ pub(crate) struct Counts {
     pub(crate) instructions: u64,
 }
 
-impl Counts {
+impl ModuleCounts {
     ghost use Rattle.wasabi_app.specs.Texts.{first_counts_text, last_counts_text, counts_in};
 
     // The first half of the line.
     fn first_half(&self, alloc: Global) -> Result<String, AllocError>
         ensures { IfOk result (λ text. string_bytes text ≡ first_counts_text (counts_in self.now)) }
     {
-        let Counts {
+        let ModuleCounts {
             types,
             imports,
             functions,
@@ -49,7 +49,7 @@ impl Counts {
     fn second_half(&self, alloc: Global) -> Result<String, AllocError>
         ensures { IfOk result (λ text. string_bytes text ≡ last_counts_text (counts_in self.now)) }
     {
-        let Counts {
+        let ModuleCounts {
             globals,
             exports,
             elements,
@@ -73,11 +73,11 @@ impl Counts {
 }
 
 /// The counts of a module.
-pub(crate) fn count(m: &Module) -> Counts
+pub(crate) fn count(m: &Module) -> ModuleCounts
     requires { IsWhole m.now }
     ensures { counts_in result ≡ counts_of m.now }
 {
-    Counts {
+    ModuleCounts {
         types: m.types.as_slice().len(),
         imports: m.imports.as_slice().len(),
         functions: m.funcs.as_slice().len(),

@@ -28,7 +28,7 @@ use crate::run_mode;
 use crate::run_text::{run_text, status_of};
 use crate::words::Given;
 use analyses::Analysis;
-use app_plan::{Kinds, Refusal, Told, bad_words, refused};
+use app_plan::{Kinds, Printed, Refusal, bad_words, refused};
 use hook_select::Hooks;
 use instrument::{InstrumentFault, Made, instrument};
 use module_ast::module::Limits;
@@ -64,7 +64,7 @@ pub(crate) fn trial<R: Threads + Sync>(
     alloc: Global,
     given: &Given<'_>,
     tools: &mut Vec<Box<dyn Analysis>>,
-) -> Result<Told, Refusal>
+) -> Result<Printed, Refusal>
     requires { map state tools.old.items ≡ fresh_tools }
     ensures { (at : ShelfState) → Yields (trial_mode.plan (given_of given.now)) at at
         (map state tools.old.items) (map state tools.new.items) result }
@@ -91,7 +91,7 @@ fn try_number<R: Threads + Sync>(
     alloc: Global,
     number: u64,
     tools: &mut Vec<Box<dyn Analysis>>,
-) -> Result<Told, Refusal>
+) -> Result<Printed, Refusal>
     requires { map state tools.old.items ≡ fresh_tools }
     ensures { (at : ShelfState) → Yields (Some (trial_plan number)) at at
         (map state tools.old.items) (map state tools.new.items) result }
@@ -132,7 +132,7 @@ fn try_module<R: Threads + Sync>(
     second: u64,
     m: &ValidModule,
     tools: &mut Vec<Box<dyn Analysis>>,
-) -> Result<Told, Refusal>
+) -> Result<Printed, Refusal>
     requires triable { IsTriable m.now }
     requires firsts { (1 ≤ first) × (first ≤ 1000000000000) }
     requires seconds { (1 ≤ second) × (second ≤ 1000000000000) }
@@ -179,7 +179,7 @@ fn run_both<R: Threads + Sync>(
     m: &ValidModule,
     hooked: &Made,
     tools: &mut Vec<Box<dyn Analysis>>,
-) -> Result<Told, NoMemory>
+) -> Result<Printed, NoMemory>
     requires triable { IsTriable m.now }
     requires firsts { (1 ≤ first) × (first ≤ 1000000000000) }
     requires seconds { (1 ≤ second) × (second ≤ 1000000000000) }
@@ -229,7 +229,7 @@ fn run_output(
     output: &ValidModule,
     info: &Info,
     tools: &mut Vec<Box<dyn Analysis>>,
-) -> Result<Told, NoMemory>
+) -> Result<Printed, NoMemory>
     requires steps { (1 ≤ steps) × (steps ≤ 1000000000000) }
     requires formed { IsWellFormed info.now }
     requires belongs { Belongs info.now output.now }
@@ -329,7 +329,7 @@ fn sizes_text(
 }
 
 // What is told of both runs, with the status of the second.
-fn told(alloc: Global, front: &str, script: &Script, played: &Played) -> Result<Told, NoMemory>
+fn told(alloc: Global, front: &str, script: &Script, played: &Played) -> Result<Printed, NoMemory>
     ensures status { IfOk result (λ t. t.status ≡ run_status (told_outcome played.now.outcome)) }
     ensures text { IfOk result (λ t. t.text.items ≡ runs_text front.now
         (run_text script.now.calls (told_outcome played.now.outcome)) (events_text played.now.tally.events played.now.tally.strays)) }
@@ -338,7 +338,7 @@ fn told(alloc: Global, front: &str, script: &Script, played: &Played) -> Result<
     let Tally { events, strays } = played.tally;
     let events = events_line(alloc, events, strays)?;
     let text = format!(in alloc; "{front}output:\n{second}{events}")?;
-    Ok(Told {
+    Ok(Printed {
         status: status_of(&played.outcome),
         text: text.into_bytes(),
     })

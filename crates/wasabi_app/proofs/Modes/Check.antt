@@ -7,7 +7,7 @@ use Rattle.analyses.specs.Tools.{ToolState}
 use Rattle.app_plan.specs.Files.{wide_file}
 use Rattle.app_plan.specs.Printing.{ShelfState}
 use Rattle.wasabi_app.specs.Texts.{ok_text, counts_of}
-use Rattle.app_plan.specs.declared.told.Told.{Told}
+use Rattle.app_plan.specs.declared.told.Printed.{Printed}
 use Rattle.app_plan.specs.declared.told.Refusal.{Refusal}
 use Rattle.app_plan.specs.Wants.{module_read, Gives}
 use Rattle.app_plan.specs.Plans.{done, Ending, printing}
@@ -24,7 +24,7 @@ pub unchecked : (subject : List ℕ) (a b : ShelfState) (tools : List ToolState)
     → Yields (Some (check_plan subject)) a b tools tools (Err refusal)
 unchecked subject a b tools refusal r u = unread (module_read subject wide_file wide) _ _ (inl refl) r u refl
 
-pub checked : (subject : List ℕ) (m : Module) (a b : ShelfState) (tools : List ToolState) (told : Told)
+pub checked : (subject : List ℕ) (m : Module) (a b : ShelfState) (tools : List ToolState) (told : Printed)
     → Gives a.contents (module_read subject wide_file wide) m → Unchanged a.contents b.contents → a.reads ≤ b.reads → b.writes ≡ a.writes
     → told.status ≡ 0 → told.text.items ≡ ok_text (counts_of m) → Yields (Some (check_plan subject)) a b tools tools (Ok told)
 checked subject m a b tools told g u few same s t =

@@ -7,7 +7,7 @@ use Rattle.wasm_sem.specs.declared.Script.{Script}
 use Rattle.analyses.specs.Tools.{ToolState}
 use Rattle.app_plan.specs.Files.{wide_file}
 use Rattle.app_plan.specs.Printing.{ShelfState}
-use Rattle.app_plan.specs.declared.told.Told.{Told}
+use Rattle.app_plan.specs.declared.told.Printed.{Printed}
 use Rattle.app_plan.specs.declared.told.Refusal.{Refusal}
 use Rattle.app_plan.specs.Wants.{module_read, script_read, Gives}
 use Rattle.app_plan.specs.Plans.{Ending, printing}
@@ -27,7 +27,7 @@ pub no_subject : (subject script : List ℕ) (a b : ShelfState) (tools : List To
 no_subject subject script a b tools refusal r u = unread (module_read subject wide_file wide) _ _ (inl refl) r u refl
 
 -- it is, and this came of the rest
-pub with_subject : (subject script : List ℕ) (m : Module) (a b c : ShelfState) (tools : List ToolState) (result : Result Told Refusal)
+pub with_subject : (subject script : List ℕ) (m : Module) (a b c : ShelfState) (tools : List ToolState) (result : Result Printed Refusal)
     → Gives a.contents (module_read subject wide_file wide) m → Unchanged a.contents b.contents → a.reads ≤ b.reads → b.writes ≡ a.writes
     → Yields (Some (script_plan script m)) b c tools tools result → Yields (Some (run_plan subject script)) a c tools tools result
 with_subject subject script m a b c tools result g u few same y =
@@ -38,7 +38,7 @@ pub no_script : (script : List ℕ) (m : Module) (b c : ShelfState) (tools : Lis
     → RefusedBy (script_read script) b c refusal → Unchanged b.contents c.contents → Yields (Some (script_plan script m)) b c tools tools (Err refusal)
 no_script script m b c tools refusal r u = unread (script_read script) _ _ (inl refl) r u refl
 
-pub with_script : (script : List ℕ) (m : Module) (s : Script) (b c : ShelfState) (tools : List ToolState) (result : Result Told Refusal)
+pub with_script : (script : List ℕ) (m : Module) (s : Script) (b c : ShelfState) (tools : List ToolState) (result : Result Printed Refusal)
     → Gives b.contents (script_read script) s → Unchanged b.contents c.contents → b.reads ≤ c.reads → c.writes ≡ b.writes
     → Yields (Some (played m s (printing (ending_text m s) (ending_finish m s)))) c c tools tools result
     → Yields (Some (script_plan script m)) b c tools tools result

@@ -8,7 +8,7 @@ use Rattle.instrument.specs.Made.{IsMade, longest_output}
 use Rattle.instrument.specs.Output.{output}
 use Rattle.module_gen.specs.Made.{made}
 use Rattle.analyses.specs.Tools.{ToolState}
-use Rattle.app_plan.specs.declared.told.Told.{Told}
+use Rattle.app_plan.specs.declared.told.Printed.{Printed}
 use Rattle.app_plan.specs.declared.told.Refusal.{Refusal}
 use Rattle.app_plan.specs.declared.told.Refusal.TheVariants.{NoMemory}
 use Rattle.app_plan.specs.Ends.{memory_ended}
@@ -36,7 +36,7 @@ module _ (number first second : ℕ) (m : Module) where
   pair_well few = ap (λ b. bounded b long (ends (does (pair_effect number first second m)))) (test_of long longest_output few)
 
   -- both were run, and what came of it is told
-  pub tried : (at : ShelfState) (was is : List ToolState) (told : Told) → long ≤ longest_output
+  pub tried : (at : ShelfState) (was is : List ToolState) (told : Printed) → long ≤ longest_output
       → IsTold number second (pair_front number first m) (output m all_hooks) (info_of m all_hooks) told
       → is ≡ fed all_reports (pair_events number second m) was → Yields (Some (pair_plan number first second m)) at at was is (Ok told)
   tried at was is told few t e =
@@ -81,7 +81,7 @@ pub trial_writes_none : (g : Given) → IfSome (trial_mode.plan g) (Within Write
 trial_writes_none g = mapped_within WritesNone trial_plan (number_in g.subject) (λ number. pair_writes_none number 10000000 1000000000 (made number))
 
 -- the module is the one that is made of the number
-pub of_number : (number : ℕ) (m : Module) (at : ShelfState) (was is : List ToolState) (result : Result Told Refusal) → m ≡ made number
+pub of_number : (number : ℕ) (m : Module) (at : ShelfState) (was is : List ToolState) (result : Result Printed Refusal) → m ≡ made number
     → Yields (Some (pair_plan number first_steps second_steps m)) at at was is result → Yields (Some (trial_plan number)) at at was is result
 of_number number m at was is result e y = subst (λ x. Yields (Some (pair_plan number first_steps second_steps x)) at at was is result) e y
 

@@ -3,7 +3,7 @@ use Rattle.std.proofs.lemmas.Result.{err_from_is_err_and}
 use Rattle.code_valid.specs.Checking.{take_types}
 use Rattle.code_valid.specs.Control.{innermost_stack}
 use Rattle.code_valid.proofs.Moves.{pop_more, pop_fails, on_refusal, refused, kept}
-use Rattle.code_valid.proofs.blocks.Blocks.pop_all.Goals as goal
+use Rattle.code_valid.proofs.blocks.OpenBlocks.pop_all.Goals as goal
 
 pub loop-left-preserved : goal.loop-left-preserved
 loop-left-preserved c =

@@ -1,7 +1,7 @@
 use Rattle.std.proofs.Common.{◌≡◌, ◌≤◌, length, take}
 use Rattle.code_valid.specs.Checking.{take_types}
 use Rattle.code_valid.specs.Control.{innermost_stack, with_innermost_stack}
-use Rattle.code_valid.proofs.blocks.Blocks.pop_all.Given as goal
+use Rattle.code_valid.proofs.blocks.OpenBlocks.pop_all.Given as goal
 
 abbrev pub invariant-loop-left : goal.invariant-loop-left
 invariant-loop-left l = record {

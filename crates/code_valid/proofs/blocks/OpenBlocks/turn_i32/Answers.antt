@@ -2,7 +2,7 @@ use Rattle.wasm_num.specs.declared.ValType.TheVariants.{I32}
 use Rattle.std.proofs.lemmas.Result.{err_from_is_err_and}
 use Rattle.code_valid.specs.Control.{innermost_stack}
 use Rattle.code_valid.proofs.Moves.{turned_behind, turns_none, on_refusal}
-use Rattle.code_valid.proofs.blocks.Blocks.turn_i32.Goals as goal
+use Rattle.code_valid.proofs.blocks.OpenBlocks.turn_i32.Goals as goal
 
 pub returns : goal.returns
 returns c =

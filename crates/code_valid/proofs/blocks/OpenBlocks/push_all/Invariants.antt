@@ -1,7 +1,7 @@
 use Rattle.std.proofs.Common.{◌≡◌, drop}
 use Rattle.code_valid.specs.Checking.{put_types}
 use Rattle.code_valid.specs.Control.{innermost_stack, with_innermost_stack}
-use Rattle.code_valid.proofs.blocks.Blocks.push_all.Given as goal
+use Rattle.code_valid.proofs.blocks.OpenBlocks.push_all.Given as goal
 
 abbrev pub invariant-loop-ty : goal.invariant-loop-ty
 invariant-loop-ty l = record {

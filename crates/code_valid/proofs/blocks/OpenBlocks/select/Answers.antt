@@ -1,5 +1,5 @@
 use Rattle.code_valid.proofs.Moves.{selected}
-use Rattle.code_valid.proofs.blocks.Blocks.select.Goals as goal
+use Rattle.code_valid.proofs.blocks.OpenBlocks.select.Goals as goal
 
 pub returns-clause-moves : goal.returns-clause-moves
 returns-clause-moves c =

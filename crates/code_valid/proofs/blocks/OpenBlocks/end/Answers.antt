@@ -1,7 +1,7 @@
 use Rattle.std.proofs.lemmas.Result.{err_from_is_err_and}
 use Rattle.code_valid.proofs.Moves.{by_mismatch, refused}
 use Rattle.code_valid.proofs.Parted.{closed, not_closed}
-use Rattle.code_valid.proofs.blocks.Blocks.end.Goals as goal
+use Rattle.code_valid.proofs.blocks.OpenBlocks.end.Goals as goal
 
 pub returns-in_err-pop_block : goal.returns-in_err-pop_block
 returns-in_err-pop_block c =

@@ -1,7 +1,7 @@
 use Rattle.std.proofs.lemmas.Result.{err_from_is_err_and}
 use Rattle.code_valid.proofs.Moves.{by_mismatch}
 use Rattle.code_valid.proofs.Parted.{popped, not_popped}
-use Rattle.code_valid.proofs.blocks.Blocks.pop.Goals as goal
+use Rattle.code_valid.proofs.blocks.OpenBlocks.pop.Goals as goal
 
 pub returns-in_err-pop : goal.returns-in_err-pop
 returns-in_err-pop c =

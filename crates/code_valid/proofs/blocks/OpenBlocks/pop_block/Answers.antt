@@ -3,7 +3,7 @@ use Rattle.std.proofs.lemmas.Result.{err_from_is_err_and}
 use Rattle.code_valid.specs.Control.{control_of}
 use Rattle.code_valid.proofs.Moves.{by_mismatch, refused}
 use Rattle.code_valid.proofs.Parted.{closed, not_closed}
-use Rattle.code_valid.proofs.blocks.Blocks.pop_block.Goals as goal
+use Rattle.code_valid.proofs.blocks.OpenBlocks.pop_block.Goals as goal
 
 pub returns-in_err-pop_block-clause-ends : goal.returns-in_err-pop_block-clause-ends
 returns-in_err-pop_block-clause-ends c =

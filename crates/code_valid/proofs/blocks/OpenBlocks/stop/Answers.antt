@@ -1,5 +1,5 @@
 use Rattle.code_valid.proofs.Moves.{stopped}
-use Rattle.code_valid.proofs.blocks.Blocks.stop.Goals as goal
+use Rattle.code_valid.proofs.blocks.OpenBlocks.stop.Goals as goal
 
 pub returns : goal.returns
 returns c =
