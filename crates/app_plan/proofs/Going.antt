@@ -1,8 +1,7 @@
 -- How what comes of a plan is put together, one read after the other.
-use Rattle.std.proofs.Common.{◌≡◌, ◌≢◌, ℕ, ◌≤◌, ◌⊎◌, inl, inr, List, [], refl, sym, ap, subst, ◌∙◌, arith, Option, Some, None, option_map, Result, Ok, Err}
+use Rattle.std.proofs.Common.{◌≡◌, ℕ, ◌≤◌, ◌⊎◌, inl, inr, List, [], refl, sym, subst, arith, Option, Some, None, option_map, Result, Ok, Err}
 use Rattle.outside_io.specs.Outside.{Contents, Unchanged}
 use Rattle.analyses.specs.Tools.{ToolState}
-use Rattle.app_plan.specs.Feeding.{fed, AreFedPart}
 use Rattle.app_plan.specs.Printing.{ShelfState}
 use Rattle.app_plan.specs.Texts.{bad_words_text, no_memory_text}
 use Rattle.app_plan.proofs.Contents.{unchanged_same, unchanged_after}
@@ -10,8 +9,8 @@ use Rattle.app_plan.specs.declared.told.Printed.{Printed}
 use Rattle.app_plan.specs.declared.told.Refusal.{Refusal}
 use Rattle.app_plan.specs.declared.told.Refusal.TheVariants.{NoMemory}
 use Rattle.app_plan.specs.Wants.{Value, Read, Gives, ReadCause}
-use Rattle.app_plan.specs.Plans.{Reason, reason_status, Finish, finish_status, prints, Effect, Ending, refuses, does, Plan, reads, printing, LeadsTo}
-use Rattle.app_plan.specs.Ends.{TookSome, WrittenPart, Cause, no_command, unread, refused, unwritten, memory_ended, IsMade}
+use Rattle.app_plan.specs.Plans.{Reason, reason_status, Finish, finish_status, prints, Ending, refuses, does, Plan, reads, printing, LeadsTo}
+use Rattle.app_plan.specs.Ends.{TookSome, WrittenPart, Cause, no_command, unread, refused, unwritten, memory_ended}
 use Rattle.app_plan.specs.Outcomes.{refusal_status, refusal_text, IsRefusal, Yields}
 use Rattle.app_plan.proofs.Shelves.{fed_none}
 use Rattle.app_plan.proofs.Before.{leads_before, comes_before, cause_before, all_after, some_after, files_after}

@@ -1,10 +1,10 @@
 -- How what came of a plan was told.
-use Rattle.std.proofs.Common.{◌≡◌, ℕ, List, sym, subst, Option, Result, Ok, Err}
+use Rattle.std.proofs.Common.{◌≡◌, ℕ, List, subst, Option, Result, Ok, Err}
 use Rattle.analyses.specs.Tools.{ToolState}
 use Rattle.app_plan.specs.Printing.{ShelfState, PrintState, Said}
 use Rattle.app_plan.specs.declared.told.Printed.{Printed}
 use Rattle.app_plan.specs.declared.told.Refusal.{Refusal}
-use Rattle.app_plan.specs.Plans.{finish_status, Effect, Plan}
+use Rattle.app_plan.specs.Plans.{finish_status, Plan}
 use Rattle.app_plan.specs.Ends.{Ends, answered, refused_with}
 use Rattle.app_plan.specs.Outcomes.{refusal_status, refusal_text, Yields, SaidRefusal}
 

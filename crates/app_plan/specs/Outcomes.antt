@@ -1,12 +1,12 @@
 -- What comes of a plan in the program: a text and a status, or a refusal.
-use Rattle.std.specs.Prelude.{◌≡◌, ℕ, ◌⊎◌, List, Option, Some, None, Result, Ok, Err, string_bytes}
+use Rattle.std.specs.Prelude.{◌≡◌, ℕ, ◌⊎◌, List, Option, Result, Ok, Err, string_bytes}
 use Rattle.analyses.specs.Tools.{ToolState}
 use Rattle.app_plan.specs.Printing.{ShelfState, PrintState, Said}
 use Rattle.app_plan.specs.Texts.{no_memory_text}
 use Rattle.app_plan.specs.declared.told.Printed.{Printed}
 use Rattle.app_plan.specs.declared.told.Refusal.{Refusal}
 use Rattle.app_plan.specs.declared.told.Refusal.TheVariants.{Line, NoMemory}
-use Rattle.app_plan.specs.Plans.{reason_status, finish_status, Effect, Plan}
+use Rattle.app_plan.specs.Plans.{finish_status, Effect, Plan}
 use Rattle.module_ast.specs.declared.module.Limits.{Limits}
 use Rattle.module_ast.specs.declared.module.Module.{Module}
 use Rattle.app_plan.specs.Wants.{RefutesFile, RefutesScript, RefutesInfo, Read, ReadCause}

@@ -6,7 +6,7 @@ use Rattle.wasm_num.specs.declared.BlockKind.{BlockKind}
 use Rattle.wasm_num.specs.declared.BlockKind.TheVariants as kinds
 use Rattle.module_ast.specs.declared.code.BlockType.{BlockType}
 use Rattle.module_ast.specs.declared.code.Instr.{Instr}
-use Rattle.module_ast.specs.Tree.{Tree, done, plain, Plain, block, loop, if_then, if_else}
+use Rattle.module_ast.specs.Tree.{Tree, Plain, if_else}
 use Rattle.module_ast.specs.Seen.{before, code_of}
 use Rattle.module_ast.specs.Plains.{plain_of, IsPlainInstr, goes_on_by}
 use Rattle.module_ast.specs.Positions as positions

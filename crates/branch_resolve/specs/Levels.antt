@@ -1,7 +1,7 @@
 -- The sequences that a walk is in, and the places that are left from there on.
 use Rattle.std.specs.Prelude.{◌≡◌, ◌≤◌, ◌<◌, ℕ, ◌+◌, pos, negsuc, List, [], ◌∷◌, ◌++◌, Option, Some, None, Bool, true, false, reverse, drop, length}
 use Rattle.module_ast.specs.Positions as positions
-use Rattle.module_ast.specs.Positions.{Scope, code_size, code_places, ends_live, at, enters, acts, opens, alternates, closes}
+use Rattle.module_ast.specs.Positions.{Scope, code_size, code_places, ends_live, at, enters, alternates, closes}
 use Rattle.module_ast.specs.Seen.{code_of}
 use Rattle.module_ast.specs.Tree.{Tree, done, plain, block, loop, if_then, if_else}
 use Rattle.module_ast.specs.declared.code.BlockType.{BlockType}

@@ -5,7 +5,7 @@ use Rattle.wasm_num.specs.declared.ValType.{ValType}
 use Rattle.wasm_num.specs.declared.ValType.TheVariants.{I32, I64}
 use Rattle.module_ast.specs.declared.module.GlobalType.{GlobalType}
 use Rattle.module_ast.specs.declared.module.FuncType.{FuncType}
-use Rattle.module_ast.specs.Tree.{Tree, done, plain, block, loop, if_then, if_else, Plain, unreachable, nop, br_table, br_if, br, return_, call_indirect, call, drop_, select, local_get, local_set, local_tee, global_get, global_set, load, store, memory_size, memory_grow, i32_const, i64_const, num}
+use Rattle.module_ast.specs.Tree.{Tree, done, plain, block, loop, if_then, if_else, Plain, unreachable, br_table, br_if, br, return_, call_indirect, call, drop_, select, local_get, local_set, local_tee, global_get, global_set, load, store, memory_size, memory_grow}
 use Rattle.module_ast.specs.Positions.{goes_on, code_size, ends_live}
 use Rattle.module_ast.specs.Shapes.{load_type, load_width, store_type, store_width}
 use Rattle.module_ast.specs.Typing.{Context, inside, block_results, push, TypesPlain, TypesCode}

@@ -8,12 +8,12 @@ use Rattle.module_ast.specs.declared.ops.MemArg.{MemArg}
 use Rattle.leb_binary.specs.Shortest.{unsigned_bytes, signed_bytes}
 use Rattle.leb_binary.proofs.Lengths.{shortest_signed}
 use Rattle.module_ast.specs.Grammar as grammar
-use Rattle.module_ast.specs.Grammar.{IsU32, IsVec, IsValType, IsBlockType, IsMemArg, IsPlain, IsCode, IsExpr, IsOp}
+use Rattle.module_ast.specs.Grammar.{IsU32, IsValType, IsBlockType, IsMemArg, IsPlain, IsCode, IsExpr, IsOp}
 use Rattle.module_ast.specs.Canonical.{vec_bytes, val_type_bytes, block_type_bytes, mem_arg_bytes, plain_bytes, code_bytes, expr_bytes}
 use Rattle.module_ast.specs.Profile.{code_node, block_type_node}
 use Rattle.wasm_num.specs.Opcodes.{num_opcode}
 use Rattle.module_ast.specs.Opcodes.{load_opcode, store_opcode}
-use Rattle.module_ast.specs.Tree.{Tree, done, plain, block, loop, if_then, if_else, Plain, unreachable, nop, br, br_if, br_table, return_, call, call_indirect, drop_, select, local_get, local_set, local_tee, global_get, global_set, load, store, memory_size, memory_grow, i32_const, i64_const, num}
+use Rattle.module_ast.specs.Tree.{Tree, done, plain, block, loop, if_then, if_else, Plain, br, br_if, br_table, call, call_indirect, local_get, local_set, local_tee, global_get, global_set, load, store, i32_const, i64_const, num}
 use Rattle.module_ast.proofs.Least.{least_same, least_both, least_op, u32_least, indices_least}
 
 -- types

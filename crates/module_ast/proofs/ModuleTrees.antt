@@ -3,7 +3,7 @@ use Rattle.std.proofs.Common.{◌≡◌, refl, sym, ap, ◌∙◌}
 use Rattle.std.specs.Prelude.{map, false}
 use Rattle.module_ast.specs.declared.module.Module.{Module}
 use Rattle.module_ast.specs.Grammar as grammar
-use Rattle.module_ast.specs.Grammar.{custom_section, type_section, import_section, function_section, table_section, memory_section, global_section, export_section, start_section, element_section, code_section, data_section}
+use Rattle.module_ast.specs.Grammar.{type_section, import_section, global_section, element_section, code_section, data_section}
 use Rattle.module_ast.specs.Profile.{some_in, func_type_node, import_node, global_node, export_node, element_node, body_node, segment_node, tree_of, section_floats}
 use Rattle.module_ast.specs.Decoding.{body_floats}
 use Rattle.module_ast.specs.Laws.{ModulesAreUnique, ModulesHaveNoFloat, TreesWithoutFloatAreModules}

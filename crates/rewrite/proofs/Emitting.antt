@@ -4,9 +4,9 @@ use Rattle.module_ast.specs.declared.code.Instr.{Instr}
 use Rattle.module_ast.specs.declared.code.Instr.TheVariants.{Call}
 use Rattle.module_ast.specs.Canonical.{code_bytes}
 use Rattle.wasm_encode.specs.Lengths.{most_bytes}
-use Rattle.module_ast.specs.Plains.{plains, instr_of, plain_of, IsPlainInstr}
-use Rattle.module_ast.specs.Seen.{before, code_of}
-use Rattle.module_ast.specs.Tree.{Tree, done, plain, Plain, unreachable, call}
+use Rattle.module_ast.specs.Plains.{plains, plain_of, IsPlainInstr}
+use Rattle.module_ast.specs.Seen.{code_of}
+use Rattle.module_ast.specs.Tree.{done, plain, Plain, call}
 use Rattle.i64_split.specs.Pushing.{instrs}
 use Rattle.rewrite.specs.Sizes.{plains_length, plains_most}
 use Rattle.rewrite.specs.Sizing.{AreShortInstrs, HaveBytes, instrs_most}

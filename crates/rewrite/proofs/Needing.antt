@@ -10,8 +10,8 @@ use Rattle.wasm_num.specs.declared.BlockKind.TheVariants as kinds
 use Rattle.module_ast.specs.Lists.{when}
 use Rattle.module_ast.specs.Plains.{plain_of}
 use Rattle.module_ast.specs.Positions as positions
-use Rattle.module_ast.specs.Positions.{Scope, function_scope, at, closes, ends_live, code_places, code_size, places}
-use Rattle.module_ast.specs.Tree.{Tree, Plain, br, br_if, return_}
+use Rattle.module_ast.specs.Positions.{Scope, at, closes, code_size, places}
+use Rattle.module_ast.specs.Tree.{Plain, br, br_if, return_}
 use Rattle.branch_resolve.specs.Scopes.{block_of, blocks_around}
 use Rattle.branch_resolve.specs.Walks.{IsOpcodeOf, IsPlaceOf}
 use Rattle.branch_resolve.specs.declared.Block.{Block}

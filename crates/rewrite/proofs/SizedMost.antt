@@ -14,7 +14,7 @@ use Rattle.module_ast.specs.Marks.{mark_at, type_of_callee, indirect_type, type_
 use Rattle.module_ast.specs.Plains.{instr_of}
 use Rattle.module_ast.specs.Positions.{Scope}
 use Rattle.module_ast.specs.Typing.{Context}
-use Rattle.module_ast.specs.Tree.{Plain, unreachable, nop, br, br_if, br_table, return_, call, call_indirect, drop_, select, local_get, local_set, local_tee, global_get, global_set, load, store, memory_size, memory_grow, i32_const, i64_const, num}
+use Rattle.module_ast.specs.Tree.{Plain, unreachable, nop, call, call_indirect, drop_, select, local_get, local_set, local_tee, global_get, global_set, load, store, memory_size, memory_grow, i32_const, i64_const, num}
 use Rattle.module_ast.proofs.Each.{all_at}
 use Rattle.hook_select.specs.declared.GroupName.TheVariants as groups
 use Rattle.hook_mono.specs.declared.HookKey.{HookKey}

@@ -1,5 +1,5 @@
 -- The places of a body as the count of its bytes comes to them.
-use Rattle.std.proofs.Common.{◌≡◌, ℕ, ◌+◌, ◌*◌, ◌<◌, ◌≤◌, ◌^◌, List, [], ◌∷◌, ◌++◌, length, Bool, true, false, ◌&&◌, length-append, arith, refl}
+use Rattle.std.proofs.Common.{◌≡◌, ℕ, ◌+◌, ◌*◌, ◌<◌, ◌≤◌, ◌^◌, List, [], ◌∷◌, ◌++◌, length, Bool, true, ◌&&◌, length-append, arith, refl}
 use Rattle.std.specs.List.{AllByRecursion}
 use Rattle.leb_binary.specs.Shortest.{unsigned_bytes}
 use Rattle.module_ast.specs.Canonical.{items_bytes, plain_bytes, code_bytes, expr_bytes}
@@ -105,8 +105,7 @@ module _ (r : Remap) where
       ((omega arith, tt), all_both (FitsPlace r) _ _ (code_fits t (s ∷ around) live (p + 1) body (omega arith) maps.0) ((omega arith, λ e. cc), code_fits s around live (t.end + 1) k (omega arith) maps.1))
   code_fits s around live p (if_else ty body other k) low maps =
       let a = then_scope p body other in
-      let b = else_scope p body other in
-      (
+      let b = else_scope p body other in (
         (omega arith, tt),
         all_both (FitsPlace r) _ _ (code_fits a (s ∷ around) live (p + 1) body (omega arith) maps.0) (
           (omega arith, omega arith),

@@ -5,7 +5,6 @@ use Rattle.std.proofs.lemmas.Option.{option_and_then_some}
 use Rattle.wasm_num.specs.declared.ValType.{ValType}
 use Rattle.wasm_num.specs.declared.ValType.TheVariants.{I32, I64}
 use Rattle.wasm_num.specs.declared.BlockKind.{BlockKind}
-use Rattle.wasm_num.specs.declared.BlockKind.TheVariants as kinds
 use Rattle.serde_json.specs.Data.{Data, string, array, item, no_items}
 use Rattle.serde_json.specs.Find.{as_str}
 use Rattle.wasm_num.specs.Kinds.{kind_number, kind_of_number}

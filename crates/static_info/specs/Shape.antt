@@ -1,5 +1,5 @@
 -- The shape of the JSON value of information, before its places are compared.
-use Rattle.std.specs.Prelude.{◌-◌, ◌^◌, ◌==◌, ◌&&◌, ℕ, ℤ, pos, negsuc, List, [], ◌∷◌, length, fold, Bool, true, false, cond, codes, bytes_eq, Option, Some, None, option_and_then}
+use Rattle.std.specs.Prelude.{◌-◌, ◌^◌, ◌==◌, ◌&&◌, ℕ, ℤ, pos, negsuc, List, [], ◌∷◌, length, fold, Bool, true, false, cond, codes, bytes_eq, Option, Some, option_and_then}
 use Rattle.wasm_num.specs.declared.ValType.{ValType}
 use Rattle.wasm_num.specs.declared.BlockKind.{BlockKind}
 use Rattle.wasm_num.specs.Kinds.{kind_of_number}

@@ -1,5 +1,5 @@
 -- An output that is made and written, or is not.
-use Rattle.std.proofs.Common.{◌≡◌, ◌≢◌, ℕ, ◌≤◌, ◌<◌, List, [], ◌∷◌, length, refl, inl, inr, sym, ap, subst, ◌∙◌, arith, Bool, true, false, ◌||◌, nat_le, All, Option, Some, None, Result, Ok, Err}
+use Rattle.std.proofs.Common.{◌≡◌, ◌≢◌, ℕ, ◌≤◌, ◌<◌, List, [], ◌∷◌, length, refl, inl, inr, sym, ap, subst, ◌∙◌, arith, Bool, true, false, ◌||◌, nat_le, All, Option, Some, None, Result, Err}
 use Rattle.std.specs.List.{list_any}
 use Rattle.std.proofs.lemmas.Bool.Decides.{nat_tests}
 use Rattle.std.proofs.lemmas.List.Elements.{All-head, All-tail}

@@ -1,8 +1,6 @@
 -- A subject and a script that were loaded: they do not link, or they were run.
-use Rattle.std.proofs.Common.{◌≡◌, ◌≢◌, ℕ, ◌<◌, ◌≤◌, List, length, refl, inl, inr, sym, ap, subst, ◌∙◌, cond, Bool, true, false, Option, Some, None, Result, Ok, Err, IfOk, IfErr}
-use Rattle.outside_io.specs.Outside.{Contents, Unchanged}
+use Rattle.std.proofs.Common.{◌≡◌, ◌≢◌, ℕ, ◌<◌, List, length, refl, sym, ap, subst, ◌∙◌, cond, Bool, true, false, Option, Some, None, Result, Ok, Err, IfOk, IfErr}
 use Rattle.module_ast.specs.declared.module.Module.{Module}
-use Rattle.module_ast.specs.Limits.{wide}
 use Rattle.wasm_sem.specs.declared.Script.{Script}
 use Rattle.wasm_sem.specs.Answers.{Summary}
 use Rattle.wasm_sem.specs.Link as linking
@@ -11,23 +9,19 @@ use Rattle.run_session.specs.declared.link.LinkFault.{LinkFault}
 use Rattle.run_session.specs.declared.link.LinkFault.TheVariants.{NoExport, BadArgs, MemoryCap, TableCap, SegmentRange, NoMemory}
 use Rattle.run_session.specs.Linking.{TellsRefusal}
 use Rattle.analyses.specs.Tools.{ToolState}
-use Rattle.app_plan.specs.Files.{wide_file}
 use Rattle.app_plan.specs.Printing.{ShelfState}
 use Rattle.wasabi_app.specs.RunTexts.{has_trapped, run_status, run_text}
 use Rattle.wasabi_app.specs.Linking.{link_reason, link_text, IsUnlinkedBy, IsUnlinked}
-use Rattle.wasabi_app.specs.Texts.{ok_text, counts_of}
 use Rattle.app_plan.proofs.Contents.{unchanged_same}
 use Rattle.wasabi_app.proofs.RunEnds.{call_within}
 use Rattle.app_plan.specs.declared.told.Printed.{Printed}
 use Rattle.app_plan.specs.declared.told.Refusal.{Refusal}
 use Rattle.app_plan.specs.declared.told.Refusal.TheVariants as refusals
-use Rattle.app_plan.specs.Wants.{module_read, script_read, Gives}
-use Rattle.app_plan.specs.Plans.{Reason, no_output, Finish, finish_status, Ending, refuses, Effect, does, prints, Plan, refusing, printing}
+use Rattle.app_plan.specs.Plans.{no_output, Finish, finish_status, Ending, refuses, does, prints, Plan, refusing, printing}
 use Rattle.wasabi_app.specs.Playing.{finish_of, linked, played, ending_of, ending_text, ending_finish}
 use Rattle.app_plan.proofs.Within.{Within, WritesNone, FeedsNone, MakesNone}
-use Rattle.app_plan.specs.Ends.{unread}
-use Rattle.app_plan.specs.Outcomes.{RefusedBy, Yields}
-use Rattle.app_plan.proofs.Going.{went_on, was_refused, took_text, no_memory, leads_by}
+use Rattle.app_plan.specs.Outcomes.{Yields}
+use Rattle.app_plan.proofs.Going.{was_refused, took_text, no_memory, leads_by}
 
 -- a module and a script that do not link are refused
 pub played_refuses : (m : Module) (s : Script) (why : linking.Refusal) (plan : Plan) → link m s ≡ Some why

@@ -8,16 +8,15 @@ use Rattle.std.proofs.Common.{◌≡◌, ◌≢◌, ℕ, ◌⊎◌, inl, inr, Li
 use Rattle.std.specs.Prelude.{⊤}
 use Rattle.std.specs.List.{list_any}
 use Rattle.std.proofs.lemmas.Slice.Eq.{bytes_eq-Decides}
-use Rattle.outside_io.specs.Outside.{Contents, Unchanged}
+use Rattle.outside_io.specs.Outside.{Contents}
 use Rattle.analyses.specs.Tools.{ToolState}
-use Rattle.app_plan.specs.Printing.{ShelfState, PrintState}
-use Rattle.app_plan.specs.Plans.{Ending, Plan, LeadsTo, Leads}
+use Rattle.app_plan.specs.Printing.{ShelfState}
+use Rattle.app_plan.specs.Plans.{Ending, Plan, Leads}
 use Rattle.app_plan.specs.declared.told.Printed.{Printed}
 use Rattle.app_plan.specs.declared.told.Refusal.{Refusal}
 use Rattle.app_plan.specs.declared.told.Refusal.TheVariants.{NoMemory}
 use Rattle.app_plan.specs.Texts.{bad_words_text}
 use Rattle.app_plan.specs.Outcomes.{IsRefusal, Yields}
-use Rattle.app_plan.specs.Ends.{Ends}
 use Rattle.app_plan.proofs.Contents.{unchanged_same}
 use Rattle.app_plan.proofs.Going.{no_memory, was_no_command}
 use Rattle.app_plan.proofs.Within.{Within, within_leads, WritesNone, FeedsNone, MakesNone, keeps, never_unwritten, leaves, never_refused}

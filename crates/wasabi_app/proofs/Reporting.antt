@@ -1,5 +1,5 @@
 -- A subject, an information and a script that were loaded for reports: they do not link, or they were run.
-use Rattle.std.proofs.Common.{◌≡◌, ℕ, ◌≤◌, ◌⊎◌, List, ◌++◌, refl, inl, inr, sym, ap, ap₂, subst, ◌∙◌, All, Option, Some, None, Result, Ok, Err, IfOk, IfErr}
+use Rattle.std.proofs.Common.{◌≡◌, ℕ, ◌≤◌, ◌⊎◌, List, ◌++◌, refl, inl, inr, sym, ap, ap₂, subst, ◌∙◌, All, Some, Result, Ok, Err, IfOk, IfErr}
 use Rattle.outside_io.specs.Outside.{Unchanged}
 use Rattle.module_ast.specs.declared.module.Module.{Module}
 use Rattle.module_ast.specs.Limits.{wide}

@@ -28,7 +28,7 @@ use Rattle.app_plan.specs.Kinds.{all_reports}
 use Rattle.app_plan.proofs.Files.{one_module}
 use Rattle.wasabi_app.specs.declared.feeding.Tally.{Tally}
 use Rattle.wasabi_app.specs.Feeding.{tally_of}
-use Rattle.wasabi_app.specs.Making.{hook_count, output_length}
+use Rattle.wasabi_app.specs.Making.{output_length}
 use Rattle.wasabi_app.specs.Reporting.{events_told}
 use Rattle.wasabi_app.specs.RunTexts.{run_status, run_text}
 use Rattle.wasabi_app.specs.Trying.{AreTried, IsRun, IsTold, IsTriable}

@@ -8,7 +8,7 @@ use Rattle.std.proofs.lemmas.Option.{none-some, same_Some}
 use Rattle.wasm_num.specs.declared.Value.{Value}
 use Rattle.module_ast.specs.declared.module.FuncType.{FuncType}
 use Rattle.module_ast.specs.declared.module.Module.{Module}
-use Rattle.module_ast.specs.Tree.{Tree, done, plain, block, loop, if_then, if_else, Plain, call, call_indirect}
+use Rattle.module_ast.specs.Tree.{Tree, plain, Plain, call, call_indirect}
 use Rattle.module_ast.specs.Typing.{push}
 use Rattle.run_store.specs.Held.{Held}
 use Rattle.wasm_sem.specs.declared.HookCall.{HookCall}

@@ -12,7 +12,7 @@ use Rattle.wasm_sem.specs.declared.Answer.TheVariants.{Returned, Trapped, Unfini
 use Rattle.wasm_sem.specs.declared.Script.{Script}
 use Rattle.wasm_sem.specs.declared.Trap.{Trap}
 use Rattle.wasm_sem.specs.Link.{Instance, instance}
-use Rattle.wasm_sem.specs.Machine.{Frame, Phase, starting, calling, over, Env, Configuration, configuration, Next, reduces, traps, ends, stuck, env_after, step, after_step, run_of}
+use Rattle.wasm_sem.specs.Machine.{Frame, Phase, starting, calling, over, Env, Configuration, configuration, Next, reduces, traps, env_after, step, after_step, run_of}
 use Rattle.wasm_run.proofs.Following.{NextFollows, step_follows}
 use Rattle.wasm_run.specs.Flat.{Flat, first_rest}
 use Rattle.wasm_run.specs.Standing.{IsStanding, KeepsStore, Went, Trapped as HasTrapped}

@@ -11,12 +11,12 @@ use Rattle.wasm_sem.specs.Store.{zeros}
 use Rattle.wasm_sem.proofs.Straight.{some_is}
 use Rattle.wasm_run.proofs.Entering.{size, count}
 use Rattle.module_ast.specs.declared.module.Module.{Module}
-use Rattle.module_ast.specs.Tree.{Tree, done, plain, block, loop, if_then, if_else, call, call_indirect}
+use Rattle.module_ast.specs.Tree.{Tree, plain, call, call_indirect}
 use Rattle.module_ast.specs.Validity.{IsValid}
 use Rattle.run_store.specs.Held.{Held}
 use Rattle.wasm_sem.specs.declared.Script.{Script}
 use Rattle.wasm_sem.specs.Link.{Callee, host, hook, own, Instance, instance, callees_of, IsScriptInRange, Links}
-use Rattle.wasm_sem.specs.Machine.{Label, Frame, Env, Configuration, configuration, Next, reduces, traps, ends, stuck, pop_values, with_ops, new_frame, step, after_step, run, run_of, opening_configuration}
+use Rattle.wasm_sem.specs.Machine.{Label, Frame, Env, Configuration, configuration, Next, reduces, stuck, pop_values, with_ops, new_frame, step, after_step, run, run_of, opening_configuration}
 use Rattle.module_ast.specs.Limits.{IsComplete}
 use Rattle.wasm_run.specs.Calls.{NextIsNoCall}
 use Rattle.wasm_sem.specs.Heights.{function_context, operands_on, AreFramesWithin, IsConfigurationWithin}

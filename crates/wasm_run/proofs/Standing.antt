@@ -4,19 +4,19 @@ use Rattle.std.specs.Prelude.{reverse, slice_get, slice_set}
 use Rattle.wasm_num.specs.declared.Value.{Value}
 use Rattle.module_ast.specs.declared.code.Instr.{Instr}
 use Rattle.module_ast.specs.declared.code.Instr.TheVariants as instrs
-use Rattle.module_ast.specs.Tree.{Tree, done, Plain, plain, unreachable, nop, br, br_if, br_table, return_, call, call_indirect, drop_, select, local_get, local_set, local_tee, global_get, global_set, load, store, memory_size, memory_grow, i32_const, i64_const, num}
+use Rattle.module_ast.specs.Tree.{Tree, done, Plain, plain, nop, drop_, select, local_get, local_set, local_tee, global_get, global_set, load, store, memory_size, memory_grow, i32_const, i64_const, num}
 use Rattle.module_ast.specs.Seen.{before}
 use Rattle.module_ast.proofs.Plains.{the_plain}
 use Rattle.run_store.specs.Held.{Held}
 use Rattle.wasm_sem.specs.declared.Trap.{Trap}
 use Rattle.wasm_sem.specs.Store.{Store}
 use Rattle.wasm_sem.specs.Link.{Instance}
-use Rattle.wasm_sem.specs.Machine.{Frame, Env, configuration, Next, reduces, traps, ends, stuck, Reduct, reduct, trapped_by, not_simple, reduce_simple, reduce_num, selected_value, after_get, after_set, after_num, after_load, after_memory_write, after_store, after_grow, after, frame_behind, reduce_plain, reduce_code, step}
+use Rattle.wasm_sem.specs.Machine.{Frame, Env, configuration, Next, reduces, Reduct, reduct, trapped_by, not_simple, reduce_simple, reduce_num, selected_value, after_get, after_set, after_num, after_load, after_memory_write, after_store, after_grow, after, frame_behind, reduce_plain, reduce_code, step}
 use Rattle.wasm_run.specs.Flat.{Flat, moved_spots}
 use Rattle.std.proofs.lemmas.List.{length-reverse, length-set}
 use Rattle.wasm_num.specs.declared.ValType.{ValType}
 use Rattle.wasm_num.specs.declared.NumOp.{NumOp}
-use Rattle.wasm_num.specs.declared.Value.TheVariants.{I32, I64}
+use Rattle.wasm_num.specs.declared.Value.TheVariants.{I32}
 use Rattle.wasm_num.specs.Shapes.{num_operands}
 use Rattle.wasm_num.specs.Numbers.{Num, gives, fails, ill_typed, unary, binary}
 use Rattle.module_ast.specs.Memory.{with_bytes, load_value, store_bytes, grown_memory}

@@ -1,5 +1,5 @@
 -- What comes of the plan of the mode `run`.
-use Rattle.std.proofs.Common.{◌≡◌, ℕ, ◌≤◌, List, inl, refl, IfSome, Option, Some, Result, Ok, Err}
+use Rattle.std.proofs.Common.{◌≡◌, ℕ, ◌≤◌, List, inl, refl, IfSome, Some, Result, Err}
 use Rattle.outside_io.specs.Outside.{Unchanged}
 use Rattle.module_ast.specs.declared.module.Module.{Module}
 use Rattle.module_ast.specs.Limits.{wide}

@@ -1,5 +1,5 @@
 -- What comes of the plan of the mode `trial`.
-use Rattle.std.proofs.Common.{◌≡◌, ◌∙◌, ℕ, ◌<◌, ◌≤◌, inl, inr, List, length, refl, sym, ap, subst, nat_le, Bool, true, false, IfSome, Option, Some, Result, Ok, Err}
+use Rattle.std.proofs.Common.{◌≡◌, ◌∙◌, ℕ, ◌<◌, ◌≤◌, inl, inr, List, length, refl, sym, ap, subst, nat_le, Bool, true, false, IfSome, Some, Result, Ok, Err}
 use Rattle.module_ast.specs.declared.module.Module.{Module}
 use Rattle.hook_select.specs.declared.Hooks.{Hooks}
 use Rattle.static_info.specs.declared.Info.{Info}
@@ -15,7 +15,7 @@ use Rattle.app_plan.specs.Ends.{memory_ended}
 use Rattle.app_plan.specs.Feeding.{fed, AreFedPart}
 use Rattle.app_plan.specs.Kinds.{all_reports}
 use Rattle.app_plan.specs.Outcomes.{IsRefusal, Yields}
-use Rattle.app_plan.specs.Plans.{no_output, Ending, refuses, does, Plan, ends, refusing}
+use Rattle.app_plan.specs.Plans.{no_output, Ending, refuses, does, ends}
 use Rattle.app_plan.specs.Printing.{ShelfState}
 use Rattle.app_plan.proofs.Contents.{unchanged_same}
 use Rattle.app_plan.proofs.Going.{leads_by, no_memory, was_refused}
