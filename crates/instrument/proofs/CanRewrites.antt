@@ -62,11 +62,11 @@ module _ (r : Remap) (c : Context) (few : length c.funcs + r.added ≤ 2 ^ 32) w
 -- ---- how many hooks there are
 
 module _ (m : Module) (hooks : Hooks) (limits : IsWithin narrow m) where
-  pub keys_few : length (needed_keys m hooks) ≤ 400134
+  pub keys_few : length (needed_keys m hooks) ≤ 400260
   keys_few = omega (arith, needed_count m hooks, (limits Types).0)
 
   -- with all functions of the module
-  pub funcs_few : length (needed_keys m hooks) + length (funcs_of m) ≤ 500134
+  pub funcs_few : length (needed_keys m hooks) + length (funcs_of m) ≤ 500260
   funcs_few = omega (arith, keys_few, (limits Functions).0)
 
   -- with those that it imports
