@@ -1,12 +1,18 @@
 #!/usr/bin/env python3
-"""Writes the tables of docs/DEFINITIONS.md again: which definitions stand in which file, those first that the clauses of
+"""Writes the lists of docs/DEFINITIONS.md again: which definitions stand in which file, those first that the clauses of
 `run_app` reach. The texts, the groups, the order of files and the sections of the standard stay as they are; a new file is
 put behind the last one of its crate, with the first comment of the file as what it has."""
-import os, re, sys
+import os, re, sys, textwrap
 
 top = os.path.dirname(os.path.dirname(os.path.abspath(__file__)))
 START = re.compile(r"^(?:(?:abbrev|unfoldable|syntax) )?pub (?:(?:record|data|abbrev) )?([^\s:({]+)|^(?:abbrev|unfoldable) (?:pub )?([^\s:({]+)")
+# An entry: a file, its sections of the standard, what it has, and beneath that its definitions. Its key is the file alone.
+ENTRY = re.compile(r"^- `(\w+)` `([\w.]+)`(?: \(([^()]*)\))?: (.*(?:\n  (?!- ).*)*)\n  - .*(?:\n    .*)*", re.M)
+KEY = re.compile(r"- `(\w+)` `([\w.]+)`$")
 TOKEN = re.compile(r"[^\s(){};,.λ\[\]∷]+")
+
+def filled(text, indent):
+    return textwrap.fill(text, 128, subsequent_indent=indent, break_on_hyphens=False, break_long_words=False)
 
 def specs():
     for crate in sorted(os.listdir(f"{top}/crates")):
@@ -83,39 +89,37 @@ def main():
         todo += reached_by(key[0], key[1], definitions[key], *scopes[key[0], key[1]])
     shown = [key for key in definitions if key not in private]
     path = f"{top}/docs/DEFINITIONS.md"
-    lines = open(path, encoding="utf-8").read().split("\n")
-    out, seen, inner = [], {True: set(), False: set()}, False
-    texts = {}
-    for line in lines:
-        m = re.match(r"\| `(\w+)` `([\w.]+)` \| (.*?) \| (.*?) \| (.*) \|$", line)
-        if m:
-            texts.setdefault((m[1], m[2]), (m[3], m[4]))
-    def row(crate, file, inner):
+    out, inner, texts = [], False, {}
+    def only_key(m):
+        texts.setdefault((m[1], m[2]), (" ".join(m[4].split()), m[3] or ""))
+        return f"- `{m[1]}` `{m[2]}`"
+    lines = ENTRY.sub(only_key, open(path, encoding="utf-8").read()).split("\n")
+    def entry(crate, file, inner):
         kept = [n for (c, f, n) in shown if (c, f) == (crate, file) and ((c, f, n) in reached) != inner]
         what, section = texts.get((crate, file)) or (head_of(crate, file), "")
-        return f"| `{crate}` `{file}` | {what} | {section} | {', '.join(f'`{n}`' for n in kept)} |" if kept else None
+        head = f"- `{crate}` `{file}`{section and f' ({section})'}: {what}"
+        return f"{filled(head, '  ')}\n{filled('  - ' + ', '.join(f'`{n}`' for n in kept), '    ')}" if kept else None
     def head_of(crate, file):
         head = heads[crate, file]
         words = re.sub(r"\s*\n?-- ?", " ", head[1]).strip() if head else ""
         words = re.split(r"(?<=[a-z0-9])\. ", words)[0].rstrip(".")
         return words[:1].lower() + words[1:]
     files = list(dict.fromkeys((c, f) for (c, f, n) in definitions))
-    rows = [(i, re.match(r"\| `(\w+)` `([\w.]+)` \|", l)) for i, l in enumerate(lines)]
+    keys = [(i, KEY.match(l)) for i, l in enumerate(lines)]
     middle = next(i for i, l in enumerate(lines) if l.startswith("## Inner"))
     for is_inner in (False, True):
-        listed = {(m[1], m[2]) for i, m in rows if m and (i > middle) == is_inner}
-        missing = [k for k in files if k not in listed and row(*k, is_inner)]
-        for key in missing:
-            last = max((i for i, m in rows if m and (i > middle) == is_inner and m[1] == key[0]), default=None)
+        listed = {(m[1], m[2]) for i, m in keys if m and (i > middle) == is_inner}
+        missing = [k for k in files if k not in listed and entry(*k, is_inner)]
+        for crate, file in missing:
+            last = max((i for i, m in keys if m and (i > middle) == is_inner and m[1] == crate), default=None)
             if last is None:
-                last = max(i for i, m in rows if m and (i > middle) == is_inner and m[1] in ("hook_mono", "wasm_sem", "rewrite"))
-            lines[last] += "\n" + row(*key, is_inner)
-    inner = False
+                last = max(i for i, m in keys if m and (i > middle) == is_inner and m[1] in ("hook_mono", "wasm_sem", "rewrite"))
+            lines[last] += f"\n- `{crate}` `{file}`"
     for line in "\n".join(lines).split("\n"):
         inner = inner or line.startswith("## Inner")
-        m = re.match(r"\| `(\w+)` `([\w.]+)` \|", line)
+        m = KEY.match(line)
         if m:
-            line = row(m[1], m[2], inner)
+            line = entry(m[1], m[2], inner)
             if line is None:
                 continue
         out.append(line)
