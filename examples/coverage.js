@@ -12,12 +12,21 @@ const calls = new Map();
 const running = ["host"];
 const count = (map, key) => map.set(key, (map.get(key) ?? 0) + 1);
 
+// Whether a br_table goes to the outermost label, and so leaves its function. No hook of an end tells that.
+function leaves(func, at, index) {
+  const [, , blocks, tables] = functions[func];
+  const [, labels] = tables.find(([position]) => position === at);
+  const around = blocks.filter(([, begin, end]) => begin < at && at < end);
+  return labels[Math.min(index >>> 0, labels.length - 1)] === around.length - 1;
+}
+
 // What is done at a call of a hook. Its first words are the function and the position in the original module.
 function listener(hook) {
   if (hook.startsWith("call_pre_")) {
     // a function of the host has no begin
     return (func, at, callee) => { if (callee < imports) count(calls, `${func} -> ${callee}`); };
   }
+  if (hook === "br_table") return (func, at, index) => { if (leaves(func, at, index)) running.pop(); };
   return (func, at) => {
     if (hook.startsWith("begin_")) count(entered[func], at);
     if (hook === "begin_function") {
@@ -29,9 +38,15 @@ function listener(hook) {
 }
 
 const outside = {};
+let hosts = 0;
 for (const {module, name} of WebAssembly.Module.imports(program)) {
   outside[module] ??= {};
-  outside[module][name] = module === "__wasabi_hooks" ? listener(name) : () => 0;
+  if (module === "__wasabi_hooks") {
+    outside[module][name] = listener(name);
+  } else {
+    const zero = functions[hosts++][1] === "l" ? 0n : 0;
+    outside[module][name] = () => zero;
+  }
 }
 const exported = new WebAssembly.Instance(program, outside).exports;
 console.log(`${entry}(${args}) = ${exported[entry](...args)}`);

@@ -1,6 +1,6 @@
 // The CRC-32 of some bytes, as zlib and PNG have it. The module that clang makes of it is crc32.wasm:
 //
-//     clang --target=wasm32 -Os -nostdlib -Wl,--no-entry -o crc32.wasm crc32.c
+//     clang --target=wasm32 -mcpu=mvp -Os -nostdlib -Wl,--no-entry -o crc32.wasm crc32.c
 
 unsigned char buffer[4096];
 
