@@ -34,11 +34,8 @@ function lettersOf(hook) {
 }
 
 const joined = (low, high) => BigInt.asIntN(64, BigInt(high) << 32n | BigInt(low >>> 0));
-
-function valuesOf(letters, words) {
-  let at = 0;
-  return [...letters].map(letter => (letter === "i" ? words[at++] : joined(words[at++], words[at++])));
-}
+const valuesOf = (letters, words) =>
+  [...letters].map(letter => (letter === "i" ? words.shift() : joined(words.shift(), words.shift())));
 
 // The entry that a br_table takes: its label, the position that it leads to, and the parts that are left, innermost first.
 function entryOf(func, at, index) {
@@ -54,7 +51,8 @@ function take(hook, func, at, values) {
   let line = values.join(" ");
   if (hook === "br_table") {
     const {label, target, left} = entryOf(func, at, values[0]);
-    line = `${values[0] >>> 0}: label ${label} to ${target}, out of ${left.map(([kind, begin]) => `${KINDS[kind]} ${begin}`).join(", ")}`;
+    const parts = left.map(([kind, begin]) => `${KINDS[kind]} ${begin}`);
+    line = `${values[0] >>> 0}: label ${label} to ${target}, out of ${parts.join(", ")}`;
   } else if (/\.(load|store)/.test(hook)) {
     line = `${values[2]} at ${(values[0] >>> 0) + (values[1] >>> 0)}`;
   }
