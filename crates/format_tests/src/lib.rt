@@ -1,4 +1,4 @@
-// Tests of reading, writing and validating modules. Nothing but tests stands here, so no crate is proved twice for them.
+// Tests of reading, writing and validating modules, and of the names that they carry. Nothing but tests stands here, so no crate is proved twice for them.
 #![tactic(auto)]
 
 #[cfg(test)]
@@ -13,5 +13,7 @@ mod encoding;
 mod files;
 #[cfg(test)]
 mod making;
+#[cfg(test)]
+mod names;
 #[cfg(test)]
 mod typing;

@@ -18,6 +18,10 @@ mod stores;
 #[cfg(test)]
 mod texts;
 #[cfg(test)]
+mod traces;
+#[cfg(test)]
+mod trees;
+#[cfg(test)]
 mod values;
 #[cfg(test)]
 mod words;

@@ -1,0 +1,5 @@
+pub mod Laws
+pub mod NameMaps
+pub mod Names
+pub mod Sections
+pub mod Written

@@ -1,0 +1,8 @@
+mod Apart
+mod OneByte
+mod Spellings
+mod Exact
+mod Several
+mod Tables
+pub mod Whole
+mod Examples

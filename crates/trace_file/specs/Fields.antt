@@ -1,0 +1,105 @@
+-- The fields of an event: their bytes, all numbers in their shortest spelling, and their ranges.
+use Rattle.std.specs.Prelude.{ℕ, ◌^◌, ◌<◌, ◌==◌, ℤ, List, [], ◌∷◌, ◌++◌, length, flat_map, find, Option, Some, None}
+use Rattle.std.specs.List.{AllByRecursion}
+use Rattle.std.specs.Int.{w32, w64, cast_signed}
+use Rattle.leb_binary.specs.Leb.{IsInSize}
+use Rattle.leb_binary.specs.Shortest.{unsigned_bytes, signed_bytes}
+use Rattle.wasm_num.specs.declared.Value.{Value}
+use Rattle.wasm_num.specs.declared.Value.TheVariants.{I32, I64}
+use Rattle.wasm_num.specs.declared.BlockKind.{BlockKind}
+use Rattle.wasm_num.specs.declared.NumOp.{NumOp}
+use Rattle.module_ast.specs.declared.module.Loc.{Loc}
+use Rattle.module_ast.specs.declared.ops.VarOp.{VarOp}
+use Rattle.module_ast.specs.declared.ops.VarOp.TheVariants.{Get, Set, Tee}
+use Rattle.module_ast.specs.declared.ops.LoadOp.{LoadOp}
+use Rattle.module_ast.specs.declared.ops.StoreOp.{StoreOp}
+use Rattle.wasm_num.specs.Opcodes.{num_opcode}
+use Rattle.module_ast.specs.Opcodes.{load_opcode, store_opcode}
+use Rattle.wasm_num.specs.Kinds.{kind_number}
+
+pub data Field : Type 0 where
+  place : Loc → Field
+  number : ℕ → Field
+  signed : ℤ → Field
+  value : Value → Field
+  kind : BlockKind → Field
+  var_op : VarOp → Field
+  num_op : NumOp → Field
+  load_op : LoadOp → Field
+  store_op : StoreOp → Field
+  callee : Option ℕ → Field
+  values : List Value → Field
+
+-- a function, and a position in it
+abbrev pub place_bytes : Loc → List ℕ
+place_bytes loc = unsigned_bytes loc.func ++ signed_bytes loc.instr
+
+-- the byte of its type, and its bits as a signed number
+abbrev pub value_bytes : Value → List ℕ
+value_bytes (I32 n) = 0x7F ∷ signed_bytes (cast_signed w32 n)
+value_bytes (I64 n) = 0x7E ∷ signed_bytes (cast_signed w64 n)
+
+abbrev pub var_number : VarOp → ℕ
+var_number Get = 0
+var_number Set = 1
+var_number Tee = 2
+
+-- each once, in the order of their numbers
+abbrev pub var_ops : List VarOp
+var_ops = Get ∷ Set ∷ Tee ∷ []
+
+-- what is done by this number
+abbrev pub var_of_number : ℕ → Option VarOp
+var_of_number n = find (λ op. var_number op == n) var_ops
+
+-- a byte that tells whether there is one
+abbrev pub callee_bytes : Option ℕ → List ℕ
+callee_bytes None = 0x00 ∷ []
+callee_bytes (Some n) = 0x01 ∷ unsigned_bytes n
+
+-- their number, and the values
+abbrev pub values_bytes : List Value → List ℕ
+values_bytes vs = unsigned_bytes (length vs) ++ flat_map value_bytes vs
+
+abbrev pub field_bytes : Field → List ℕ
+field_bytes (place loc) = place_bytes loc
+field_bytes (number n) = unsigned_bytes n
+field_bytes (signed z) = signed_bytes z
+field_bytes (value v) = value_bytes v
+field_bytes (kind k) = kind_number k ∷ []
+field_bytes (var_op op) = var_number op ∷ []
+field_bytes (num_op op) = num_opcode op ∷ []
+field_bytes (load_op op) = load_opcode op ∷ []
+field_bytes (store_op op) = store_opcode op ∷ []
+field_bytes (callee c) = callee_bytes c
+field_bytes (values vs) = values_bytes vs
+
+-- numbers are of their sizes
+abbrev pub FitsNumber : ℕ → Type 0
+FitsNumber n = n < 2 ^ 32
+
+abbrev pub FitsSigned : ℤ → Type 0
+FitsSigned z = IsInSize 32 z
+
+abbrev pub FitsPlace : Loc → Type 0
+FitsPlace loc = FitsNumber loc.func × FitsSigned loc.instr
+
+abbrev pub FitsValue : Value → Type 0
+FitsValue (I32 n) = n < 2 ^ 32
+FitsValue (I64 n) = n < 2 ^ 64
+
+abbrev pub FitsCallee : Option ℕ → Type 0
+FitsCallee None = Unit {0}
+FitsCallee (Some n) = FitsNumber n
+
+abbrev pub FitValues : List Value → Type 0
+FitValues vs = FitsNumber (length vs) × AllByRecursion FitsValue vs
+
+abbrev pub FitsField : Field → Type 0
+FitsField (place loc) = FitsPlace loc
+FitsField (number n) = FitsNumber n
+FitsField (signed z) = FitsSigned z
+FitsField (value v) = FitsValue v
+FitsField (callee c) = FitsCallee c
+FitsField (values vs) = FitValues vs
+FitsField _ = Unit {0}

@@ -1,0 +1,74 @@
+-- Trace files: a header, events, and their number.
+use Rattle.std.specs.Prelude.{◌≡◌, ◌⊎◌, ℕ, ◌+◌, ◌≤◌, List, [], ◌∷◌, ◌++◌, length, flat_map}
+use Rattle.std.specs.List.{AllByRecursion}
+use Rattle.leb_binary.specs.Shortest.{unsigned_bytes}
+use Rattle.hook_select.specs.declared.Event.{Event}
+use Rattle.trace_file.specs.Fields.{FitsNumber}
+use Rattle.trace_file.specs.Rows.{event_bytes, FitsEvent}
+
+-- `WTR1`
+abbrev pub header : List ℕ
+header = 0x57 ∷ 0x54 ∷ 0x52 ∷ 0x31 ∷ []
+
+-- the bytes of events
+abbrev pub events_bytes : List Event → List ℕ
+events_bytes es = flat_map event_bytes es
+
+-- behind the events a zero byte, where a tag would stand, and their number
+abbrev pub ending : (count : ℕ) → List ℕ
+ending count = 0x00 ∷ unsigned_bytes count
+
+-- the file of so many events with these bytes
+abbrev pub file_bytes : (events : List ℕ) → (count : ℕ) → List ℕ
+file_bytes events count = header ++ (events ++ ending count)
+
+-- the trace file of events
+abbrev pub trace_bytes : List Event → List ℕ
+trace_bytes es = file_bytes (events_bytes es) (length es)
+
+-- fewer than 2^32 events, each with its numbers in range, have these bytes as their trace file
+pub record IsTrace (bytes : List ℕ) (es : List Event) : Type 0 where
+  pub few : FitsNumber (length es)
+  pub fit : AllByRecursion FitsEvent es
+  pub spelled : bytes ≡ trace_bytes es
+
+-- no list of events has them
+abbrev pub IsNoTrace : (bytes : List ℕ) → Type 0
+IsNoTrace bytes = (es : List Event) → IsTrace bytes es → ⊥
+
+-- what contracts see of a writer: the most bytes of its file, the bytes of its events, and their number
+pub record Writing : Type 0 where
+  pub max : ℕ
+  pub events : List ℕ
+  pub count : ℕ
+
+-- a writer of these events
+abbrev pub writing_of : (max : ℕ) → List Event → Writing
+writing_of max es = record { max = max; events = events_bytes es; count = length es }
+
+-- with one event more
+abbrev pub with_event : Event → Writing → Writing
+with_event e w = record { max = w.max; events = w.events ++ event_bytes e; count = w.count + 1 }
+
+-- there is a file of these events, no longer than it may be
+abbrev pub IsWithin : Writing → Type 0
+IsWithin w = FitsNumber w.count × (length (file_bytes w.events w.count) ≤ w.max)
+
+-- a file that begins with the header, and one that has not begun
+abbrev pub IsBegun : List ℕ → Type 0
+IsBegun file = (events : List ℕ) × (file ≡ header ++ events)
+
+abbrev pub IsEmptyOrBegun : List ℕ → Type 0
+IsEmptyOrBegun file = (file ≡ []) ⊎ IsBegun file
+
+-- what contracts see of a reader: the bytes, how many events were read of them, and the bytes that are left
+pub record Reading : Type 0 where
+  pub bytes : List ℕ
+  pub count : ℕ
+  pub left : List ℕ
+
+-- these events were read of the bytes, and what follows them is left
+pub record HasRead (es : List Event) (r : Reading) : Type 0 where
+  pub many : r.count ≡ length es
+  pub fit : AllByRecursion FitsEvent es
+  pub spelled : r.bytes ≡ header ++ (events_bytes es ++ r.left)

@@ -1,0 +1,5 @@
+pub mod Begins
+pub mod Fields
+pub mod Rows
+pub mod Files
+pub mod Laws

@@ -1,0 +1,60 @@
+// The fields of events, taken from the front of bytes.
+
+ghost use Rattle.std.specs.Prelude.{◌≡◌, ℕ, List, [], ◌++◌, IfOk, IfErr};
+ghost use Rattle.trace_file.specs.declared.field.ReadTraceFault.TheVariants.{NoMemory};
+ghost use Rattle.trace_file.specs.Begins.{Begins, OnlyBegins, NoneBegins};
+
+use leb_binary::Cursor;
+use std::alloc::{AllocError, Global};
+
+/// Why bytes are not read as a trace.
+#[derive(Clone, Copy, Debug, PartialEq, Eq)]
+pub enum ReadTraceFault {
+    /// No list of events has them as its trace file.
+    NotTrace,
+    /// The allocator gave no memory.
+    NoMemory,
+}
+
+impl From<AllocError> for ReadTraceFault {
+    ghost from_gives = { λ _ fault. fault ≡ NoMemory };
+
+    fn from(_error: AllocError) -> ReadTraceFault {
+        ReadTraceFault::NoMemory
+    }
+}
+
+// A field, or fields one after the other.
+pub(crate) trait Take: Sized + Drop {
+    ghost spelling: { Self → List ℕ };
+
+    ghost fits: { Self → Type 0 };
+
+    // Takes it from the front of the bytes that are left, which begin with nothing else.
+    fn take(alloc: Global, cursor: &mut Cursor<'_>) -> Result<Self, ReadTraceFault>
+        ensures taken { IfOk result (λ x. Begins fits spelling cursor.old.left cursor.new.left x) }
+        ensures only { IfOk result (λ x. OnlyBegins fits spelling cursor.old.left cursor.new.left x) }
+        ensures none { IfErr result (λ fault. fault ≡ ReadTraceFault.NotTrace → NoneBegins fits spelling cursor.old.left) };
+}
+
+impl Take for () {
+    ghost spelling = { λ _. [] };
+
+    ghost fits = { λ _. Unit {0} };
+
+    fn take(_alloc: Global, _cursor: &mut Cursor<'_>) -> Result<(), ReadTraceFault> {
+        Ok(())
+    }
+}
+
+impl<A: Take, B: Take> Take for (A, B) {
+    ghost spelling = { λ p. A.spelling p.0 ++ B.spelling p.1 };
+
+    ghost fits = { λ p. A.fits p.0 × B.fits p.1 };
+
+    fn take(alloc: Global, cursor: &mut Cursor<'_>) -> Result<(A, B), ReadTraceFault> {
+        let first = A::take(alloc, cursor)?;
+        let second = B::take(alloc, cursor)?;
+        Ok((first, second))
+    }
+}

@@ -1,0 +1,19 @@
+// Trace files: events as bytes, and back.
+#![tactic(auto)]
+
+mod codes;
+mod field;
+pub mod laws;
+mod lengths;
+mod numbers;
+mod put;
+mod reader;
+mod take;
+mod values;
+mod write;
+mod writer;
+
+pub use field::ReadTraceFault;
+pub use put::TraceFault;
+pub use reader::{TraceReader, read_trace};
+pub use writer::TraceWriter;

@@ -1,0 +1,229 @@
+// Fields at the end of bytes.
+
+ghost use Rattle.std.specs.Prelude.{◌≡◌, ◌≤◌, ◌^◌, ◌+◌, ℕ, List, length, [], ◌∷◌, ◌++◌, OnOk, OnErr, IfErr};
+ghost use Rattle.leb_binary.specs.Shortest.{unsigned_bytes, signed_bytes};
+ghost use Rattle.wasm_num.specs.Opcodes.{num_opcode};
+ghost use Rattle.module_ast.specs.Opcodes.{load_opcode, store_opcode};
+ghost use Rattle.wasm_num.specs.Kinds.{kind_number};
+ghost use Rattle.trace_file.specs.declared.put.TraceFault.TheVariants.{NoMemory};
+ghost use Rattle.trace_file.specs.Fields.{FitsNumber, FitsSigned, FitsPlace, FitsValue, FitsCallee, FitValues, place_bytes, value_bytes, var_number, callee_bytes, values_bytes};
+
+use crate::codes::var_number;
+use leb_binary::{put_s32, put_s64, put_u32};
+use module_ast::module::Loc;
+use module_ast::ops::{LoadOp, StoreOp, VarOp};
+use std::alloc::AllocError;
+use wasm_num::{BlockKind, NumOp, Value, Values};
+
+/// Why there is no trace file.
+#[derive(Clone, Copy, Debug, PartialEq, Eq)]
+pub enum TraceFault {
+    /// It is longer than it may be.
+    TooLarge,
+    /// The allocator gave no memory.
+    NoMemory,
+}
+
+impl From<AllocError> for TraceFault {
+    ghost from_gives = { λ _ fault. fault ≡ NoMemory };
+
+    fn from(_error: AllocError) -> TraceFault {
+        TraceFault::NoMemory
+    }
+}
+
+// Adds a byte.
+pub(crate) fn put_byte(out: &mut Vec<u8>, byte: u8) -> Result<(), AllocError>
+    ensures added { OnOk result (out.new.items ≡ out.old.items ++ byte ∷ []) }
+    ensures kept { OnErr result (out.new.items ≡ out.old.items) }
+{
+    out.push(byte)?;
+    Ok(())
+}
+
+// A field, or fields one after the other.
+pub(crate) trait Put: Sized + Drop {
+    ghost spelling: { Self → List ℕ };
+
+    ghost fits: { Self → Type 0 };
+
+    // Adds its bytes. `TooLarge` comes only where a list is so long that there are 2^32 bytes or more.
+    fn put(self, out: &mut Vec<u8>) -> Result<(), TraceFault>
+        ensures added { OnOk result (out.new.items ≡ out.old.items ++ spelling self) }
+        ensures fits { OnOk result (fits self) }
+        ensures large { IfErr result (λ fault. fault ≡ TraceFault.TooLarge → 2 ^ 32 ≤ length (spelling self)) };
+}
+
+impl Put for () {
+    ghost spelling = { λ _. [] };
+
+    ghost fits = { λ _. Unit {0} };
+
+    fn put(self, _out: &mut Vec<u8>) -> Result<(), TraceFault> {
+        Ok(())
+    }
+}
+
+impl<A: Put, B: Put> Put for (A, B) {
+    ghost spelling = { λ p. A.spelling p.0 ++ B.spelling p.1 };
+
+    ghost fits = { λ p. A.fits p.0 × B.fits p.1 };
+
+    fn put(self, out: &mut Vec<u8>) -> Result<(), TraceFault> {
+        let (first, second) = self;
+        first.put(out)?;
+        second.put(out)
+    }
+}
+
+impl Put for u32 {
+    ghost spelling = { unsigned_bytes };
+
+    ghost fits = { FitsNumber };
+
+    fn put(self, out: &mut Vec<u8>) -> Result<(), TraceFault> {
+        put_u32(out, self)?;
+        Ok(())
+    }
+}
+
+impl Put for i32 {
+    ghost spelling = { signed_bytes };
+
+    ghost fits = { FitsSigned };
+
+    fn put(self, out: &mut Vec<u8>) -> Result<(), TraceFault> {
+        put_s32(out, self)?;
+        Ok(())
+    }
+}
+
+impl Put for Loc {
+    ghost spelling = { place_bytes };
+
+    ghost fits = { FitsPlace };
+
+    fn put(self, out: &mut Vec<u8>) -> Result<(), TraceFault> {
+        self.func.put(out)?;
+        self.instr.put(out)
+    }
+}
+
+// Adds a value.
+fn put_value(out: &mut Vec<u8>, value: Value) -> Result<(), AllocError>
+    ensures added { OnOk result (out.new.items ≡ out.old.items ++ value_bytes value) }
+    ensures fits { OnOk result (FitsValue value) }
+{
+    match value {
+        Value::I32(bits) => {
+            put_byte(out, 0x7F)?;
+            put_s32(out, bits.cast_signed())
+        }
+        Value::I64(bits) => {
+            put_byte(out, 0x7E)?;
+            put_s64(out, bits.cast_signed())
+        }
+    }
+}
+
+impl Put for Value {
+    ghost spelling = { value_bytes };
+
+    ghost fits = { FitsValue };
+
+    fn put(self, out: &mut Vec<u8>) -> Result<(), TraceFault> {
+        put_value(out, self)?;
+        Ok(())
+    }
+}
+
+impl Put for BlockKind {
+    ghost spelling = { λ kind. kind_number kind ∷ [] };
+
+    ghost fits = { λ _. Unit {0} };
+
+    fn put(self, out: &mut Vec<u8>) -> Result<(), TraceFault> {
+        put_byte(out, self.number())?;
+        Ok(())
+    }
+}
+
+impl Put for VarOp {
+    ghost spelling = { λ op. var_number op ∷ [] };
+
+    ghost fits = { λ _. Unit {0} };
+
+    fn put(self, out: &mut Vec<u8>) -> Result<(), TraceFault> {
+        put_byte(out, var_number(self))?;
+        Ok(())
+    }
+}
+
+impl Put for NumOp {
+    ghost spelling = { λ op. num_opcode op ∷ [] };
+
+    ghost fits = { λ _. Unit {0} };
+
+    fn put(self, out: &mut Vec<u8>) -> Result<(), TraceFault> {
+        put_byte(out, self.opcode())?;
+        Ok(())
+    }
+}
+
+impl Put for LoadOp {
+    ghost spelling = { λ op. load_opcode op ∷ [] };
+
+    ghost fits = { λ _. Unit {0} };
+
+    fn put(self, out: &mut Vec<u8>) -> Result<(), TraceFault> {
+        put_byte(out, self.opcode())?;
+        Ok(())
+    }
+}
+
+impl Put for StoreOp {
+    ghost spelling = { λ op. store_opcode op ∷ [] };
+
+    ghost fits = { λ _. Unit {0} };
+
+    fn put(self, out: &mut Vec<u8>) -> Result<(), TraceFault> {
+        put_byte(out, self.opcode())?;
+        Ok(())
+    }
+}
+
+impl Put for Option<u32> {
+    ghost spelling = { callee_bytes };
+
+    ghost fits = { FitsCallee };
+
+    fn put(self, out: &mut Vec<u8>) -> Result<(), TraceFault> {
+        match self {
+            None => put_byte(out, 0x00)?,
+            Some(callee) => {
+                put_byte(out, 0x01)?;
+                put_u32(out, callee)?;
+            }
+        }
+        Ok(())
+    }
+}
+
+impl Put for &Values {
+    ghost spelling = { λ values. values_bytes values.now };
+
+    ghost fits = { λ values. FitValues values.now };
+
+    fn put(self, out: &mut Vec<u8>) -> Result<(), TraceFault> {
+        let Ok(count) = u32::try_from(self.len()) else {
+            return Err(TraceFault::TooLarge);
+        };
+        put_u32(out, count)?;
+        for i in 0..self.len() {
+            if let Some(value) = self.get(i) {
+                put_value(out, value)?;
+            }
+        }
+        Ok(())
+    }
+}

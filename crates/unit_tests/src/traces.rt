@@ -1,0 +1,114 @@
+// Trace files: events written, and read again.
+
+ghost use Rattle.std.specs.Prelude.{◌≤◌};
+
+use hook_select::Event;
+use module_ast::module::Loc;
+use std::alloc::Global;
+use std::test::Fail;
+use trace_file::{ReadTraceFault, TraceFault, TraceWriter, read_trace};
+use wasm_num::Value;
+
+const PLACE: Loc = Loc { func: 0, instr: 0 };
+
+// The file of a `nop`.
+const NOP: [u8; 9] = *b"WTR1\x02\x00\x00\x00\x01";
+
+// The file of one event.
+fn file_of(alloc: Global, max: u64, event: &Event) -> Result<Vec<u8>, TraceFault>
+    requires { max ≤ 268435456 }
+{
+    let mut writer = TraceWriter::new(alloc, max);
+    writer.put(event)?;
+    writer.finish()
+}
+
+// A file read, and its events written.
+fn written_again(alloc: Global, bytes: &[u8]) -> Result<Vec<u8>, Fail> {
+    let events = read_trace(alloc, bytes)?;
+    let mut writer = TraceWriter::new(alloc, 268_435_456);
+    for event in events.as_slice() {
+        writer.put(event)?;
+    }
+    Ok(writer.finish()?)
+}
+
+#[test]
+fn events_are_written_up_to_the_bound(rt: HostRuntime) -> Result<(), Fail> {
+    let alloc = rt.alloc();
+    let nop = Event::Nop { loc: PLACE };
+    assert_eq!(rt; file_of(alloc, 9, &nop)?.as_slice(), NOP.as_slice());
+    assert!(rt; matches!(file_of(alloc, 8, &nop), Err(TraceFault::TooLarge)));
+    let constant = Event::Const {
+        loc: PLACE,
+        value: Value::I64(18_446_744_073_709_551_614),
+    };
+    let want = b"WTR1\x0A\x00\x00\x7E\x7E\x00\x01".as_slice();
+    assert_eq!(rt; file_of(alloc, 11, &constant)?.as_slice(), want);
+    let mut writer = TraceWriter::new(alloc, 9);
+    writer.put(&Event::Stray { hook: 300 })?;
+    assert_eq!(rt; writer.put(&nop), Err(TraceFault::TooLarge));
+    let want = b"WTR1\x19\xAC\x02\x00\x01".as_slice();
+    assert_eq!(rt; writer.finish()?.as_slice(), want);
+    assert!(rt;
+        matches!(
+            TraceWriter::new(alloc, 5).finish(),
+            Err(TraceFault::TooLarge)
+        )
+    );
+    Ok(())
+}
+
+#[test]
+fn an_event_of_each_kind_is_read(rt: HostRuntime) -> Result<(), Fail> {
+    let bytes = [
+        0x57, 0x54, 0x52, 0x31, 1, 0, 0x7F, 2, 0, 1, 3, 0, 2, 4, 7, 3, 1, 5, 0, 4, 2, 9, 6, 0, 5,
+        1, 6, 1, 7, 0, 6, 3, 2, 8, 8, 0, 7, 4, 9, 0, 8, 1, 3, 10, 0, 9, 0x7F, 0x3F, 11, 0, 10,
+        0x67, 0x7F, 1, 0x7F, 0x1F, 12, 0, 11, 0xAD, 0x7F, 1, 0x7E, 2, 0x7E, 3, 13, 0, 12, 0x7E,
+        0x7F, 14, 0, 13, 0x7F, 1, 0x7F, 2, 1, 15, 0, 14, 2, 3, 0x7F, 0, 16, 0, 15, 1, 3, 0x7F, 0,
+        17, 0, 16, 0x35, 4, 8, 0x7E, 0, 18, 0, 17, 0x3E, 4, 8, 0x7E, 0, 19, 0, 18, 1, 20, 0, 19, 1,
+        2, 21, 0, 20, 3, 1, 0x7F, 1, 22, 0, 21, 3, 4, 0, 0, 22, 0, 21, 3, 4, 1, 5, 2, 0x7F, 1,
+        0x7E, 2, 23, 0, 22, 0, 24, 0, 23, 1, 0x7F, 0, 25, 0x80, 1, 0, 26,
+    ];
+    assert_eq!(rt;
+        written_again(rt.alloc(), &bytes)?.as_slice(),
+        bytes.as_slice()
+    );
+    assert_eq!(rt;
+        read_trace(rt.alloc(), b"WTR1\x00\x00".as_slice())?.len(),
+        0
+    );
+    Ok(())
+}
+
+// Whether bytes are refused.
+fn is_refused(alloc: Global, bytes: &[u8]) -> bool {
+    matches!(read_trace(alloc, bytes), Err(ReadTraceFault::NotTrace))
+}
+
+// Cut short; another header; a padded number, a padded count, another count; a tag, a kind, a type and an opcode that is none; a hook
+// of 2^32; fewer values than are told; and a byte behind the end.
+#[test]
+fn other_bytes_are_refused(rt: HostRuntime) {
+    for length in 0..NOP.len() {
+        assert!(rt; is_refused(rt.alloc(), &NOP[..length]));
+    }
+    let rows: [&[u8]; 13] = [
+        b"WTR2\x02\x00\x00\x00\x01",
+        b"WTR1\x02\x00\x80\x00\x00\x01",
+        b"WTR1\x0A\x00\x00\x7E\xFE\x7F\x00\x01",
+        b"WTR1\x0A\x00\x00\x7E\x7E\x00\x81\x00",
+        b"WTR1\x02\x00\x00\x00\x02",
+        b"WTR1\x02\x00\x00\x00\x00",
+        b"WTR1\x1A\x00\x00\x00\x01",
+        b"WTR1\x08\x00\x00\x05\x00\x01",
+        b"WTR1\x0A\x00\x00\x7D\x00\x00\x01",
+        b"WTR1\x11\x00\x00\x2A\x00\x00\x7F\x00\x00\x01",
+        b"WTR1\x19\x80\x80\x80\x80\x10\x00\x01",
+        b"WTR1\x17\x00\x00\x02\x7F\x00\x00\x01",
+        b"WTR1\x02\x00\x00\x00\x01\x00",
+    ];
+    for bytes in rows {
+        assert!(rt; is_refused(rt.alloc(), bytes));
+    }
+}
