@@ -1,6 +1,6 @@
 -- What holds after a read, of the shelf before it: a read changes no contents.
-use Rattle.std.proofs.Common.{◌≡◌, ◌≢◌, ℕ, ◌≤◌, ◌⊎◌, inl, inr, List, [], ◌∷◌, refl, sym, subst, ◌∙◌, arith, Option, Some, None}
-use Rattle.outside_io.specs.Outside.{Contents, Holds, Rose, Unchanged, Wrote, WrotePart, IsMissing, IsTooLong}
+use Rattle.std.proofs.Common.{ℕ, ◌≤◌, inl, inr, List, [], ◌∷◌, sym, ◌∙◌, arith, Option, Some, None}
+use Rattle.outside_io.specs.Outside.{Contents, Holds, Unchanged, IsMissing, IsTooLong}
 use Rattle.app_plan.specs.Printing.{ShelfState}
 use Rattle.app_plan.specs.Writing.{PutCause, put_failed, put_no_memory, WroteAll, WroteSome, FilesCause}
 use Rattle.app_plan.proofs.Contents.{unchanged_after, wrote_after, part_after}

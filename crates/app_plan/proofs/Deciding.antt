@@ -1,5 +1,5 @@
 -- Where contents are told, what stands there decides the status.
-use Rattle.std.proofs.Common.{◌≡◌, ◌≢◌, ℕ, ◌⊎◌, inl, inr, List, [], refl, sym, ap, subst, ◌∙◌, Option, Some, None}
+use Rattle.std.proofs.Common.{◌≡◌, ◌≢◌, ℕ, ◌⊎◌, inl, inr, List, [], refl, ap, subst, ◌∙◌, Option, Some, None}
 use Rattle.outside_io.specs.Outside.{Contents}
 use Rattle.analyses.specs.Tools.{ToolState}
 use Rattle.app_plan.specs.Printing.{ShelfState, shelf_state, PrintState, said, said_part, said_no_memory}

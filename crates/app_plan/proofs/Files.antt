@@ -1,5 +1,5 @@
 -- The bytes of a file are of one kind alone.
-use Rattle.std.proofs.Common.{◌≡◌, ℕ, ◌≤◌, inl, inr, List, [], ◌∷◌, length, sym, subst, arith, true, false}
+use Rattle.std.proofs.Common.{◌≡◌, ℕ, inl, inr, List, [], ◌∷◌, sym, subst, arith, true, false}
 use Rattle.module_ast.specs.declared.module.Module.{Module}
 use Rattle.module_ast.specs.Grammar.{IsFault}
 use Rattle.module_ast.specs.Decoding.{Gram}

@@ -1,7 +1,7 @@
 -- Where contents are told, a plan leads to one ending, or comes to one read that gives nothing.
-use Rattle.std.proofs.Common.{◌≡◌, ◌≢◌, ℕ, ◌⊎◌, inl, inr, List, length, refl, sym, ap, subst, ◌∙◌, arith, Option, Some, None}
+use Rattle.std.proofs.Common.{◌≡◌, ℕ, inl, inr, length, refl, sym, ap, subst, ◌∙◌, arith, Option, Some, None}
 use Rattle.outside_io.specs.Outside.{Contents}
-use Rattle.app_plan.specs.Wants.{Want, Value, Read, Spell, IsWrong, IsRead, Gives}
+use Rattle.app_plan.specs.Wants.{Value, Read, Spell, IsWrong, Gives}
 use Rattle.app_plan.specs.Plans.{Ending, Plan, reads, ends, LeadsTo, ComesTo, Leads, Comes}
 use Rattle.app_plan.specs.Ends.{IsBad, absent, over, wrong}
 use Rattle.app_plan.proofs.WantLaws.{one_value, not_wrong, one_wrong}

@@ -1,12 +1,11 @@
 -- What was read from bytes, or why it was not.
-use Rattle.std.proofs.Common.{◌≡◌, ◌⊎◌, inl, inr, ℕ, List, sym, subst, Option, Result, Ok, Err, IfOk, IfErr}
+use Rattle.std.proofs.Common.{◌≡◌, ◌⊎◌, inl, inr, ℕ, List, sym, subst, Option, Result, Ok, Err, IfOk}
 use Rattle.outside_io.specs.Outside.{Contents}
 use Rattle.module_ast.specs.declared.module.Limits.{Limits}
 use Rattle.module_ast.specs.declared.module.Module.{Module}
 use Rattle.module_ast.specs.Validity.{IsValid}
 use Rattle.app_plan.specs.Files.{IsFit}
 use Rattle.app_plan.specs.Printing.{ShelfState}
-use Rattle.app_plan.specs.Texts.{no_memory_text}
 use Rattle.app_plan.specs.declared.told.Refusal.{Refusal}
 use Rattle.app_plan.specs.declared.told.Refusal.TheVariants.{NoMemory}
 use Rattle.app_plan.specs.Wants.{Want, Value, Spell, Read, read_as, IsRead, Gives, Refutes, ReadCause, refuted, unread_no_memory}

@@ -1,5 +1,5 @@
 -- Bytes are one script at most.
-use Rattle.std.proofs.Common.{◌≡◌, ℕ, List, sym, ◌∙◌, ap, Option, Some, Result, Ok, Err, IfOk}
+use Rattle.std.proofs.Common.{◌≡◌, ℕ, List, sym, ◌∙◌, ap, Some, Ok, Err}
 use Rattle.serde_json.specs.Data.{Data}
 use Rattle.json_form.specs.Text.{IsText, IsNoText}
 use Rattle.wasm_sem.specs.declared.Script.{Script}

@@ -3,12 +3,12 @@ use Rattle.std.proofs.Common.{◌≡◌, ℕ, ◌⊎◌, inl, inr, List, refl, s
 use Rattle.outside_io.specs.Outside.{Unchanged}
 use Rattle.analyses.specs.Tools.{ToolState}
 use Rattle.app_plan.specs.Feeding.{fed, AreFedPart}
-use Rattle.app_plan.specs.Printing.{ShelfState, PrintState, Said, said, said_part, said_no_memory}
+use Rattle.app_plan.specs.Printing.{ShelfState, PrintState, said, said_part, said_no_memory}
 use Rattle.app_plan.specs.Texts.{no_memory_text}
 use Rattle.app_plan.specs.Wants.{Read, ReadCause, missing, too_long, unread, refuted, unread_no_memory}
-use Rattle.app_plan.specs.Plans.{Reason, no_output, no_call, out_of_range, reason_status, Finish, done, trapped, unfinished, finish_status, Effect, Ending, refuses, does, Plan, Leads, Comes}
+use Rattle.app_plan.specs.Plans.{Reason, no_output, no_call, out_of_range, long_trace, reason_status, Finish, done, trapped, unfinished, finish_status, Effect, refuses, does, Plan, Leads, Comes}
 use Rattle.app_plan.specs.Ends as ends
-use Rattle.app_plan.specs.Ends.{TookSome, WrittenPart, Cause, no_command, refused, unwritten, memory_ended, IsMade, Ends, answered, refused_with, class_of, Tells}
+use Rattle.app_plan.specs.Ends.{TookSome, WrittenPart, Cause, no_command, refused, unwritten, memory_ended, Ends, answered, refused_with, class_of, Tells}
 use Rattle.app_plan.proofs.WantLaws.{refuted_wrong, wrong_class}
 use Rattle.app_plan.proofs.Shelves.{all_some, files_why, files_some, files_there, fed_whole}
 
@@ -52,6 +52,7 @@ reason_tells : (plan : Option Plan) (old new : ShelfState) (was is : List ToolSt
 reason_tells plan old new was is before after no_output text l u s = ((no_output, text, l, refl), (u, s))
 reason_tells plan old new was is before after no_call text l u s = (inr (no_call, text, l, refl), (u, s))
 reason_tells plan old new was is before after out_of_range text l u s = ((out_of_range, text, l, refl), (u, s))
+reason_tells plan old new was is before after long_trace text l u s = ((long_trace, text, l, refl), (u, s))
 
 cause_tells : (plan : Option Plan) (old new : ShelfState) (was is : List ToolState) (before after : PrintState) (status : ℕ) (text : List ℕ)
     → Cause plan old new was is status text → Tells plan old new was is before after status (class_of status)

@@ -3,18 +3,19 @@ use Rattle.std.proofs.Common.{◌≡◌, ℕ, ◌⊎◌, inl, inr, List, refl, s
 use Rattle.module_ast.specs.declared.module.Limits.{Limits}
 use Rattle.module_ast.specs.declared.module.Module.{Module}
 use Rattle.static_info.specs.declared.Info.{Info}
-use Rattle.static_info.specs.Json.{HoldInfo}
 use Rattle.static_info.specs.Belongs.{Belongs}
 use Rattle.app_plan.proofs.Files.{fault_no_module, one_module, fit_not_unfit, unfit_not_malformed, fit_not_malformed, valid_not_invalid, broken_invalid, body_invalid}
 use Rattle.app_plan.proofs.Scripts.{one_script, no_text_no_script, wrong_no_script}
+use Rattle.trace_file.proofs.Whole.{one_list}
 use Rattle.app_plan.proofs.Infos.{one_info, no_text_no_info, other_no_info}
-use Rattle.app_plan.specs.Wants.{Want, a_module, a_script, info_on, Value, Spell, IsNoFile, malformed, unfit, invalid, IsUnscripted, unscripted, IsUninformed, no_json, no_info, of_another, IsWrong, RefutesFile, is_malformed, has_floats, over_limit, broken_rule, invalid_body, RefutesScript, not_json, wrong_script, RefutesInfo, info_not_json, not_info, foreign, Refutes}
+use Rattle.app_plan.specs.Wants.{Want, a_module, a_script, info_on, a_trace, Value, Spell, IsNoFile, malformed, unfit, invalid, IsUnscripted, unscripted, IsUninformed, no_json, no_info, of_another, IsUntraced, untraced, IsWrong, RefutesFile, is_malformed, has_floats, over_limit, broken_rule, invalid_body, RefutesScript, not_json, wrong_script, RefutesInfo, info_not_json, not_info, foreign, RefutesTrace, not_trace, Refutes}
 use Rattle.app_plan.specs.Ends.{class_of, of_bytes, of_scripts}
 
 pub one_value : (want : Want) (bytes : List ℕ) (a b : Value want) → Spell want bytes a → Spell want bytes b → a ≡ b
 one_value (a_module limits) bytes a b p q = one_module bytes a b p.0.spelled q.0.spelled
 one_value a_script bytes a b p q = one_script bytes a b p q
 one_value (info_on m) bytes a b p q = one_info bytes a b p.0 q.0
+one_value a_trace bytes a b p q = one_list bytes a b p q
 
 -- what is spelled is not wrong
 spelled_file : (limits : Limits) (bytes : List ℕ) (m : Module) (status : ℕ) → Spell (a_module limits) bytes m → IsNoFile limits bytes status → ⊥
@@ -31,6 +32,7 @@ pub not_wrong : (want : Want) (bytes : List ℕ) (value : Value want) (status : 
 not_wrong (a_module limits) bytes value status p w = spelled_file limits bytes value status p w
 not_wrong a_script bytes value _ p (unscripted none) = none value p
 not_wrong (info_on m) bytes value status p w = spelled_info m bytes value status p w
+not_wrong a_trace bytes value _ p (untraced none) = none value p
 
 -- wrong bytes are wrong for one status
 one_fault : (limits : Limits) (bytes : List ℕ) (a b : ℕ) → IsNoFile limits bytes a → IsNoFile limits bytes b → a ≡ b
@@ -52,10 +54,14 @@ info_status m bytes _ (no_json p) = refl
 info_status m bytes _ (no_info p) = refl
 info_status m bytes _ (of_another i h n) = refl
 
+trace_status : (bytes : List ℕ) (status : ℕ) → IsUntraced bytes status → status ≡ 19
+trace_status bytes _ (untraced p) = refl
+
 pub one_wrong : (want : Want) (bytes : List ℕ) (a b : ℕ) → IsWrong want bytes a → IsWrong want bytes b → a ≡ b
 one_wrong (a_module limits) bytes a b p q = one_fault limits bytes a b p q
 one_wrong a_script bytes a b p q = let e = script_status bytes a p in let f = script_status bytes b q in cc
 one_wrong (info_on m) bytes a b p q = let e = info_status m bytes a p in let f = info_status m bytes b q in cc
+one_wrong a_trace bytes a b p q = let e = trace_status bytes a p in let f = trace_status bytes b q in cc
 
 -- what is told of bytes makes them wrong
 refuted_file : (name : List ℕ) (limits : Limits) (bytes : List ℕ) (status : ℕ) (text : List ℕ) → RefutesFile name limits bytes status text
@@ -75,11 +81,15 @@ refuted_info m bytes _ _ (info_not_json n) = no_json n
 refuted_info m bytes _ _ (not_info n) = no_info n
 refuted_info m bytes _ _ (foreign info h n) = of_another info h n
 
+refuted_trace : (name bytes : List ℕ) (status : ℕ) (text : List ℕ) → RefutesTrace name bytes status text → IsUntraced bytes status
+refuted_trace name bytes _ _ (not_trace n) = untraced n
+
 pub refuted_wrong : (name : List ℕ) (want : Want) (bytes : List ℕ) (status : ℕ) (text : List ℕ) → Refutes name want bytes status text
     → IsWrong want bytes status
 refuted_wrong name (a_module limits) bytes status text r = refuted_file name limits bytes status text r
 refuted_wrong name a_script bytes status text r = refuted_script bytes status text r
 refuted_wrong name (info_on m) bytes status text r = refuted_info m bytes status text r
+refuted_wrong name a_trace bytes status text r = refuted_trace name bytes status text r
 
 -- the classes of their statuses
 file_class : (limits : Limits) (bytes : List ℕ) (status : ℕ) → IsNoFile limits bytes status → class_of status ≡ of_bytes
@@ -95,8 +105,12 @@ info_class m bytes _ (of_another i h n) = refl
 script_class : (bytes : List ℕ) (status : ℕ) → IsUnscripted bytes status → class_of status ≡ of_scripts
 script_class bytes _ (unscripted p) = refl
 
+trace_class : (bytes : List ℕ) (status : ℕ) → IsUntraced bytes status → class_of status ≡ of_bytes
+trace_class bytes _ (untraced p) = refl
+
 pub wrong_class : (want : Want) (bytes : List ℕ) (status : ℕ) → IsWrong want bytes status
     → (class_of status ≡ of_bytes) ⊎ (class_of status ≡ of_scripts)
 wrong_class (a_module limits) bytes status w = inl (file_class limits bytes status w)
 wrong_class a_script bytes status w = inr (script_class bytes status w)
 wrong_class (info_on m) bytes status w = inl (info_class m bytes status w)
+wrong_class a_trace bytes status w = inl (trace_class bytes status w)

@@ -1,16 +1,16 @@
 -- What holds of every ending of a plan.
-use Rattle.std.proofs.Common.{◌≡◌, ◌≢◌, ℕ, ◌⊎◌, inl, inr, List, [], refl, sym, subst, IfSome, Option, Some, None, option_map}
+use Rattle.std.proofs.Common.{◌≡◌, ◌≢◌, ℕ, ◌⊎◌, inl, inr, List, [], refl, subst, IfSome, Option, Some, None, option_map}
 use Rattle.std.specs.Prelude.{⊤}
 use Rattle.outside_io.specs.Outside.{Contents, Unchanged}
 use Rattle.analyses.specs.Tools.{ToolState}
-use Rattle.app_plan.specs.Feeding.{fed, AreFedPart}
+use Rattle.app_plan.specs.Feeding.{AreFedPart}
 use Rattle.app_plan.specs.Kinds.{no_kinds}
 use Rattle.app_plan.specs.Printing.{ShelfState, PrintState}
 use Rattle.app_plan.specs.Wants.{Value}
-use Rattle.app_plan.specs.Plans.{Reason, no_output, no_call, out_of_range, reason_status, Effect, Ending, refuses, does, Plan, reads, ends, LeadsTo, Leads}
+use Rattle.app_plan.specs.Plans.{Reason, no_output, no_call, out_of_range, long_trace, reason_status, Ending, refuses, does, Plan, reads, ends, LeadsTo, Leads}
 use Rattle.app_plan.specs.Writing.{WroteSome}
 use Rattle.app_plan.specs.Ends.{WrittenPart, TookSome, Ends, answered, refused_with, of_writes, of_reasons}
-use Rattle.app_plan.proofs.Shelves.{all_some, fed_none, fed_part_none}
+use Rattle.app_plan.proofs.Shelves.{all_some, fed_part_none}
 use Rattle.app_plan.proofs.Telling.{cause_memory, took_all, tells_at}
 
 abbrev pub Within : (Ending → Type 0) → Plan → Type 0
@@ -80,6 +80,7 @@ is_output : (reason : Reason) → reason_status reason ≡ 9 → reason ≡ no_o
 is_output no_output e = refl
 is_output no_call e = cc
 is_output out_of_range e = cc
+is_output long_trace e = cc
 
 -- and one that refuses no output never answers 9
 pub never_refused : {plan : Option Plan} {old new : ShelfState} {was is : List ToolState} {before after : PrintState} (status : ℕ)

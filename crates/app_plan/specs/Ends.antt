@@ -6,7 +6,7 @@ use Rattle.app_plan.specs.Feeding.{fed, AreFedPart}
 use Rattle.app_plan.specs.Printing.{ShelfState, PrintState, Said}
 use Rattle.app_plan.specs.Texts.{bad_words_text, no_memory_text}
 use Rattle.app_plan.specs.Wants.{Read, IsRead, IsWrong, ReadCause}
-use Rattle.app_plan.specs.Plans.{Reason, reason_status, Finish, finish_status, File, Effect, Ending, refuses, does, Plan, Leads, Comes}
+use Rattle.app_plan.specs.Plans.{Reason, reason_status, finish_status, Effect, refuses, does, Plan, Leads, Comes}
 use Rattle.app_plan.specs.Writing.{WroteAll, WroteSome, FilesCause}
 
 -- ---- the whole of it
@@ -71,8 +71,8 @@ class_of n =
     cond (one_of (3 ∷ []) n) of_names (
     cond (one_of (4 ∷ []) n) of_reads (
     cond (one_of (5 ∷ []) n) of_writes (
-    cond (one_of (6 ∷ 7 ∷ 8 ∷ 16 ∷ []) n) of_bytes (
-    cond (one_of (9 ∷ 11 ∷ []) n) of_reasons (
+    cond (one_of (6 ∷ 7 ∷ 8 ∷ 16 ∷ 19 ∷ []) n) of_bytes (
+    cond (one_of (9 ∷ 11 ∷ 18 ∷ []) n) of_reasons (
     cond (one_of (10 ∷ []) n) of_scripts (
     cond (one_of (14 ∷ []) n) of_memory (
     cond (one_of (15 ∷ []) n) of_prints of_nothing)))))))))

@@ -51,3 +51,7 @@ IsNoScript bytes = (s : Script) → IsScript bytes s → ⊥
 -- the greatest information that is read, in bytes
 abbrev pub info_file : ℕ
 info_file = 268435456
+
+-- the greatest trace that is read, in bytes
+abbrev pub trace_most : ℕ
+trace_most = 268435456

@@ -9,7 +9,7 @@ use Rattle.app_plan.specs.declared.told.Refusal.TheVariants.{Line, NoMemory}
 use Rattle.app_plan.specs.Plans.{finish_status, Effect, Plan}
 use Rattle.module_ast.specs.declared.module.Limits.{Limits}
 use Rattle.module_ast.specs.declared.module.Module.{Module}
-use Rattle.app_plan.specs.Wants.{RefutesFile, RefutesScript, RefutesInfo, Read, ReadCause}
+use Rattle.app_plan.specs.Wants.{RefutesFile, RefutesScript, RefutesInfo, RefutesTrace, Read, ReadCause}
 use Rattle.app_plan.specs.Ends.{Cause, IsMade}
 
 abbrev pub refusal_status : Refusal → ℕ
@@ -48,3 +48,6 @@ RefutedScript bytes refusal = (refusal ≡ NoMemory) ⊎ RefutesScript bytes (re
 
 abbrev pub RefutedInfo : Module → (bytes : List ℕ) → Refusal → Type 0
 RefutedInfo m bytes refusal = (refusal ≡ NoMemory) ⊎ RefutesInfo m bytes (refusal_status refusal) (refusal_text refusal)
+
+abbrev pub RefutedTrace : (name bytes : List ℕ) → Refusal → Type 0
+RefutedTrace name bytes refusal = (refusal ≡ NoMemory) ⊎ RefutesTrace name bytes (refusal_status refusal) (refusal_text refusal)

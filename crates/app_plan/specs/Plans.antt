@@ -1,5 +1,5 @@
 -- What a command does, in order: it reads, one name after the other, and then it refuses or takes effect.
-use Rattle.std.specs.Prelude.{◌≡◌, ℕ, ◌⊎◌, List, [], Option, Some, None, cond}
+use Rattle.std.specs.Prelude.{◌≡◌, ℕ, ◌⊎◌, List, [], Option, Some, None}
 use Rattle.outside_io.specs.Outside.{Contents}
 use Rattle.hook_select.specs.declared.Event.{Event}
 use Rattle.app_plan.specs.declared.kinds.Kinds.{Kinds}
@@ -11,11 +11,13 @@ pub data Reason : Type 0 where
   no_output : Reason
   no_call : Reason
   out_of_range : Reason
+  long_trace : Reason
 
 abbrev pub reason_status : Reason → ℕ
 reason_status no_output = 9
 reason_status no_call = 10
 reason_status out_of_range = 11
+reason_status long_trace = 18
 
 -- how a command ends that is not refused: what it runs has ended without a trap, or with one, or goes on
 pub data Finish : Type 0 where

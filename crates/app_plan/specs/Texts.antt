@@ -60,6 +60,12 @@ not_info_text = codes "error 16: information is not information\n"
 abbrev pub foreign_text : List ℕ
 foreign_text = codes "error 16: information does not belong to the module\n"
 
+abbrev pub long_trace_text : (bound : ℕ) → List ℕ
+long_trace_text bound = concat_texts (codes "error 18: the trace is longer than " ∷ decimal bound ∷ codes " bytes\n" ∷ [])
+
+abbrev pub not_trace_text : (name : List ℕ) → List ℕ
+not_trace_text name = concat_texts (codes "error 19: " ∷ name ∷ codes " is not a trace\n" ∷ [])
+
 abbrev pub not_json_text : List ℕ
 not_json_text = codes "error 10: script is not JSON\n"
 

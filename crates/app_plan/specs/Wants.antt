@@ -8,33 +8,38 @@ use Rattle.module_ast.specs.declared.module.Which.{Which}
 use Rattle.module_ast.specs.Grammar.{IsFault}
 use Rattle.module_ast.specs.Decoding.{FileFloats, FileExceeds}
 use Rattle.module_ast.specs.Validity.{Rule, number_of, IsValid, IsFirstBroken, IsFirstInvalid}
+use Rattle.hook_select.specs.declared.Event.{Event}
 use Rattle.wasm_sem.specs.declared.Script.{Script}
 use Rattle.json_form.specs.Text.{IsText, IsNoText}
 use Rattle.run_session.specs.Script.{script_form}
 use Rattle.static_info.specs.declared.Info.{Info}
 use Rattle.static_info.specs.Json.{HoldInfo, HoldNoInfo}
 use Rattle.static_info.specs.Belongs.{Belongs}
-use Rattle.app_plan.specs.Files.{IsFit, IsNoModule, IsUnfit, IsInvalid, IsScript, IsNoScript, script_file, info_file}
+use Rattle.trace_file.specs.Files.{IsTrace, IsNoTrace}
+use Rattle.app_plan.specs.Files.{IsFit, IsNoModule, IsUnfit, IsInvalid, IsScript, IsNoScript, script_file, info_file, trace_most}
 use Rattle.app_plan.specs.Printing.{ShelfState}
-use Rattle.app_plan.specs.Texts.{missing_text, too_long_text, unread_text, malformed_text, floats_text, limit_text, rule_text, body_text, not_json_text, wrong_script_text, info_not_json_text, not_info_text, foreign_text, no_memory_text}
+use Rattle.app_plan.specs.Texts.{missing_text, too_long_text, unread_text, malformed_text, floats_text, limit_text, rule_text, body_text, not_json_text, wrong_script_text, info_not_json_text, not_info_text, foreign_text, not_trace_text, no_memory_text}
 
--- a valid module within limits, a script, or information that belongs to a module
+-- a valid module within limits, a script, information that belongs to a module, or the trace of events
 pub data Want : Type 0 where
   a_module : Limits → Want
   a_script : Want
   info_on : Module → Want
+  a_trace : Want
 
 -- what is read
 abbrev pub Value : Want → Type 0
 Value (a_module limits) = Module
 Value a_script = Script
 Value (info_on m) = Info
+Value a_trace = List Event
 
 -- the bytes are this
 abbrev pub Spell : (want : Want) → (bytes : List ℕ) → Value want → Type 0
 Spell (a_module limits) bytes m = IsFit limits bytes m × IsValid m
 Spell a_script bytes s = IsScript bytes s
 Spell (info_on m) bytes info = HoldInfo bytes info × Belongs info m
+Spell a_trace bytes es = IsTrace bytes es
 
 -- the bytes are no valid module within the limits, by the status
 pub data IsNoFile (limits : Limits) (bytes : List ℕ) : ℕ → Type 0 where
@@ -52,10 +57,15 @@ pub data IsUninformed (m : Module) (bytes : List ℕ) : ℕ → Type 0 where
   no_info : HoldNoInfo bytes → IsUninformed m bytes 16
   of_another : (info : Info) → HoldInfo bytes info → ¬ Belongs info m → IsUninformed m bytes 16
 
+-- they are the trace of no events
+pub data IsUntraced (bytes : List ℕ) : ℕ → Type 0 where
+  untraced : IsNoTrace bytes → IsUntraced bytes 19
+
 abbrev pub IsWrong : Want → (bytes : List ℕ) → (status : ℕ) → Type 0
 IsWrong (a_module limits) bytes status = IsNoFile limits bytes status
 IsWrong a_script bytes status = IsUnscripted bytes status
 IsWrong (info_on m) bytes status = IsUninformed m bytes status
+IsWrong a_trace bytes status = IsUntraced bytes status
 
 -- ---- the line that says why
 
@@ -75,10 +85,14 @@ pub data RefutesInfo (m : Module) (bytes : List ℕ) : (status : ℕ) → (text 
   not_info : HoldNoInfo bytes → RefutesInfo m bytes 16 not_info_text
   foreign : (info : Info) → HoldInfo bytes info → ¬ Belongs info m → RefutesInfo m bytes 16 foreign_text
 
+pub data RefutesTrace (name bytes : List ℕ) : (status : ℕ) → (text : List ℕ) → Type 0 where
+  not_trace : IsNoTrace bytes → RefutesTrace name bytes 19 (not_trace_text name)
+
 abbrev pub Refutes : (name : List ℕ) → Want → (bytes : List ℕ) → (status : ℕ) → (text : List ℕ) → Type 0
 Refutes name (a_module limits) bytes status text = RefutesFile name limits bytes status text
 Refutes name a_script bytes status text = RefutesScript bytes status text
 Refutes name (info_on m) bytes status text = RefutesInfo m bytes status text
+Refutes name a_trace bytes status text = RefutesTrace name bytes status text
 
 -- ---- reads
 
@@ -99,6 +113,9 @@ script_read name = read_as name script_file a_script
 
 abbrev pub info_read : (name : List ℕ) → Module → Read
 info_read name m = read_as name info_file (info_on m)
+
+abbrev pub trace_read : (name : List ℕ) → Read
+trace_read name = read_as name trace_most a_trace
 
 -- where contents are told, the name has these bytes, which are no more than the cap
 pub record IsRead (held : Option Contents) (read : Read) (bytes : List ℕ) : Type 0 where

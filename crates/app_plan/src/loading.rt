@@ -1,17 +1,19 @@
-// Valid modules, scripts and information, read from a shelf.
+// Valid modules, scripts, information and traces, read from a shelf.
 
-ghost use Rattle.std.specs.Prelude.{◌≡◌, ◌≤◌, ℕ, List, IfOk, IfErr, length, string_bytes};
+ghost use Rattle.std.specs.Prelude.{◌≡◌, ◌≤◌, List, IfOk, IfErr, OnOk, length, string_bytes};
 ghost use Rattle.outside_io.specs.Outside.{Unchanged};
 ghost use Rattle.module_ast.specs.Validity.{IsValid};
 ghost use Rattle.static_info.specs.Belongs.{Belongs};
 ghost use Rattle.static_info.specs.Form.{IsWellFormed};
 ghost use Rattle.static_info.specs.Json.{HoldInfo};
+ghost use Rattle.hook_select.specs.declared.Event.{Event};
+ghost use Rattle.trace_file.specs.Files.{IsNoTrace, IsTrace};
 ghost use Rattle.wasm_sem.specs.Link.{IsScriptInRange};
 ghost use Rattle.app_plan.specs.Files.{IsFit, IsScript, wide_file};
 ghost use Rattle.app_plan.specs.Printing.{shelf_state};
-ghost use Rattle.app_plan.specs.Texts.{body_text, floats_text, limit_text, malformed_text, missing_text, not_json_text, rule_text, too_long_text, unread_text, which_name, wrong_script_text};
-ghost use Rattle.app_plan.specs.Outcomes.{IsRefusal, RefusedBy, RefutedFile, RefutedInfo, RefutedScript};
-ghost use Rattle.app_plan.specs.Wants.{Gives, IsRead, Want, read_as, info_read, module_read, script_read};
+ghost use Rattle.app_plan.specs.Texts.{body_text, floats_text, limit_text, malformed_text, missing_text, not_json_text, not_trace_text, rule_text, too_long_text, unread_text, which_name, wrong_script_text};
+ghost use Rattle.app_plan.specs.Outcomes.{IsRefusal, RefusedBy, RefutedFile, RefutedInfo, RefutedScript, RefutedTrace};
+ghost use Rattle.app_plan.specs.Wants.{Gives, IsRead, Want, read_as, info_read, module_read, script_read, trace_read};
 
 use crate::told::{Refusal, refused};
 use module_ast::module::{Limits, Module, Which};
@@ -20,6 +22,7 @@ use run_session::{ScriptFault, read_script};
 use static_info::{Info, InfoFault, belongs, from_json};
 use std::alloc::{AllocError, Global};
 use std::thread::Threads;
+use trace_file::{ReadTraceFault, TraceReader};
 use wasm_decode::{DecodeFault, decode};
 use wasm_sem::Script;
 use wasm_valid::{Invalid, ValidModule, validate};
@@ -32,6 +35,9 @@ const LONGEST_SCRIPT: u64 = 16_777_216;
 
 // How many bytes information may have.
 const LONGEST_INFORMATION: u64 = 268_435_456;
+
+// How many bytes a trace may have.
+const LONGEST_TRACE: u64 = 268_435_456;
 
 /// The valid module that stands under a name, of at most `cap` bytes, within these limits, which is checked by so many
 /// threads. No name is changed.
@@ -93,6 +99,23 @@ pub fn load_info<S: Shelf>(
 {
     let bytes = read(alloc, name, LONGEST_INFORMATION, shelf)?;
     info_of(alloc, bytes.as_slice(), m)
+}
+
+/// The bytes of the trace that stands under a name, at most 268,435,456 of them. They are read through to see that they are one,
+/// and no event is kept. No name is changed.
+pub fn load_trace<S: Shelf>(alloc: Global, name: &str, shelf: &mut S) -> Result<Vec<u8>, Refusal>
+    ensures ok { IfOk result (λ bytes. IsRead (S.contents shelf.old) (trace_read name.now) bytes.items) }
+    ensures trace { IfOk result (λ bytes. (es : List Event) × IsTrace bytes.items es) }
+    ensures refused { IfErr result (λ r. RefusedBy (trace_read name.now)
+        (shelf_state (S.contents shelf.old) (S.read_faults shelf.old) (S.write_faults shelf.old))
+        (shelf_state (S.contents shelf.new) (S.read_faults shelf.new) (S.write_faults shelf.new)) r) }
+    ensures kept { Unchanged (S.contents shelf.old) (S.contents shelf.new) }
+    ensures read_count { S.read_faults shelf.old ≤ S.read_faults shelf.new }
+    ensures write_count { S.write_faults shelf.new ≡ S.write_faults shelf.old }
+{
+    let bytes = read(alloc, name, LONGEST_TRACE, shelf)?;
+    check_trace(alloc, name, bytes.as_slice())?;
+    Ok(bytes)
 }
 
 // The bytes that stand under a name, at most `cap` of them.
@@ -285,4 +308,32 @@ fn name_of(which: Which) -> &'static str
         Which::Locals => "locals",
         Which::Nesting => "nesting",
     }
+}
+
+// Whether these bytes, which are under this name, are a trace.
+fn check_trace(alloc: Global, name: &str, bytes: &[u8]) -> Result<(), Refusal>
+    ensures ok { OnOk result ((es : List Event) × IsTrace bytes.now es) }
+    ensures refused { IfErr result (RefutedTrace name.now bytes.now) }
+{
+    match read_through(alloc, bytes) {
+        Ok(()) => Ok(()),
+        Err(ReadTraceFault::NotTrace) => Err(refused(19, not_trace_line(alloc, name))),
+        Err(ReadTraceFault::NoMemory) => Err(Refusal::NoMemory),
+    }
+}
+
+fn not_trace_line(alloc: Global, name: &str) -> Result<String, AllocError>
+    ensures { IfOk result (λ line. string_bytes line ≡ not_trace_text name.now) }
+{
+    format!(in alloc; "error 19: {name} is not a trace\n")
+}
+
+// Reads a trace to its end.
+fn read_through(alloc: Global, bytes: &[u8]) -> Result<(), ReadTraceFault>
+    ensures ok { OnOk result ((es : List Event) × IsTrace bytes.now es) }
+    ensures not { IfErr result (λ fault. fault ≡ ReadTraceFault.NotTrace → IsNoTrace bytes.now) }
+{
+    let mut reader = TraceReader::new(alloc, bytes)?;
+    while let Some(_) = reader.next()? {}
+    Ok(())
 }

@@ -2,7 +2,7 @@
 
 ghost use Rattle.std.specs.Prelude.{◌≡◌, ◌≤◌, ℕ, List, IfOk, Option, string_bytes};
 ghost use Rattle.analyses.specs.Tools.{ToolState};
-ghost use Rattle.app_plan.specs.Texts.{bad_words_text, no_memory_text};
+ghost use Rattle.app_plan.specs.Texts.{bad_words_text};
 ghost use Rattle.app_plan.specs.Printing.{Said, ShelfState, print_state};
 ghost use Rattle.app_plan.specs.Ends.{Ends};
 ghost use Rattle.app_plan.specs.Outcomes.{IsRefusal, SaidRefusal, Yields};

@@ -14,7 +14,7 @@ use Rattle.app_plan.specs.Kinds.{has_kind, every_kind}
 use Rattle.app_plan.specs.Feeding.{fed_tool, fed, AreFedPart, fresh_tools}
 use Rattle.wasabi_app.specs.Feeding.{tally_of}
 use Rattle.wasabi_app.specs.Reporting.{tool_report, tools_text, kind_report, reports_text}
-use Rattle.wasabi_app.proofs.Fed.{counts_after, book_after, so_many_after, fed_other, fed_takes, fewer}
+use Rattle.wasabi_app.proofs.Fed.{counts_after, book_after, so_many_after, fed_other, fed_takes, all_part, fewer}
 
 -- one that has taken events has their book
 taken_book : (kind : Kind) (es : List Event) → (fold state_after (fresh_tool kind) es).book ≡ book kind es
@@ -80,6 +80,11 @@ tagged_after kinds es (k ∷ ks) (n ∷ ns) ((front, rest, e, is), later) =
 -- whatever they have taken
 pub part_tagged : (kinds : Kinds) (es : List Event) (now : List ToolState) → AreFedPart kinds es fresh_tools now → All Tagged now
 part_tagged kinds es now p = tagged_after kinds es every_kind now p
+
+-- and so where fresh ones have taken all
+pub whole_tagged : (kinds : Kinds) (es : List Event) (first now : List ToolState) → first ≡ fresh_tools → now ≡ fed kinds es first → All Tagged now
+whole_tagged kinds es first now fresh taken =
+    part_tagged kinds es now (subst (AreFedPart kinds es fresh_tools) (sym (taken ∙ ap (fed kinds es) fresh)) (all_part kinds es fresh_tools))
 
 -- ---- how many
 

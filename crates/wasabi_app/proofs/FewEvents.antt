@@ -1,10 +1,9 @@
 -- A hook call tells at most 1,004 events, since no label is above 1,002.
-use Rattle.std.proofs.Common.{◌≡◌, ℕ, zero, suc, ◌+◌, ◌-◌, ◌≤◌, ℤ, negsuc, List, [], ◌∷◌, length, filter, take, cond, Bool, true, false, not, All, Option, Some, None, slice_get, refl, sym, subst, arith}
+use Rattle.std.proofs.Common.{◌≡◌, ℕ, zero, suc, ◌+◌, ◌-◌, ◌≤◌, ℤ, negsuc, List, [], ◌∷◌, length, filter, take, cond, Bool, true, false, true≢false, not, All, Option, Some, None, slice_get, refl, sym, ◌∙◌, subst, arith}
 use Rattle.std.specs.Ordering.{int_eq}
-use Rattle.std.proofs.lemmas.List.{length-map, length-take}
-use Rattle.std.proofs.lemmas.List.Elements.{All-head, All-tail}
+use Rattle.std.proofs.lemmas.List.{length-map, length-take, take-append-drop}
+use Rattle.std.proofs.lemmas.List.Elements.{All-head, All-tail, All-append, recursion_from_All}
 use Rattle.std.proofs.lemmas.List.Filters.{length-filter_both}
-use Rattle.std.proofs.lemmas.Option.{slice_get_within, get_or_from_slice_get}
 use Rattle.wasm_num.specs.declared.Value.{Value}
 use Rattle.branch_resolve.specs.declared.Block.{Block}
 use Rattle.module_ast.specs.declared.module.Loc.{Loc}
@@ -17,14 +16,14 @@ use Rattle.wasm_sem.specs.declared.Turn.TheVariants.{Ran, Hook, Over}
 use Rattle.static_info.specs.declared.TableInfo.{TableInfo}
 use Rattle.static_info.specs.declared.FuncInfo.{FuncInfo}
 use Rattle.static_info.specs.declared.Info.{Info}
-use Rattle.static_info.specs.Form.{AreTablesAfter, IsWellFormed}
+use Rattle.static_info.specs.Form.{AreTablesAfter, IsDefined, IsWellFormed}
 use Rattle.static_info.specs.Read.{chosen_label, table_at, end_event, jump_events, table_events, within_block, number_at, numbers, known_events, func_events, found_events, hook_events, is_selected, loc_of}
-use Rattle.hook_events.proofs.Jumps.{formed_tables}
+use Rattle.wasm_sem.proofs.SoundCallees.{every_at}
 use Rattle.wasabi_app.specs.Feeding.{turn_events}
 
 -- ---- labels
 
-few_label : (labels : List ℕ) (index : ℕ) → All (λ l. l ≤ 1002) labels → chosen_label labels index ≤ 1002
+pub few_label : (labels : List ℕ) (index : ℕ) → All (λ l. l ≤ 1002) labels → chosen_label labels index ≤ 1002
 few_label [] index few = omega arith
 few_label (l ∷ []) index few = All-head (λ l. l ≤ 1002) l [] few
 few_label (l ∷ (m ∷ ls)) zero few = All-head (λ l. l ≤ 1002) l (m ∷ ls) few
@@ -38,7 +37,7 @@ first_labels p u t us here later true e =
     subst (λ (x : TableInfo). All (λ l. l ≤ 1002) x.labels) same here
 first_labels p u t us here later false e = later e
 
-table_labels : (p last : ℤ) (ts : List TableInfo) (t : TableInfo) → AreTablesAfter last ts → table_at p ts ≡ Some t → All (λ l. l ≤ 1002) t.labels
+pub table_labels : (p last : ℤ) (ts : List TableInfo) (t : TableInfo) → AreTablesAfter last ts → table_at p ts ≡ Some t → All (λ l. l ≤ 1002) t.labels
 table_labels p last [] t formed e = cc
 table_labels p last (u ∷ us) t formed e =
     first_labels p u t us formed.2.1 (table_labels p u.pos us t formed.3) (int_eq u.pos p) e
@@ -72,17 +71,23 @@ func_few : (info : Info) (slots : List (Option ℕ)) (hook : ℕ) (f : FuncInfo)
 func_few info slots hook f key loc vs false formed = omega arith
 func_few info slots hook f key loc vs true formed = known_few info slots hook f key loc vs (formed refl)
 
--- the tables of a function that is found
-tables_formed : (info : Info) (func : ℕ) (f : FuncInfo) → IsWellFormed info → slice_get info.functions func ≡ Some f → f.defined ≡ true
-    → AreTablesAfter (negsuc 0) f.tables
-tables_formed info func f formed e defined =
-    formed_tables info func f formed (slice_get_within info.functions func f e) (sym (get_or_from_slice_get info.functions func f f e)) defined
+-- a defined function that is found is formed well
+each_formed : (info : Info) → IsWellFormed info → All (λ (f : FuncInfo). f.defined ≡ true → IsDefined f) info.functions
+each_formed info h =
+    let P : FuncInfo → Type 0 = λ f. f.defined ≡ true → IsDefined f in
+    subst (All P) (take-append-drop info.imports info.functions)
+    (All-append P _ _ (λ k d l e. absurd (true≢false (sym e ∙ (h.imported k d l).0))) (λ k d l e. h.defined k d l))
+
+pub formed_there : (info : Info) (func : ℕ) (f : FuncInfo) → IsWellFormed info → slice_get info.functions func ≡ Some f → f.defined ≡ true → IsDefined f
+formed_there info func f formed e =
+    let P : FuncInfo → Type 0 = λ f. f.defined ≡ true → IsDefined f in
+    every_at P info.functions func f (recursion_from_All P info.functions (each_formed info formed)) e
 
 found_few : (info : Info) (slots : List (Option ℕ)) (hook func : ℕ) (o : Option FuncInfo) (key : HookKey) (loc : Loc) (vs : List Value) → IsWellFormed info
     → slice_get info.functions func ≡ o → length (found_events info slots hook o key loc vs) ≤ 1004
 found_few info slots hook func None key loc vs formed e = omega arith
 found_few info slots hook func (Some f) key loc vs formed e =
-    func_few info slots hook f key loc vs f.defined (λ d. tables_formed info func f formed e d)
+    func_few info slots hook f key loc vs f.defined (λ d. (formed_there info func f formed e d).2)
 
 hook_few : (info : Info) (slots : List (Option ℕ)) (hook : ℕ) (words : List ℕ) (key : Option HookKey) → IsWellFormed info
     → length (hook_events info slots hook words key) ≤ 1004

@@ -113,7 +113,7 @@ same_files None a b same = refl
 same_files (Some name) a b same = ap (λ bytes. file name bytes ∷ []) (same (λ e. cc))
 
 -- what a plan yields, where it is not refused
-abbrev IsAnswered : Option Plan → (old new : Option Contents) → List ToolState → (status : ℕ) → (told : List ℕ) → Type 0
+abbrev pub IsAnswered : Option Plan → (old new : Option Contents) → List ToolState → (status : ℕ) → (told : List ℕ) → Type 0
 IsAnswered plan old new tools status told = (e : Effect) × IsMade plan old new tools tools e × (status ≡ finish_status e.finish) × (told ≡ e.text)
 
 module _ (line : Line) (m : Module) (output info text : List ℕ) (made : IsOutputMade m line output info text) where

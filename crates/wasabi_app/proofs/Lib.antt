@@ -2,6 +2,9 @@ pub mod WordLines
 pub mod Linked
 pub mod Hooking
 pub mod Modes
+pub mod Ranges
+pub mod Recorded
+pub mod Replayed
 pub mod Reporting
 pub mod Composed
 pub mod Fed
@@ -16,8 +19,10 @@ pub mod ReportRuns
 pub mod RunEnds
 pub mod RunLines
 pub mod StepEvents
+pub mod ToldRuns
 pub mod ToolTexts
 pub mod TurnEvents
+pub mod Traces
 pub mod TrialLinks
 pub mod TrialNumbers
 pub mod TrialPairs

@@ -45,7 +45,7 @@ pub fault_within : (m : Module) (s : Script) (fault : LinkFault) (call : ℕ) �
     → call < length s.calls
 fault_within m s fault call t e = call_within m s call (subst (λ f. TellsRefusal f (link m s)) e t)
 
-want_of_memory : (plan : Plan) (at : ShelfState) (tools : List ToolState) (refusal : Refusal) → refusal ≡ refusals.NoMemory
+pub want_of_memory : (plan : Plan) (at : ShelfState) (tools : List ToolState) (refusal : Refusal) → refusal ≡ refusals.NoMemory
     → Yields (Some plan) at at tools tools (Err refusal)
 want_of_memory plan at tools refusal e =
     subst (λ r. Yields (Some plan) at at tools tools (Err r)) (sym e) (no_memory (Some plan) at at tools (unchanged_same at.contents))

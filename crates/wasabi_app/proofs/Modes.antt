@@ -3,6 +3,8 @@ pub mod Check
 pub mod Instrument
 pub mod Run
 pub mod Report
+pub mod Record
+pub mod Replay
 pub mod Trial
 use Rattle.std.proofs.Common.{◌≡◌, ◌≢◌, ℕ, ◌⊎◌, inl, inr, List, [], ◌∷◌, refl, sym, ap, subst, ◌∙◌, bytes_eq, cond, find, Bool, true, false, true≢false, codes, IfSome, Option, Some, None, Result, Err, option_and_then}
 use Rattle.std.specs.Prelude.{⊤}
@@ -23,11 +25,13 @@ use Rattle.app_plan.proofs.Within.{Within, within_leads, WritesNone, FeedsNone, 
 use Rattle.wasabi_app.specs.Words.{Given, given}
 use Rattle.wasabi_app.specs.Mode.{Mode}
 use Rattle.wasabi_app.specs.Modes.{modes, plan_in, plan_of}
-use Rattle.wasabi_app.specs.Laws.{IsOf, OneWrites, SomeFeed, SomeMake}
+use Rattle.wasabi_app.specs.Laws.{IsOf, SomeWrite, SomeFeed, SomeMake}
 use Rattle.wasabi_app.proofs.Modes.Check.{check_within}
 use Rattle.wasabi_app.proofs.Modes.Instrument.{instrument_feeds_none}
 use Rattle.wasabi_app.proofs.Modes.Run.{run_within}
 use Rattle.wasabi_app.proofs.Modes.Report.{report_writes_none, report_makes_none}
+use Rattle.wasabi_app.proofs.Modes.Record.{record_feeds_none, record_makes_none}
+use Rattle.wasabi_app.proofs.Modes.Replay.{replay_writes_none, replay_makes_none}
 use Rattle.wasabi_app.proofs.Modes.Trial.{trial_writes_none}
 use Rattle.wasabi_app.proofs.Linked.{writes_plain, feeds_plain, makes_plain}
 
@@ -117,28 +121,34 @@ no_mode g at tools refusal each r =
 
 -- ---- what some modes alone do
 
-write_each : Each (IsOrElse (codes "instrument" ∷ []) WritesNone) modes
-write_each =
-    (inr (λ g. check_within WritesNone writes_plain g), (inl refl, (inr (λ g. run_within WritesNone writes_plain g), (inr report_writes_none, (inr trial_writes_none, tt)))))
+write_each : Each (IsOrElse (codes "instrument" ∷ codes "record" ∷ []) WritesNone) modes
+write_each = (
+  inr (λ g. check_within WritesNone writes_plain g),
+  (inl refl, (inr (λ g. run_within WritesNone writes_plain g), (inr report_writes_none, (inl refl, (inr replay_writes_none, (inr trial_writes_none, tt)))))),
+)
 
-feed_each : Each (IsOrElse (codes "report" ∷ codes "trial" ∷ []) FeedsNone) modes
-feed_each =
-    (inr (λ g. check_within FeedsNone feeds_plain g), (inr instrument_feeds_none, (inr (λ g. run_within FeedsNone feeds_plain g), (inl refl, (inl refl, tt)))))
+feed_each : Each (IsOrElse (codes "report" ∷ codes "replay" ∷ codes "trial" ∷ []) FeedsNone) modes
+feed_each = (
+  inr (λ g. check_within FeedsNone feeds_plain g),
+  (inr instrument_feeds_none, (inr (λ g. run_within FeedsNone feeds_plain g), (inl refl, (inr record_feeds_none, (inl refl, (inl refl, tt)))))),
+)
 
 make_each : Each (IsOrElse (codes "instrument" ∷ codes "trial" ∷ []) MakesNone) modes
-make_each =
-    (inr (λ g. check_within MakesNone makes_plain g), (inl refl, (inr (λ g. run_within MakesNone makes_plain g), (inr report_makes_none, (inl refl, tt)))))
+make_each = (
+  inr (λ g. check_within MakesNone makes_plain g),
+  (inl refl, (inr (λ g. run_within MakesNone makes_plain g), (inr report_makes_none, (inr record_makes_none, (inr replay_makes_none, (inl refl, tt)))))),
+)
 
-pub one_writes : OneWrites
-one_writes words old new was is before after status x =
-    elim (all_else (codes "instrument" ∷ []) WritesNone words old.contents write_each) [
+pub some_write : SomeWrite
+some_write words old new was is before after status x =
+    elim (all_else (codes "instrument" ∷ codes "record" ∷ []) WritesNone words old.contents write_each) [
       | inl of ↦ inl of
       | inr none ↦ inr (keeps status none x, never_unwritten status none x)
     ]
 
 pub some_feed : SomeFeed
 some_feed words old new was is before after status x =
-    elim (all_else (codes "report" ∷ codes "trial" ∷ []) FeedsNone words old.contents feed_each) [
+    elim (all_else (codes "report" ∷ codes "replay" ∷ codes "trial" ∷ []) FeedsNone words old.contents feed_each) [
       | inl of ↦ inl of
       | inr none ↦ inr (leaves status none x)
     ]

@@ -123,17 +123,23 @@ counted_next info turn old new before after t was is =
     let more = turn_events info (slots_in (configuration_of old)) turn in
     is ∙ ap (tallied more) was ∙ sym (tally_then (told_by info old) more) ∙ ap tally_of (sym (told_next info turn old new t))
 
+-- the events of the next turn stand behind those that were told by then, and others may follow
+pub told_further : (info : Info) (old : Run) → old.made ≤ old.script.steps
+    → (rest : List Event) × (told_by info old ++ turn_events info (slots_in (configuration_of old)) (session_turn old) ++ rest
+    ≡ events_told info old.module old.script old.script.steps)
+told_further info old few =
+    let next = after_turn (session_turn old) old in
+    let within : next.made ≤ old.script.steps = turn_within old.made old.script.steps (nat_eq old.made old.script.steps) (next_turn old) old refl few refl in
+    let (rest, joined) = told_begins info old.module old.script next.made old.script.steps within in
+    (rest, ap (λ es. es ++ rest) (sym (told_after info (session_turn old) old refl) ∙ turn_stays info (session_turn old) old) ∙ joined)
+
 -- or with some of them, where memory ended
 pub fed_part : (kinds : Kinds) (info : Info) (old : Run) (first before after : List ToolState) → old.made ≤ old.script.steps
     → before ≡ fed kinds (told_by info old) first
     → AreFedPart kinds (turn_events info (slots_in (configuration_of old)) (session_turn old)) before after
     → AreFedPart kinds (events_told info old.module old.script old.script.steps) first after
 fed_part kinds info old first before after few was part =
-    let next = after_turn (session_turn old) old in
     let more = turn_events info (slots_in (configuration_of old)) (session_turn old) in
-    let within : next.made ≤ old.script.steps = turn_within old.made old.script.steps (nat_eq old.made old.script.steps) (next_turn old) old refl few refl in
-    let (rest, joined) = told_begins info old.module old.script next.made old.script.steps within in
-    let all : told_by info old ++ more ++ rest ≡ events_told info old.module old.script old.script.steps =
-    ap (λ es. es ++ rest) (sym (told_after info (session_turn old) old refl) ∙ turn_stays info (session_turn old) old) ∙ joined in
+    let (rest, all) = told_further info old few in
     subst (λ es. AreFedPart kinds es first after) all
     (parts_then kinds (told_by info old) more rest first after (subst (λ ts. AreFedPart kinds more ts after) was part))

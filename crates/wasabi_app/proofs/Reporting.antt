@@ -1,8 +1,6 @@
 -- A subject, an information and a script that were loaded for reports: they do not link, or they were run.
-use Rattle.std.proofs.Common.{◌≡◌, ℕ, ◌≤◌, ◌⊎◌, List, ◌++◌, refl, inl, inr, sym, ap, ap₂, subst, ◌∙◌, All, Some, Result, Ok, Err, IfOk, IfErr}
-use Rattle.outside_io.specs.Outside.{Unchanged}
+use Rattle.std.proofs.Common.{◌≡◌, ℕ, ◌⊎◌, List, ◌++◌, refl, inl, inr, sym, ap, ap₂, subst, ◌∙◌, Some, Result, Ok, Err, IfOk, IfErr}
 use Rattle.module_ast.specs.declared.module.Module.{Module}
-use Rattle.module_ast.specs.Limits.{wide}
 use Rattle.wasm_sem.specs.declared.Script.{Script}
 use Rattle.wasm_sem.specs.Answers.{Summary}
 use Rattle.wasm_sem.specs.Link.{link, Links}
@@ -10,7 +8,6 @@ use Rattle.run_session.specs.declared.link.LinkFault.{LinkFault}
 use Rattle.run_session.specs.declared.link.LinkFault.TheVariants.{NoMemory}
 use Rattle.run_session.specs.Linking.{TellsRefusal}
 use Rattle.static_info.specs.declared.Info.{Info}
-use Rattle.analyses.specs.Book.{HaveTags}
 use Rattle.analyses.specs.Tools.{ToolState}
 use Rattle.app_plan.specs.declared.kinds.Kinds.{Kinds}
 use Rattle.wasabi_app.specs.declared.feeding.Tally.{Tally}
@@ -20,30 +17,20 @@ use Rattle.app_plan.specs.declared.told.Refusal.TheVariants as refusals
 use Rattle.wasabi_app.specs.Reporting.{tools_text, events_told, reports_text}
 use Rattle.app_plan.specs.Feeding.{fed, AreFedPart, fresh_tools}
 use Rattle.wasabi_app.specs.Feeding.{tally_of}
-use Rattle.app_plan.specs.Files.{wide_file}
 use Rattle.app_plan.specs.Printing.{ShelfState}
 use Rattle.wasabi_app.specs.RunTexts.{run_status, run_text}
-use Rattle.wasabi_app.specs.Modes.Report.{ReportLine, report_effect, reported_plan, informed_plan, loaded_plan, report_plan}
-use Rattle.app_plan.specs.Ends.{unread, memory_ended}
+use Rattle.wasabi_app.specs.Modes.Report.{report_effect, reported_plan}
+use Rattle.app_plan.specs.Ends.{memory_ended}
 use Rattle.wasabi_app.specs.Linking.{IsUnlinked}
-use Rattle.app_plan.specs.Outcomes.{RefusedBy, Yields, refusal_status, refusal_text}
+use Rattle.app_plan.specs.Outcomes.{Yields}
 use Rattle.app_plan.specs.Plans.{does, ends}
 use Rattle.wasabi_app.specs.Playing.{ending_of, ending_text}
-use Rattle.app_plan.specs.Wants.{Gives, module_read, info_read, script_read}
 use Rattle.app_plan.proofs.Contents.{unchanged_same}
 use Rattle.wasabi_app.proofs.Fed.{all_part}
-use Rattle.wasabi_app.proofs.FedReports.{fed_reports, part_tagged}
-use Rattle.app_plan.proofs.Going.{went_on}
+use Rattle.wasabi_app.proofs.FedReports.{fed_reports}
 use Rattle.wasabi_app.proofs.Linked.{was_unlinked, played_links, finish_statuses}
 
 -- ---- what the analyses took
-
--- each has the tags of its kind
-pub fed_tagged : (kinds : Kinds) (info : Info) (m : Module) (s : Script) (first now : List ToolState) → first ≡ fresh_tools
-    → now ≡ fed kinds (events_told info m s s.steps) first → All (λ (t : ToolState). HaveTags t.counts t.book) now
-fed_tagged kinds info m s first now fresh taken =
-    let es = events_told info m s s.steps in
-    part_tagged kinds es now (subst (AreFedPart kinds es fresh_tools) (sym (taken ∙ ap (fed kinds es) fresh)) (all_part kinds es fresh_tools))
 
 -- some of the events, where memory ended on the way
 took_part : (kinds : Kinds) (info : Info) (m : Module) (s : Script) (at : ShelfState) (first now : List ToolState) (refusal : Refusal)
@@ -100,41 +87,3 @@ not_reported kinds m info s fault first now at refusal tells is (inl same) =
     (was_unlinked m s fault (ends (does (report_effect kinds m info s))) at first refusal tells is)
 not_reported kinds m info s fault first now at refusal tells is (inr (none, l, part)) =
     took_part kinds info m s at first now refusal (subst (λ f. IsUnlinked s.calls f refusal) none is) l part
-
--- ---- the plan of the mode
-
--- the subject is not read
-pub no_subject : (line : ReportLine) (a b : ShelfState) (tools : List ToolState) (refusal : Refusal)
-    → RefusedBy (module_read line.subject wide_file wide) a b refusal → Unchanged a.contents b.contents
-    → Yields (Some (report_plan line)) a b tools tools (Err refusal)
-no_subject line a b tools refusal r u = unread (module_read line.subject wide_file wide) (refusal_status refusal) (refusal_text refusal) (inl refl) r u refl
-
--- it is, and this came of the rest
-pub with_subject : (line : ReportLine) (m : Module) (a b c : ShelfState) (first now : List ToolState) (result : Result Printed Refusal)
-    → Gives a.contents (module_read line.subject wide_file wide) m → Unchanged a.contents b.contents → a.reads ≤ b.reads → b.writes ≡ a.writes
-    → Yields (Some (loaded_plan line m)) b c first now result → Yields (Some (report_plan line)) a c first now result
-with_subject line m a b c first now result g u few same y =
-    went_on (module_read line.subject wide_file wide) (loaded_plan line) m a b c first now result g u few same y
-
--- so with the information
-pub no_info : (line : ReportLine) (m : Module) (a b : ShelfState) (tools : List ToolState) (refusal : Refusal)
-    → RefusedBy (info_read line.info m) a b refusal → Unchanged a.contents b.contents → Yields (Some (loaded_plan line m)) a b tools tools (Err refusal)
-no_info line m a b tools refusal r u = unread (info_read line.info m) (refusal_status refusal) (refusal_text refusal) (inl refl) r u refl
-
-pub with_info : (line : ReportLine) (m : Module) (info : Info) (a b c : ShelfState) (first now : List ToolState) (result : Result Printed Refusal)
-    → Gives a.contents (info_read line.info m) info → Unchanged a.contents b.contents → a.reads ≤ b.reads → b.writes ≡ a.writes
-    → Yields (Some (informed_plan line m info)) b c first now result → Yields (Some (loaded_plan line m)) a c first now result
-with_info line m info a b c first now result g u few same y =
-    went_on (info_read line.info m) (informed_plan line m) info a b c first now result g u few same y
-
--- and with the script
-pub no_script : (line : ReportLine) (m : Module) (info : Info) (a b : ShelfState) (tools : List ToolState) (refusal : Refusal)
-    → RefusedBy (script_read line.script) a b refusal → Unchanged a.contents b.contents
-    → Yields (Some (informed_plan line m info)) a b tools tools (Err refusal)
-no_script line m info a b tools refusal r u = unread (script_read line.script) (refusal_status refusal) (refusal_text refusal) (inl refl) r u refl
-
-pub with_script : (line : ReportLine) (m : Module) (info : Info) (s : Script) (a b c : ShelfState) (first now : List ToolState) (result : Result Printed Refusal)
-    → Gives a.contents (script_read line.script) s → Unchanged a.contents b.contents → a.reads ≤ b.reads → b.writes ≡ a.writes
-    → Yields (Some (reported_plan line.kinds m info s)) b c first now result → Yields (Some (informed_plan line m info)) a c first now result
-with_script line m info s a b c first now result g u few same y =
-    went_on (script_read line.script) (reported_plan line.kinds m info) s a b c first now result g u few same y

@@ -1,26 +1,22 @@
 -- A made module links with the script of its trial.
-use Rattle.std.proofs.Common.{◌≡◌, ◌≢◌, ◌∙◌, ℕ, suc, ◌+◌, ◌*◌, ◌%◌, ◌^◌, ◌<◌, ◌≤◌, List, [], ◌∷◌, ◌++◌, length, pos, Some, None, Option, Bool, true, false, ◌&&◌, nat_lt, refl, ap, sym, subst, arith, slice_get, codes, All}
+use Rattle.std.proofs.Common.{◌≡◌, ◌≢◌, ◌∙◌, ℕ, suc, ◌+◌, ◌%◌, ◌^◌, ◌≤◌, [], ◌∷◌, length, pos, Some, None, Option, Bool, true, ◌&&◌, nat_lt, refl, ap, arith, slice_get, codes, All}
 use Rattle.std.specs.Prelude.{nat_le}
 use Rattle.std.specs.List.{range_with_len}
 use Rattle.std.proofs.lemmas.Bool.Decides.{nat_tests}
 use Rattle.std.proofs.lemmas.List.Elements.{All-from_recursion}
 use Rattle.std.proofs.lemmas.List.FromFn.{length-range_with_len}
 use Rattle.wasm_num.specs.declared.ValType.TheVariants.{I32}
-use Rattle.module_ast.specs.declared.module.Body.{Body}
 use Rattle.module_ast.specs.declared.module.Import.{Import}
 use Rattle.module_ast.specs.declared.module.Module.{Module}
 use Rattle.module_ast.specs.Spaces.{funcs_of}
 use Rattle.wasm_sem.specs.declared.HostAnswer.{HostAnswer}
-use Rattle.wasm_sem.specs.Link.{IsFree, IsScriptInRange, IsWriteInRange, Links, Refusal, call_refusal, callees_of, calls_refusal, exported_func, first_refusal, bad_args, fit_all, fit_elements, opening_globals, fit_types, func_at, hook_module, link, memory_cap, refusal_unless, segment_range, table_cap, callee_type}
+use Rattle.wasm_sem.specs.Link.{IsFree, IsScriptInRange, IsWriteInRange, Links, Refusal, call_refusal, callees_of, exported_func, first_refusal, bad_args, fit_all, fit_elements, opening_globals, fit_types, func_at, hook_module, refusal_unless, segment_range, table_cap}
 use Rattle.wasm_sem.specs.Machine.{run_of}
-use Rattle.wasm_sem.specs.Answers.{summary_of}
 use Rattle.wasm_sem.proofs.SoundCallees.{are_callees, callable}
-use Rattle.module_gen.specs.Bodies.{bodies}
-use Rattle.module_gen.specs.Draws.{stepped}
-use Rattle.module_gen.specs.Made.{exports, functions, made, main_text, note_import, type_indices}
+use Rattle.module_gen.specs.Made.{exports, functions, made, note_import, type_indices}
 use Rattle.module_gen.proofs.MadeLists.{index_last, unary_type}
 use Rattle.module_gen.proofs.MadeModules.{made_fits, made_valid}
-use Rattle.wasabi_app.specs.Modes.Trial.{main_call, trial_script}
+use Rattle.wasabi_app.specs.Modes.Trial.{trial_script}
 
 -- a run goes on alike, whatever the number of steps that may be made
 pub same_steps : (m : Module) (number a b n : ℕ) → run_of m (trial_script number a) n ≡ run_of m (trial_script number b) n

@@ -1,5 +1,5 @@
 -- A trial tells of the original.
-use Rattle.std.proofs.Common.{◌≡◌, ◌∙◌, ℕ, ◌+◌, ◌^◌, ◌<◌, ◌≤◌, List, [], ◌∷◌, length, map, Bool, true, not, Option, refl, sym, ap, ap₂, subst, arith, All, IsTrue, is_some}
+use Rattle.std.proofs.Common.{◌≡◌, ◌∙◌, ℕ, ◌+◌, ◌≤◌, List, [], ◌∷◌, length, map, true, not, Option, refl, sym, ap, ap₂, subst, arith, All, IsTrue, is_some}
 use Rattle.module_ast.specs.declared.module.Module.{Module}
 use Rattle.module_ast.specs.Canonical.{module_bytes}
 use Rattle.module_ast.specs.Memory.{pages}
@@ -11,8 +11,7 @@ use Rattle.wasm_sem.specs.declared.Script.{Script}
 use Rattle.wasm_sem.specs.Answers.{Summary, start_answer, call_answers, summary, summary_of}
 use Rattle.wasm_sem.specs.Machine.{Configuration, configuration, Env, Phase, over, is_last, is_over, run_of}
 use Rattle.wasm_sem.proofs.Ended.{stays_over}
-use Rattle.static_info.specs.Info.{info_of}
-use Rattle.instrument.specs.Same.{IsOver, IsPrefix, SameRuns, env_in, env_of, told_so_far}
+use Rattle.instrument.specs.Same.{IsOver, IsPrefix, SameRuns, env_in, env_of}
 use Rattle.instrument.proofs.OutputSame.{same}
 use Rattle.instrument.proofs.Reports as runs
 use Rattle.module_gen.specs.Made.{made}

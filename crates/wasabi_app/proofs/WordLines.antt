@@ -1,5 +1,5 @@
 -- Words are read as their definition says.
-use Rattle.std.proofs.Common.{◌≡◌, ◌∙◌, ◌≤◌, ℕ, List, [], ◌∷◌, refl, sym, ap, subst, cond, codes, Bool, true, false, Option, Some, None, option_map, option_and_then}
+use Rattle.std.proofs.Common.{◌≡◌, ◌∙◌, ◌≤◌, ℕ, List, [], ◌∷◌, refl, ap, subst, cond, codes, Bool, true, false, Option, Some, None, option_map, option_and_then}
 use Rattle.std.specs.Str.Parse.{digits_value, without_leading_plus}
 use Rattle.clap.specs.Words.{Kinds as Faults, Text, fault_of, first_of, matches_of, one_of}
 use Rattle.clap.specs.ValueTests.{is_unsigned_in}

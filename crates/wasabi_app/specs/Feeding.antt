@@ -1,16 +1,12 @@
 -- The analyses that are picked take the events that a turn of a run tells.
-use Rattle.std.specs.Prelude.{◌≡◌, ℕ, ◌+◌, List, [], ◌++◌, length, map, filter, fold, cond, Option, is_some, is_none}
-use Rattle.std.specs.List.{AllZip}
+use Rattle.std.specs.Prelude.{ℕ, ◌+◌, List, [], length, filter, Option, is_some, is_none}
 use Rattle.hook_select.specs.declared.Event.{Event}
 use Rattle.hook_select.specs.Events.{group_of}
 use Rattle.wasm_sem.specs.declared.Turn.{Turn}
 use Rattle.wasm_sem.specs.declared.Turn.TheVariants.{Ran, Hook, Over}
 use Rattle.static_info.specs.declared.Info.{Info}
 use Rattle.static_info.specs.Items.{read_call}
-use Rattle.analyses.specs.Tools.{ToolState, fresh_tool, state_after}
-use Rattle.app_plan.specs.declared.kinds.Kinds.{Kinds}
 use Rattle.wasabi_app.specs.declared.feeding.Tally.{Tally}
-use Rattle.app_plan.specs.Kinds.{every_kind, has_kind}
 
 -- the events that a turn tells: those of its hook call
 abbrev pub turn_events : Info → (slots : List (Option ℕ)) → Turn → List Event

@@ -12,19 +12,19 @@ use Rattle.wasabi_app.specs.Modes.{plan_of}
 abbrev pub IsOf : (modes : List (List ℕ)) → (words : List (List ℕ)) → Type 0
 IsOf modes words = (g : Given) × (given words ≡ Some g) × (list_any (bytes_eq g.mode) modes ≡ true)
 
--- one mode writes; the others leave the shelf as it is, and never answer 5
-abbrev pub OneWrites : Type 0
-OneWrites =
+-- these write; the others leave the shelf as it is, and never answer 5
+abbrev pub SomeWrite : Type 0
+SomeWrite =
     (words : List (List ℕ)) (old new : ShelfState) (was is : List ToolState) (before after : PrintState) (status : ℕ)
     → Ends (plan_of words) old new was is before after status
-    → IsOf (codes "instrument" ∷ []) words ⊎ (Unchanged old.contents new.contents × (status ≢ 5))
+    → IsOf (codes "instrument" ∷ codes "record" ∷ []) words ⊎ (Unchanged old.contents new.contents × (status ≢ 5))
 
 -- the analyses take something in these; the others leave them as they are
 abbrev pub SomeFeed : Type 0
 SomeFeed =
     (words : List (List ℕ)) (old new : ShelfState) (was is : List ToolState) (before after : PrintState) (status : ℕ)
     → Ends (plan_of words) old new was is before after status
-    → IsOf (codes "report" ∷ codes "trial" ∷ []) words ⊎ (is ≡ was)
+    → IsOf (codes "report" ∷ codes "replay" ∷ codes "trial" ∷ []) words ⊎ (is ≡ was)
 
 -- an output that can't be is refused in these; the others never answer 9
 abbrev pub SomeMake : Type 0

@@ -3,6 +3,8 @@ pub mod Check
 pub mod Instrument
 pub mod Run
 pub mod Report
+pub mod Record
+pub mod Replay
 pub mod Trial
 use Rattle.std.specs.Prelude.{ℕ, List, [], ◌∷◌, bytes_eq, find, Option, option_and_then}
 use Rattle.app_plan.specs.Plans.{Plan}
@@ -12,10 +14,12 @@ use Rattle.wasabi_app.specs.Modes.Check.{check_mode}
 use Rattle.wasabi_app.specs.Modes.Instrument.{instrument_mode}
 use Rattle.wasabi_app.specs.Modes.Run.{run_mode}
 use Rattle.wasabi_app.specs.Modes.Report.{report_mode}
+use Rattle.wasabi_app.specs.Modes.Record.{record_mode}
+use Rattle.wasabi_app.specs.Modes.Replay.{replay_mode}
 use Rattle.wasabi_app.specs.Modes.Trial.{trial_mode}
 
 abbrev pub modes : List Mode
-modes = check_mode ∷ instrument_mode ∷ run_mode ∷ report_mode ∷ trial_mode ∷ []
+modes = check_mode ∷ instrument_mode ∷ run_mode ∷ report_mode ∷ record_mode ∷ replay_mode ∷ trial_mode ∷ []
 
 -- that of the mode with this name
 abbrev pub plan_in : (mode : List ℕ) → Given → Option Plan

@@ -30,8 +30,8 @@ pub struct Tally {
 }
 
 impl Tally {
-    // Counts events more.
-    fn count(&mut self, events: &[Event])
+    /// Counts events more.
+    pub(crate) fn count(&mut self, events: &[Event])
         requires events { self.old.events + length events.now < 2 ^ 64 }
         requires strays { self.old.strays + length events.now < 2 ^ 64 }
         ensures { self.new ≡ tallied events.now self.old }
@@ -76,8 +76,8 @@ fn give(tool: &mut Box<dyn Analysis>, pick: Kinds, events: &[Event]) -> Result<(
     Ok(())
 }
 
-// Gives events to the analyses of picked kinds, one after the other.
-fn give_all(
+/// Gives events to the analyses of picked kinds, one after the other.
+pub(crate) fn give_all(
     tools: &mut Vec<Box<dyn Analysis>>,
     pick: Kinds,
     events: &[Event],

@@ -1,12 +1,13 @@
 // What follows from the definitions.
 
 ghost use Rattle.wasabi_app.specs.Composing.{OutputsReport, SameRunsReport, TrialsTell};
-ghost use Rattle.wasabi_app.specs.Laws.{OneWrites, SomeFeed, SomeMake};
+ghost use Rattle.wasabi_app.specs.Laws.{SomeFeed, SomeMake, SomeWrite};
+ghost use Rattle.wasabi_app.specs.Replaying.{EventsHaveTrace, RecordingsReplay};
 
 /// What holds of some modes alone: which of them write, which give events to the analyses, and which refuse an output. Each
 /// mode stands in the proof with what it does; a new one adds a line.
 pub fn modes_alone()
-    ensures writes { OneWrites }
+    ensures writes { SomeWrite }
     ensures feed { SomeFeed }
     ensures make { SomeMake }
 {}
@@ -27,4 +28,12 @@ pub fn reports_compose()
 /// None of the events is a stray.
 pub fn trials_tell()
     ensures tell { TrialsTell }
+{}
+
+/// What `record` writes is the trace of the events of its run, since their numbers are of their sizes. A later `replay` that
+/// finds these bytes, under whatever name, takes exactly these events, and prints what `report`, in the place of `record`, would
+/// print behind the text of the run.
+pub fn recordings_replay()
+    ensures trace { EventsHaveTrace }
+    ensures replay { RecordingsReplay }
 {}

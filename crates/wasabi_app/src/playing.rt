@@ -7,7 +7,6 @@ ghost use Rattle.run_session.specs.Linking.{TellsRefusal};
 ghost use Rattle.run_session.specs.Sessions.{told_outcome};
 ghost use Rattle.static_info.specs.Belongs.{Belongs};
 ghost use Rattle.static_info.specs.Form.{IsWellFormed};
-ghost use Rattle.analyses.specs.Tools.{ToolState};
 ghost use Rattle.app_plan.specs.Feeding.{fed, AreFedPart, fresh_tools};
 ghost use Rattle.wasabi_app.specs.Feeding.{tally_of};
 ghost use Rattle.wasabi_app.specs.Reporting.{events_told};

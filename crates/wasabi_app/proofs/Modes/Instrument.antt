@@ -1,34 +1,31 @@
 -- What is promised of the mode `instrument`.
-use Rattle.std.proofs.Common.{◌≡◌, ◌≢◌, ℕ, ◌≤◌, ◌<◌, ◌⊎◌, inl, inr, List, [], ◌∷◌, length, refl, sym, ap, subst, ◌∙◌, arith, codes, cond, Bool, true, false, nat_le, bytes_eq, ◌&&◌, ◌||◌, IfSome, All, Option, Some, None, option_map, option_and_then, unwrap_or, find}
+use Rattle.std.proofs.Common.{◌≡◌, ◌≢◌, ℕ, ◌≤◌, inl, inr, List, [], ◌∷◌, length, refl, ap, subst, ◌∙◌, arith, cond, Bool, true, false, nat_le, bytes_eq, ◌||◌, IfSome, All, Option, Some, None, option_map, option_and_then}
 use Rattle.std.proofs.lemmas.List.Elements.{All-nil, All-cons}
 use Rattle.std.proofs.lemmas.Slice.Eq.{bytes_eq-Decides}
 use Rattle.std.proofs.lemmas.Bool.Decides.{nat_tests}
 use Rattle.std.specs.List.{list_any}
-use Rattle.outside_io.specs.Outside.{Contents, WhereKnown, Unchanged, Wrote}
+use Rattle.outside_io.specs.Outside.{Contents}
 use Rattle.module_ast.specs.declared.module.Import.{Import}
 use Rattle.module_ast.specs.declared.module.Module.{Module}
-use Rattle.module_ast.specs.Decoding.{Gram}
 use Rattle.module_ast.specs.Limits.{narrow}
 use Rattle.wasm_sem.specs.Link.{IsFree, is_hook, hook_module}
 use Rattle.instrument.specs.Made.{narrow_file, longest_output}
 use Rattle.instrument.specs.Output.{output_bytes}
-use Rattle.instrument.specs.Accepted.{IsAccepted, IsInstrumented}
 use Rattle.instrument.proofs.OutputSame.{instrumented}
 use Rattle.analyses.specs.Tools.{ToolState}
-use Rattle.wasabi_app.specs.Making.{Line, hook_count, output_length, information_text}
+use Rattle.wasabi_app.specs.Making.{Line, output_length, information_text}
 use Rattle.wasabi_app.specs.Texts.{taken_text, too_large_text}
-use Rattle.app_plan.specs.Printing.{ShelfState, shelf_state, PrintState}
+use Rattle.app_plan.specs.Printing.{ShelfState, PrintState}
 use Rattle.app_plan.proofs.Files.{one_module}
-use Rattle.app_plan.specs.Wants.{module_read, IsRead, Gives}
+use Rattle.app_plan.specs.Wants.{module_read, Gives}
 use Rattle.app_plan.specs.Plans.{no_output, file, Effect, refuses, does, Plan, ends, refusing, LeadsTo, Ending}
 use Rattle.app_plan.specs.Writing.{WroteAll}
-use Rattle.app_plan.specs.Ends.{of_effects, of_prints, IsMade, Ends, IsBut}
+use Rattle.app_plan.specs.Ends.{of_effects, of_prints, IsMade, Ends}
 use Rattle.wasabi_app.specs.Words.{Given, given}
 use Rattle.wasabi_app.proofs.WordLines.{given_bound}
 use Rattle.wasabi_app.specs.Modes.{plan_of, plan_in}
 use Rattle.wasabi_app.specs.Modes.Instrument.{names_hooks, info_files, output_effect, bounded, untaken, hooked, instrument_plan, is_name, line_to, instrument_line, IsLine, IsWritten, IsDone, instrument_mode}
 use Rattle.app_plan.proofs.Telling.{tells_at}
-use Rattle.app_plan.proofs.Deciding.{decides_refusals, decides_effects}
 use Rattle.app_plan.proofs.Within.{Within, FeedsNone, mapped_within}
 
 -- the words' plan is that of the line

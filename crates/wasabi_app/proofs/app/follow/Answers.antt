@@ -5,6 +5,8 @@ use Rattle.wasabi_app.specs.Modes.Check.{check_mode}
 use Rattle.wasabi_app.specs.Modes.Instrument.{instrument_mode}
 use Rattle.wasabi_app.specs.Modes.Run.{run_mode}
 use Rattle.wasabi_app.specs.Modes.Report.{report_mode}
+use Rattle.wasabi_app.specs.Modes.Record.{record_mode}
+use Rattle.wasabi_app.specs.Modes.Replay.{replay_mode}
 use Rattle.wasabi_app.specs.Modes.Trial.{trial_mode}
 use Rattle.wasabi_app.proofs.Modes.{by_name, no_mode}
 use Rattle.wasabi_app.proofs.app.follow.Goals as goal
@@ -25,6 +27,14 @@ pub returns-in-report-clause-ended : goal.returns-in-report-clause-ended
 returns-in-report-clause-ended g c =
     by_name (codes "report") (given_of c.args.given.now) (report_mode.plan (given_of c.args.given.now)) _ _ _ _ c.report.result c.in-report.is refl c.report.ensures.ended
 
+pub returns-in-record-clause-ended : goal.returns-in-record-clause-ended
+returns-in-record-clause-ended g c =
+    by_name (codes "record") (given_of c.args.given.now) (record_mode.plan (given_of c.args.given.now)) _ _ _ _ c.record.result c.in-record.is refl (c.record.ensures.ended _)
+
+pub returns-in-replay-clause-ended : goal.returns-in-replay-clause-ended
+returns-in-replay-clause-ended g c =
+    by_name (codes "replay") (given_of c.args.given.now) (replay_mode.plan (given_of c.args.given.now)) _ _ _ _ c.replay.result c.in-replay.is refl c.replay.ensures.ended
+
 pub returns-in-trial-clause-ended : goal.returns-in-trial-clause-ended
 returns-in-trial-clause-ended g c =
     by_name (codes "trial") (given_of c.args.given.now) (trial_mode.plan (given_of c.args.given.now)) _ _ _ _ c.trial.result c.in-trial.is refl (c.trial.ensures _)
@@ -32,4 +42,4 @@ returns-in-trial-clause-ended g c =
 pub returns-in_default-clause-ended : goal.returns-in_default-clause-ended
 returns-in_default-clause-ended g c =
     no_mode (given_of c.args.given.now) _ _ c.bad_words.result
-    (c.in_default.not-check, (c.in_default.not-instrument, (c.in_default.not-run, (c.in_default.not-report, (c.in_default.not-trial, tt))))) c.bad_words.ensures
+    (c.in_default.not-check, (c.in_default.not-instrument, (c.in_default.not-run, (c.in_default.not-report, (c.in_default.not-record, (c.in_default.not-replay, (c.in_default.not-trial, tt))))))) c.bad_words.ensures

@@ -1,5 +1,5 @@
 -- Why a valid module has no output.
-use Rattle.std.proofs.Common.{◌<◌, ◌≡◌, length, ap, sym, subst, arith, Err}
+use Rattle.std.proofs.Common.{◌<◌, length, ap, subst, arith, Err}
 use Rattle.wasabi_app.specs.Making.{line_of}
 use Rattle.wasabi_app.specs.Texts.{taken_text, too_large_text}
 use Rattle.app_plan.specs.Outcomes.{IsRefusal}

@@ -1,6 +1,5 @@
 -- The output, its information and its line.
 use Rattle.std.proofs.Common.{◌≡◌, Bor, List, ℕ, length, option_map, ap, ◌∙◌, rules}
-use Rattle.std.proofs.lemmas.Result.{err_from_is_err_and}
 use Rattle.static_info.specs.declared.Info.{Info}
 use Rattle.static_info.specs.Json.{info_text}
 use Rattle.wasabi_app.specs.Making.{line_of}

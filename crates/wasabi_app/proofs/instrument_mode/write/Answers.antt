@@ -2,7 +2,7 @@
 use Rattle.std.proofs.Common.{Bor, List, ℕ, option_map, ap, inl}
 use Rattle.std.proofs.lemmas.Result.{IfErr-weaker, err_from_is_err_and, on_ok_weaker}
 use Rattle.wasabi_app.specs.Making.{line_of}
-use Rattle.wasabi_app.proofs.Hooking.{wrote_both, wrote_one, second_unwritten}
+use Rattle.wasabi_app.proofs.Hooking.{wrote_both, second_unwritten}
 use Rattle.wasabi_app.proofs.instrument_mode.write.Goals as goal
 
 pub returns-in_err-put-clause-refused : goal.returns-in_err-put-clause-refused

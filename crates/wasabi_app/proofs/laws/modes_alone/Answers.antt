@@ -1,9 +1,9 @@
 -- What each mode does.
-use Rattle.wasabi_app.proofs.Modes.{one_writes, some_feed, some_make}
+use Rattle.wasabi_app.proofs.Modes.{some_write, some_feed, some_make}
 use Rattle.wasabi_app.proofs.laws.modes_alone.Goals as goal
 
 pub returns-clause-writes : goal.returns-clause-writes
-returns-clause-writes c = one_writes
+returns-clause-writes c = some_write
 
 pub returns-clause-feed : goal.returns-clause-feed
 returns-clause-feed c = some_feed

@@ -1,10 +1,14 @@
 -- A module and a script that do not link, or that were run.
 use Rattle.wasabi_app.proofs.Linked.{fault_within}
-use Rattle.wasabi_app.proofs.Reporting.{fed_tagged, was_reported, not_reported}
+use Rattle.wasabi_app.specs.Reporting.{events_told}
+use Rattle.wasabi_app.proofs.FedReports.{whole_tagged}
+use Rattle.wasabi_app.proofs.Reporting.{was_reported, not_reported}
 use Rattle.wasabi_app.proofs.report_mode.report_run.Goals as goal
 
 pub told-requires : goal.told-requires
-told-requires g c = record { tags = fed_tagged c.args.kinds c.args.info.now c.args.m.now c.args.script _ _ c.requires.fresh c.in-Ok.ensures.fed }
+told-requires g c = record {
+  tags = whole_tagged c.args.kinds (events_told c.args.info.now c.args.m.now c.args.script c.args.script.steps) _ _ c.requires.fresh c.in-Ok.ensures.fed;
+}
 
 pub unlinked-requires : goal.unlinked-requires
 unlinked-requires g c = λ call e. fault_within c.args.m.now c.args.script _ call c.in-Err.ensures.refused e

@@ -1,5 +1,5 @@
 -- The output is that of the module.
-use Rattle.std.proofs.Common.{◌≡◌, ◌∙◌, ◌≤◌, List, ℕ, length, subst, sym}
+use Rattle.std.proofs.Common.{◌∙◌, ◌≤◌, List, ℕ, length, subst, sym}
 use Rattle.std.proofs.lemmas.Result.{err_from_is_err_and}
 use Rattle.instrument.specs.Made.{longest_output}
 use Rattle.instrument.specs.Output.{output}

@@ -1,0 +1,52 @@
+-- A subject, the information on its original and a script, read one after the other.
+use Rattle.std.specs.Prelude.{ℕ, List, Option, Some, Result, Err, option_map, option_and_then}
+use Rattle.module_ast.specs.declared.module.Module.{Module}
+use Rattle.module_ast.specs.Limits.{wide}
+use Rattle.wasm_sem.specs.declared.Script.{Script}
+use Rattle.static_info.specs.declared.Info.{Info}
+use Rattle.analyses.specs.Tools.{ToolState}
+use Rattle.app_plan.specs.declared.told.Printed.{Printed}
+use Rattle.app_plan.specs.declared.told.Refusal.{Refusal}
+use Rattle.app_plan.specs.Files.{wide_file}
+use Rattle.app_plan.specs.Outcomes.{Yields}
+use Rattle.app_plan.specs.Plans.{Plan, reads}
+use Rattle.app_plan.specs.Printing.{ShelfState}
+use Rattle.app_plan.specs.Wants.{module_read, script_read, info_read}
+use Rattle.wasabi_app.specs.declared.told_run.RunNames.{RunNames as ReadRunNames}
+use Rattle.wasabi_app.specs.Words.{Given}
+
+-- their names
+pub record RunNames : Type 0 where
+  pub subject : List ℕ
+  pub info : List ℕ
+  pub script : List ℕ
+
+-- that were read, as their texts
+abbrev pub names_of : ReadRunNames → RunNames
+names_of names = record { subject = names.subject.now; info = names.info.now; script = names.script.now }
+
+-- the information and the script are needed
+abbrev pub run_names : Given → Option RunNames
+run_names g =
+    option_and_then (λ info. option_map (λ script. record { subject = g.subject; info = info; script = script }) g.script) g.info
+
+-- what is done with what they give
+abbrev pub scripted : RunNames → (Module → Info → Script → Plan) → Module → Info → Plan
+scripted names next m info = reads (script_read names.script) (next m info)
+
+abbrev pub informed : RunNames → (Module → Info → Script → Plan) → Module → Plan
+informed names next m = reads (info_read names.info m) (scripted names next m)
+
+abbrev pub told_run : RunNames → (Module → Info → Script → Plan) → Plan
+told_run names next = reads (module_read names.subject wide_file wide) (informed names next)
+
+-- all three were read, and what comes of the rest comes of the whole
+abbrev pub LeadsOn : RunNames → (old mid : ShelfState) → Module → Info → Script → Type 0
+LeadsOn names old mid m info s =
+    (next : Module → Info → Script → Plan) (new : ShelfState) (was is : List ToolState) (result : Result Printed Refusal)
+    → Yields (Some (next m info s)) mid new was is result → Yields (Some (told_run names next)) old new was is result
+
+-- one of them was not, whatever was to be done then
+abbrev pub IsNotLed : RunNames → (old new : ShelfState) → Refusal → Type 0
+IsNotLed names old new refusal =
+    (next : Module → Info → Script → Plan) (tools : List ToolState) → Yields (Some (told_run names next)) old new tools tools (Err refusal)
