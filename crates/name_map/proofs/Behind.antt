@@ -6,12 +6,12 @@ use Rattle.module_ast.specs.declared.module.Module.{Module}
 use Rattle.module_ast.specs.Grammar.{AreItems, id_of, custom_section, Section, IsSection, ModuleNode, with_section, with_sections, AreOrdered, header}
 use Rattle.module_ast.specs.Canonical.{sized_bytes, section_bytes}
 use Rattle.module_ast.specs.Decoding.{Gram}
+use Rattle.module_ast.proofs.Writers.{u32_spelled, front_short, name_writes}
 use Rattle.name_map.specs.Sections.{Chunk, chunk, IsChunk, IsFirstNameSection}
 use Rattle.name_map.specs.Written.{names_bytes, custom_section_of}
 use Rattle.name_map.specs.Laws.{FilesWithoutCustoms, PutKeepsModule, with_custom}
-use Rattle.name_map.proofs.Fronts.{items_join, items_one}
 use Rattle.name_map.proofs.OneNames.{id_byte}
-use Rattle.name_map.proofs.PutRead.{Spelled, front_short, name_spelled, no_module}
+use Rattle.name_map.proofs.PutRead.{items_push, no_module}
 
 -- ---- without custom sections
 
@@ -58,17 +58,17 @@ sections_push : (n : ModuleNode) (ss : List Section) (s : Section) → with_sect
 sections_push n [] s = refl
 sections_push n (t ∷ ss) s = sections_push (with_section t n) ss s
 
-custom_spelled : Spelled → (x : Text) (more : List ℕ) → length (sized_bytes x.bytes ++ more) < 2 ^ 32 → IsSection (section_bytes 0 (sized_bytes x.bytes ++ more)) (custom_section, x)
-custom_spelled spelled x more few =
+custom_spelled : (x : Text) (more : List ℕ) → length (sized_bytes x.bytes ++ more) < 2 ^ 32 → IsSection (section_bytes 0 (sized_bytes x.bytes ++ more)) (custom_section, x)
+custom_spelled x more few =
     let content : List ℕ = sized_bytes x.bytes ++ more in (
       sized_bytes content,
       refl,
-      (unsigned_bytes (length content), content, refl, spelled (length content) few, (sized_bytes x.bytes, more, refl, name_spelled spelled x (front_short (sized_bytes x.bytes) more few))),
+      (unsigned_bytes (length content), content, refl, u32_spelled (length content) few, (sized_bytes x.bytes, more, refl, name_writes.spelled x tt (front_short (sized_bytes x.bytes) more few))),
     )
 
-with_name : Spelled → (file : List ℕ) (m : Module) (x : Text) (more : List ℕ) → Gram file m → length (sized_bytes x.bytes ++ more) < 2 ^ 32
+with_name : (file : List ℕ) (m : Module) (x : Text) (more : List ℕ) → Gram file m → length (sized_bytes x.bytes ++ more) < 2 ^ 32
     → Gram (file ++ section_bytes 0 (sized_bytes x.bytes ++ more)) (with_custom x m)
-with_name spelled file m x more g few =
+with_name file m x more g few =
     let last : List ℕ = section_bytes 0 (sized_bytes x.bytes ++ more) in
     let (rest, is, items, ordered) = g.spelled in
     record {
@@ -76,19 +76,19 @@ with_name spelled file m x more g few =
       spelled = (
         rest ++ last,
         ap (λ k. k ++ last) is ∙ append_assoc header rest last,
-        items_join IsSection rest last g.sections ((custom_section, x) ∷ []) items (items_one IsSection last (custom_section, x) (custom_spelled spelled x more few)),
+        items_push IsSection rest last g.sections (custom_section, x) items (custom_spelled x more few),
         ordered_push 0 g.sections x ordered,
       );
       collected = ap (with_section (custom_section, x)) g.collected ∙ sym (sections_push _ g.sections (custom_section, x));
       bodies = g.bodies;
     }
 
-pub put_keeps_module : Spelled → PutKeepsModule
-put_keeps_module spelled file m names x name some g few = go (names_bytes names) refl
+pub put_keeps_module : PutKeepsModule
+put_keeps_module file m names x name some g few = go (names_bytes names) refl
   where
     go : (bs : List ℕ) → names_bytes names ≡ bs → Gram (file ++ custom_section_of bs) (with_custom x m)
     go [] e = absurd (some (no_module names.module names.functions names.locals e))
     go (b ∷ bs) e =
         let short : length (sized_bytes x.bytes ++ b ∷ bs) < 2 ^ 32 =
         subst (λ k. length (sized_bytes k ++ b ∷ bs) < 2 ^ 32) (sym name) (subst (λ k. length (sized_bytes (codes "name") ++ k) < 2 ^ 32) e few) in
-        subst (λ k. Gram (file ++ section_bytes 0 (sized_bytes k ++ b ∷ bs)) (with_custom x m)) name (with_name spelled file m x (b ∷ bs) g short)
+        subst (λ k. Gram (file ++ section_bytes 0 (sized_bytes k ++ b ∷ bs)) (with_custom x m)) name (with_name file m x (b ∷ bs) g short)

@@ -9,9 +9,11 @@ use Rattle.leb_binary.specs.Texts.{Text}
 use Rattle.leb_binary.specs.Leb.{IsName, IsFront, HasNoFront}
 use Rattle.leb_binary.specs.Fronts.{OneFront}
 use Rattle.leb_binary.specs.Reading.{IsByte, IsSlice}
+use Rattle.leb_binary.proofs.Fronts.{one_unsigned, front_one, one_name, cut}
 use Rattle.module_ast.specs.Grammar.{IsU32, AreItems, IsSized}
+use Rattle.module_ast.proofs.Compose.{Read, one_both, sized_some, sized_short, both_some, both_none_first, both_none_second, sized_none_size}
+use Rattle.module_ast.proofs.Tokens.{one_coded}
 use Rattle.name_map.specs.Sections.{Chunk, chunk, IsChunk, content_of, IsNameSection, IsFirstNameSection}
-use Rattle.name_map.proofs.Fronts.{IsContent, one_byte, one_name, one_content, one_both, front_one, both_some, both_none_first, both_none_second, content_some, content_none, content_short, Read}
 
 -- what holds of any error
 pub on_err : {A E : Type 0} (r : Result A E) {P : Type 0} → P → OnErr r P
@@ -20,8 +22,23 @@ on_err (Err e) p = p
 
 -- ---- one way
 
+one_byte : OneFront IsByte
+one_byte = one_coded IsByte (λ b. b) (λ b. b) (λ b. refl) (λ bytes b h. h.0)
+
+abbrev Content : List ℕ → List ℕ → Type 0
+Content content x = content ≡ x
+
+one_content : OneFront (IsSized Content)
+one_content = record {
+  one = λ a b x y m n (a0, a1, ea, pa, qa) (b0, b1, eb, pb, qb) e.
+      let e1 : a0 ++ (a1 ++ x) ≡ b0 ++ (b1 ++ y) = sym (append_assoc a0 a1 x) ∙ ap (λ l. l ++ x) (sym ea) ∙ e ∙ ap (λ l. l ++ y) eb ∙ append_assoc b0 b1 y in
+      let r = (one_unsigned 32).one a0 b0 (a1 ++ x) (b1 ++ y) (length a1) (length b1) pa pb e1 in
+      let c = cut a1 b1 x y r.value r.rest in
+      record { front = ea ∙ ap (λ l. l ++ a1) r.front ∙ ap (λ l. b0 ++ l) c.0 ∙ sym eb; rest = c.1; value = sym qa ∙ (c.0 ∙ qb) };
+}
+
 one_chunk : OneFront IsChunk
-one_chunk = one_both IsByte (IsSized IsContent) (λ (c : Chunk). c.id) (λ (c : Chunk). c.content) (λ m n p q. ap (λ i. chunk i m.content) p ∙ ap (λ c. chunk n.id c) q) one_byte one_content
+one_chunk = one_both IsByte (IsSized Content) (λ (c : Chunk). c.id) (λ (c : Chunk). c.content) (λ m n p q. ap (λ i. chunk i m.content) p ∙ ap (λ c. chunk n.id c) q) one_byte one_content
 
 -- ---- a size, and the bytes that it cuts out
 
@@ -35,21 +52,21 @@ slice_short n start h = elim (cases_lt (length start) n) [
 ]
 
 pub chunk_none_id : (bytes : List ℕ) → HasNoFront IsByte bytes → HasNoFront IsChunk bytes
-chunk_none_id bytes h = both_none_first IsByte (IsSized IsContent) (λ (c : Chunk). c.id) (λ (c : Chunk). c.content) bytes h
+chunk_none_id bytes h = both_none_first IsByte (IsSized Content) (λ (c : Chunk). c.id) (λ (c : Chunk). c.content) bytes h
 
 pub chunk_none_size : (bytes mid : List ℕ) (id : ℕ) → IsFront IsByte bytes mid id → HasNoFront IsU32 mid → HasNoFront IsChunk bytes
 chunk_none_size bytes mid id f h =
-    both_none_second IsByte (IsSized IsContent) (λ (c : Chunk). c.id) (λ (c : Chunk). c.content) bytes mid id one_byte f (content_none mid h)
+    both_none_second IsByte (IsSized Content) (λ (c : Chunk). c.id) (λ (c : Chunk). c.content) bytes mid id one_byte f (sized_none_size Content mid h)
 
 pub chunk_short : (bytes mid start : List ℕ) (id n : ℕ) → IsFront IsByte bytes mid id → IsFront IsU32 mid start n → HasNoFront (IsSlice n) start → HasNoFront IsChunk bytes
 chunk_short bytes mid start id n f c h =
-    both_none_second IsByte (IsSized IsContent) (λ (c : Chunk). c.id) (λ (c : Chunk). c.content) bytes mid id one_byte f (content_short mid start n c (slice_short n start h))
+    both_none_second IsByte (IsSized Content) (λ (c : Chunk). c.id) (λ (c : Chunk). c.content) bytes mid id one_byte f (sized_short Content mid start n c (slice_short n start h))
 
 pub chunk_some : (bytes mid start rest content : List ℕ) (id n : ℕ) → IsFront IsByte bytes mid id → IsFront IsU32 mid start n → IsFront (IsSlice n) start rest content → IsFront IsChunk bytes rest (chunk id content)
 chunk_some bytes mid start rest content id n f c s =
     let p = slice_parts n start rest content s in
-    both_some IsByte (IsSized IsContent) bytes mid rest id content f
-    (content_some mid start rest content (subst (λ k. IsFront IsU32 mid start k) (sym p.1) c) p.0)
+    both_some IsByte (IsSized Content) bytes mid rest id content f
+    (sized_some Content mid start content rest content (subst (λ k. IsFront IsU32 mid start k) (sym p.1) c) p.0 refl)
 
 pub chunk_shorter : (bytes rest : List ℕ) (c : Chunk) → IsFront IsChunk bytes rest c → length rest < length bytes
 chunk_shorter bytes rest c (front, e, (a, b, d, (i, j), s)) =

@@ -1,14 +1,16 @@
 -- Name maps: bytes have them in one way, and indices rise as long as each is above those before.
-use Rattle.std.proofs.Common.{◌≡◌, ℕ, suc, List, [], ◌∷◌, ◌++◌, map, Bool, true, false, ◌&&◌, nat_le, true≢false, refl, ap, sym, ◌∙◌}
+use Rattle.std.proofs.Common.{◌≡◌, ℕ, suc, List, [], ◌∷◌, ◌++◌, map, Bool, false, ◌&&◌, nat_le, true≢false, refl, ap, sym, ◌∙◌}
 use Rattle.std.proofs.lemmas.List.{map_push}
+use Rattle.std.proofs.Math.Bool.{and_assoc, and-true}
 use Rattle.leb_binary.specs.Texts.{Text}
 use Rattle.leb_binary.specs.Leb.{IsName, IsFront, HasNoFront}
 use Rattle.leb_binary.specs.Fronts.{OneFront}
+use Rattle.leb_binary.proofs.Fronts.{one_unsigned, one_name, front_one}
 use Rattle.module_ast.specs.Grammar.{IsU32, IsVec}
+use Rattle.module_ast.proofs.Compose.{one_both, one_vec}
 use Rattle.name_map.specs.declared.Named.{Named}
 use Rattle.name_map.specs.declared.Locals.{Locals}
 use Rattle.name_map.specs.NameMaps.{rises_from, Rises, IsRisingVec, IsNameEntry, IsNameMap, IsLocalsEntry, IsIndirectNameMap}
-use Rattle.name_map.proofs.Fronts.{one_u32, one_name, one_both, one_vec, front_one}
 
 -- ---- rising numbers
 
@@ -17,17 +19,9 @@ abbrev pub after : (least : ℕ) → List ℕ → ℕ
 after least [] = least
 after least (i ∷ is) = after (suc i) is
 
-and_assoc : (a b c : Bool) → (a && (b && c)) ≡ ((a && b) && c)
-and_assoc true b c = refl
-and_assoc false b c = refl
-
-and_true : (a : Bool) → (a && true) ≡ a
-and_true true = refl
-and_true false = refl
-
 rises_push : (least : ℕ) (is : List ℕ) (j : ℕ) → rises_from least (is ++ j ∷ []) ≡ (rises_from least is && nat_le (after least is) j)
-rises_push least [] j = and_true (nat_le least j)
-rises_push least (i ∷ is) j = ap (λ b. nat_le least i && b) (rises_push (suc i) is j) ∙ and_assoc (nat_le least i) (rises_from (suc i) is) (nat_le (after (suc i) is) j)
+rises_push least [] j = and-true (nat_le least j)
+rises_push least (i ∷ is) j = ap (λ b. nat_le least i && b) (rises_push (suc i) is j) ∙ sym (and_assoc (nat_le least i) (rises_from (suc i) is) (nat_le (after (suc i) is) j))
 
 after_push : (least : ℕ) (is : List ℕ) (j : ℕ) → after least (is ++ j ∷ []) ≡ suc j
 after_push least [] j = refl
@@ -49,7 +43,7 @@ abbrev named : ℕ → Text → Named
 named index name = record { index = index; name = name }
 
 pub one_named : OneFront IsNameEntry
-one_named = one_both IsU32 IsName (λ (n : Named). n.index) (λ (n : Named). n.name) (λ m n p q. ap (λ i. named i m.name) p ∙ ap (λ t. named n.index t) q) one_u32 one_name
+one_named = one_both IsU32 IsName (λ (n : Named). n.index) (λ (n : Named). n.name) (λ m n p q. ap (λ i. named i m.name) p ∙ ap (λ t. named n.index t) q) (one_unsigned 32) one_name
 
 pub one_rising : {A : Type 0} (entry : List ℕ → A → Type 0) (index : A → ℕ) → OneFront entry → OneFront (IsRisingVec entry index)
 one_rising entry index o = record { one = λ a b x y m n p q e. (one_vec entry o).one a b x y m n p.0 q.0 e }
@@ -61,7 +55,7 @@ abbrev inner : ℕ → List Named → Locals
 inner func names = record { func = func; names = names }
 
 pub one_locals : OneFront IsLocalsEntry
-one_locals = one_both IsU32 IsNameMap (λ (l : Locals). l.func) (λ (l : Locals). l.names) (λ m n p q. ap (λ i. inner i m.names) p ∙ ap (λ t. inner n.func t) q) one_u32 one_map
+one_locals = one_both IsU32 IsNameMap (λ (l : Locals). l.func) (λ (l : Locals). l.names) (λ m n p q. ap (λ i. inner i m.names) p ∙ ap (λ t. inner n.func t) q) (one_unsigned 32) one_map
 
 pub one_indirect : OneFront IsIndirectNameMap
 one_indirect = one_rising IsLocalsEntry (λ l. l.func) one_locals

@@ -5,9 +5,10 @@ use Rattle.std.proofs.lemmas.List.{append_cancel_left}
 use Rattle.leb_binary.specs.Texts.{Text}
 use Rattle.leb_binary.specs.Leb.{IsName}
 use Rattle.leb_binary.specs.Fronts.{OneFront}
+use Rattle.leb_binary.proofs.Fronts.{one_name, front_one}
 use Rattle.module_ast.specs.Grammar.{AreItems, Kind, id_of, custom_section, Section, IsSection, header}
 use Rattle.index_remap.specs.declared.Remap.{Remap}
-use Rattle.index_remap.specs.Remap.{map_index, unmap_index}
+use Rattle.index_remap.proofs.Mapped.{unmapped}
 use Rattle.name_map.specs.declared.Named.{Named}
 use Rattle.name_map.specs.declared.Locals.{Locals}
 use Rattle.name_map.specs.declared.Names.{Names}
@@ -15,7 +16,6 @@ use Rattle.name_map.specs.NameMaps.{IsNameMap, IsIndirectNameMap}
 use Rattle.name_map.specs.Names.{map_named, map_locals, unmap_named, unmap_locals, known_names}
 use Rattle.name_map.specs.Sections.{Chunk, chunk, IsChunk, content_of, IsModuleNameIn, AreEntriesIn, IsNameData, IsNameSection, IsFirstNameSection, AreNamesIn}
 use Rattle.name_map.specs.Laws.{ModulesAreFiles, NamesAreOne, NamesComeBack}
-use Rattle.name_map.proofs.Fronts.{one_name, front_one}
 use Rattle.name_map.proofs.Forms.{one_map, one_indirect}
 use Rattle.name_map.proofs.Chunks.{one_list}
 
@@ -95,16 +95,15 @@ names_are_one bytes functions m n (rest, cs, o, e, items, first, told) (other, d
 
 -- ---- there and back
 
-module _ (back : (r : Remap) (f : ℕ) → unmap_index r (map_index r f) ≡ Some f) where
-  back_functions : (r : Remap) (ns : List Named) → filter_map (unmap_named r) (map (map_named r) ns) ≡ ns
-  back_functions r [] = refl
-  back_functions r (n ∷ ns) =
-      ap₂ (λ (o : Option Named) (l : List Named). cons_option o l) (ap (option_map (λ (i : ℕ). record n { index = i })) (back r n.index)) (back_functions r ns)
+back_functions : (r : Remap) (ns : List Named) → filter_map (unmap_named r) (map (map_named r) ns) ≡ ns
+back_functions r [] = refl
+back_functions r (n ∷ ns) =
+    ap₂ (λ (o : Option Named) (l : List Named). cons_option o l) (ap (option_map (λ (i : ℕ). record n { index = i })) (unmapped r n.index)) (back_functions r ns)
 
-  back_locals : (r : Remap) (ls : List Locals) → filter_map (unmap_locals r) (map (map_locals r) ls) ≡ ls
-  back_locals r [] = refl
-  back_locals r (l ∷ ls) =
-      ap₂ (λ (o : Option Locals) (ms : List Locals). cons_option o ms) (ap (option_map (λ (f : ℕ). record l { func = f })) (back r l.func)) (back_locals r ls)
+back_locals : (r : Remap) (ls : List Locals) → filter_map (unmap_locals r) (map (map_locals r) ls) ≡ ls
+back_locals r [] = refl
+back_locals r (l ∷ ls) =
+    ap₂ (λ (o : Option Locals) (ms : List Locals). cons_option o ms) (ap (option_map (λ (f : ℕ). record l { func = f })) (unmapped r l.func)) (back_locals r ls)
 
-  pub names_come_back : NamesComeBack
-  names_come_back r names = ap₂ (all_names names.module) (back_functions r names.functions) (back_locals r names.locals)
+pub names_come_back : NamesComeBack
+names_come_back r names = ap₂ (all_names names.module) (back_functions r names.functions) (back_locals r names.locals)

@@ -4,6 +4,7 @@ use Rattle.std.specs.Prelude.{All}
 use Rattle.std.proofs.lemmas.Bool.Decides.{nat_tests}
 use Rattle.std.proofs.lemmas.Bool.{and_parts, and_from, leb-true, le-leb, ltb-true}
 use Rattle.std.proofs.lemmas.List.Elements.{All-nil, All-cons, All-map, All-weaker, All-filter, filter_passes}
+use Rattle.leb_binary.proofs.Numbers.{below_of_unsigned}
 use Rattle.module_ast.specs.Grammar.{AreItems, IsVec}
 use Rattle.index_remap.specs.declared.Remap.{Remap}
 use Rattle.index_remap.specs.Remap.{map_index}
@@ -14,7 +15,6 @@ use Rattle.name_map.specs.NameMaps.{rises_from, Rises, IsRisingVec, IsNameEntry,
 use Rattle.name_map.specs.Names.{no_names, known_names, map_named, map_locals}
 use Rattle.name_map.specs.Sections.{content_of, AreEntriesIn, IsNameData, AreNamesIn}
 use Rattle.name_map.specs.Laws.{AreProper, ReadAreProper, MapKeepsProper}
-use Rattle.name_map.proofs.Fronts.{below_size}
 
 -- ---- what rises
 
@@ -92,7 +92,7 @@ vec_all : {A : Type 0} (item : List ℕ → A → Type 0) (P : A → Type 0) →
 vec_all item P read bytes xs (front, rest, e, n, items) = items_all item P read rest xs items
 
 named_below : (bytes : List ℕ) (n : Named) → IsNameEntry bytes n → n.index < 2 ^ 32
-named_below bytes n (front, rest, e, i, name) = below_size 32 front n.index i
+named_below bytes n (front, rest, e, i, name) = below_of_unsigned 32 front n.index i
 
 locals_inner : (bytes : List ℕ) (l : Locals) → IsLocalsEntry bytes l → AreInner l
 locals_inner bytes l (front, rest, e, i, (names, rises)) = (vec_all IsNameEntry (λ (n : Named). n.index < 2 ^ 32) named_below rest l.names names, rises)

@@ -1,7 +1,7 @@
 use Rattle.std.proofs.Common.{List, [], ◌∷◌, ◌++◌, length, ◌==◌, ap, ap₂, sym, ◌∙◌, arith}
 use Rattle.std.specs.Option.{option_or}
 use Rattle.module_ast.specs.Grammar.{AreItems}
-use Rattle.name_map.proofs.Fronts.{read_more}
+use Rattle.module_ast.proofs.Compose.{read_more}
 use Rattle.name_map.specs.Sections.{Chunk, chunk, IsChunk}
 use Rattle.name_map.proofs.Chunks.{on_err, not_chunks, content_push, seen, seen_or, seen_then}
 use Rattle.name_map.proofs.chunk.find_chunk.Goals as goal

@@ -1,5 +1,5 @@
 use Rattle.std.proofs.Common.{◌≡◌, List, length}
-use Rattle.name_map.proofs.Fronts.{Read}
+use Rattle.module_ast.proofs.Compose.{Read}
 use Rattle.name_map.specs.Sections.{Chunk, IsChunk, content_of}
 use Rattle.name_map.proofs.Chunks.{seen}
 use Rattle.name_map.proofs.chunk.find_chunk.Given as goal

@@ -1,5 +1,5 @@
 use Rattle.std.proofs.Common.{length, ap, arith, rules, subst}
-use Rattle.name_map.proofs.Fronts.{whole_missing, whole_none}
+use Rattle.module_ast.proofs.Compose.{whole_missing, whole_none}
 use Rattle.name_map.specs.NameMaps.{IsRisingVec}
 use Rattle.name_map.specs.Sections.{AreEntriesIn}
 use Rattle.name_map.proofs.Chunks.{seen}

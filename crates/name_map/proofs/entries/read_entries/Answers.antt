@@ -1,5 +1,5 @@
 use Rattle.std.proofs.Common.{[], ◌∷◌, length-append, sym, ◌∙◌, arith, rules}
-use Rattle.name_map.proofs.Fronts.{read_more, vec_none, vec_stuck, vec_some}
+use Rattle.module_ast.proofs.Compose.{read_more, vec_none, vec_stuck, vec_some}
 use Rattle.name_map.proofs.Forms.{entries_rise, entries_after, rising_none, rising_some, rising_falls}
 use Rattle.name_map.proofs.entries.read_entries.Goals as goal
 

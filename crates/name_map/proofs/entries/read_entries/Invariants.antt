@@ -1,5 +1,5 @@
 use Rattle.std.proofs.Common.{◌≡◌, length, map}
-use Rattle.name_map.proofs.Fronts.{Read}
+use Rattle.module_ast.proofs.Compose.{Read}
 use Rattle.name_map.specs.NameMaps.{rises_from}
 use Rattle.name_map.proofs.Forms.{after}
 use Rattle.name_map.proofs.entries.read_entries.Given as goal

@@ -1,5 +1,5 @@
 use Rattle.std.proofs.Common.{[], ◌∷◌, ◌++◌, ap, sym, ◌∙◌, subst}
-use Rattle.name_map.proofs.Fronts.{read_more}
+use Rattle.module_ast.proofs.Compose.{read_more}
 use Rattle.name_map.specs.Sections.{chunk, IsChunk, IsNameSection, IsFirstNameSection}
 use Rattle.name_map.proofs.Chunks.{all_chunks, first_push, seen, seen_or, seen_matches}
 use Rattle.name_map.proofs.section.find_section.Goals as goal

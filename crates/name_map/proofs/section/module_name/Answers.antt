@@ -1,8 +1,8 @@
 use Rattle.std.proofs.Common.{length, Option, Some, None, ap, arith, rules, subst}
 use Rattle.leb_binary.specs.Texts.{Text}
 use Rattle.leb_binary.specs.Leb.{IsName}
-use Rattle.name_map.proofs.Fronts.{one_name}
-use Rattle.name_map.proofs.Fronts.{whole_missing, whole_none}
+use Rattle.leb_binary.proofs.Fronts.{one_name}
+use Rattle.module_ast.proofs.Compose.{whole_missing, whole_none}
 use Rattle.name_map.specs.Sections.{IsModuleNameIn}
 use Rattle.name_map.proofs.Chunks.{seen}
 use Rattle.name_map.proofs.section.module_name.Goals as goal

@@ -1,9 +1,9 @@
 use Rattle.std.proofs.Common.{rules}
 use Rattle.leb_binary.specs.Leb.{IsName}
+use Rattle.leb_binary.proofs.Fronts.{one_unsigned}
 use Rattle.module_ast.specs.Grammar.{IsU32}
-use Rattle.name_map.proofs.Fronts.{both_some, both_none_first, both_none_second}
+use Rattle.module_ast.proofs.Compose.{both_some, both_none_first, both_none_second}
 use Rattle.name_map.specs.declared.Named.{Named}
-use Rattle.name_map.proofs.Fronts.{one_u32}
 use Rattle.name_map.proofs.entry.NamedEntry.read.Goals as goal
 
 pub returns-in_err-index-clause-malformed : goal.returns-in_err-index-clause-malformed
@@ -11,7 +11,7 @@ returns-in_err-index-clause-malformed c = λ e. both_none_first IsU32 IsName (λ
 
 pub returns-in_err-name-clause-malformed : goal.returns-in_err-name-clause-malformed
 returns-in_err-name-clause-malformed c = λ e.
-    both_none_second IsU32 IsName (λ (n : Named). n.index) (λ (n : Named). n.name) _ _ _ one_u32 c.in_ok-index.ensures.ok.1 (c.in_err-name.ensures.malformed (search rules))
+    both_none_second IsU32 IsName (λ (n : Named). n.index) (λ (n : Named). n.name) _ _ _ (one_unsigned 32) c.in_ok-index.ensures.ok.1 (c.in_err-name.ensures.malformed (search rules))
 
 pub returns-clause-ok : goal.returns-clause-ok
 returns-clause-ok c = both_some IsU32 IsName _ _ _ _ c.in_ok-name.name c.in_ok-index.ensures.ok.1 c.in_ok-name.ensures.ok
