@@ -3,7 +3,7 @@
 
     wasabi report OUTPUT .. --reports blocks,branches | coverage_page.py MODULE INFORMATION SOURCE > PAGE
 
-MODULE is the original, made by clang with -gdwarf-4, and INFORMATION that of its output, which has at least the GROUPS. How
+What wasabi replay prints will do too. MODULE is the original, made by clang with -gdwarf-4, and INFORMATION that of its output, which has at least the GROUPS. How
 often parts began and branches were taken tells how often each instruction ran, also behind a branch that leaves a part. A line
 shows the greatest number of its instructions. A call that traps, or is out of steps, counts as if it went on to the next branch.
 """
@@ -98,7 +98,8 @@ def main():
     with open(source, encoding="utf-8") as file:
         lines = file.read().splitlines()
     report = sys.stdin.read()
-    if not GROUPS <= set(told["groups"]) or "\nreport blocks " not in report or "\nreport branches " not in report:
+    kinds = re.findall(r"^report (\w+) ", report, re.M)
+    if not GROUPS <= set(told["groups"]) or not {"blocks", "branches"} <= set(kinds):
         sys.exit("a report with blocks and branches is needed, of an output with the groups " + ",".join(sorted(GROUPS)))
     name = os.path.basename(source)
     print("\n".join(page(name, lines, counts_of_lines(module, told["imports"], name, report))))
