@@ -142,6 +142,11 @@ pub enum NumOp {
     I32WrapI64 = 0xA7,
     I64ExtendI32S = 0xAC,
     I64ExtendI32U = 0xAD,
+    I32Extend8S = 0xC0,
+    I32Extend16S = 0xC1,
+    I64Extend8S = 0xC2,
+    I64Extend16S = 0xC3,
+    I64Extend32S = 0xC4,
 }
 
 impl NumOp {
@@ -150,7 +155,7 @@ impl NumOp {
     ghost use Rattle.wasm_num.specs.Opcodes.{num_opcode, num_of_opcode};
 
     /// Each number instruction once, in the order of their opcodes.
-    pub const ALL: [NumOp; 61] = [
+    pub const ALL: [NumOp; 66] = [
         NumOp::I32Eqz,
         NumOp::I32Eq,
         NumOp::I32Ne,
@@ -212,6 +217,11 @@ impl NumOp {
         NumOp::I32WrapI64,
         NumOp::I64ExtendI32S,
         NumOp::I64ExtendI32U,
+        NumOp::I32Extend8S,
+        NumOp::I32Extend16S,
+        NumOp::I64Extend8S,
+        NumOp::I64Extend16S,
+        NumOp::I64Extend32S,
     ];
 
     /// The byte that it is written as. (Standard, 5.4.5)
@@ -287,6 +297,11 @@ impl NumOp {
             0xA7 => Some(NumOp::I32WrapI64),
             0xAC => Some(NumOp::I64ExtendI32S),
             0xAD => Some(NumOp::I64ExtendI32U),
+            0xC0 => Some(NumOp::I32Extend8S),
+            0xC1 => Some(NumOp::I32Extend16S),
+            0xC2 => Some(NumOp::I64Extend8S),
+            0xC3 => Some(NumOp::I64Extend16S),
+            0xC4 => Some(NumOp::I64Extend32S),
             _ => None,
         }
     }
@@ -305,8 +320,10 @@ impl NumOp {
         match self {
             NumOp::I32Eqz | NumOp::I32Clz | NumOp::I32Ctz | NumOp::I32Popcnt => &[ValType::I32],
             NumOp::I64ExtendI32S | NumOp::I64ExtendI32U => &[ValType::I32],
+            NumOp::I32Extend8S | NumOp::I32Extend16S => &[ValType::I32],
             NumOp::I64Eqz | NumOp::I64Clz | NumOp::I64Ctz | NumOp::I64Popcnt => &[ValType::I64],
             NumOp::I32WrapI64 => &[ValType::I64],
+            NumOp::I64Extend8S | NumOp::I64Extend16S | NumOp::I64Extend32S => &[ValType::I64],
             NumOp::I32Eq | NumOp::I32Ne | NumOp::I32LtS | NumOp::I32LtU => &[
                 ValType::I32,
                 ValType::I32,
@@ -344,6 +361,7 @@ impl NumOp {
             NumOp::I64Xor | NumOp::I64Shl | NumOp::I64ShrS | NumOp::I64ShrU => ValType::I64,
             NumOp::I64Rotl | NumOp::I64Rotr => ValType::I64,
             NumOp::I64ExtendI32S | NumOp::I64ExtendI32U => ValType::I64,
+            NumOp::I64Extend8S | NumOp::I64Extend16S | NumOp::I64Extend32S => ValType::I64,
             NumOp::I32Eqz | NumOp::I32Eq | NumOp::I32Ne | NumOp::I32LtS => ValType::I32,
             NumOp::I32LtU | NumOp::I32GtS | NumOp::I32GtU | NumOp::I32LeS => ValType::I32,
             NumOp::I32LeU | NumOp::I32GeS | NumOp::I32GeU | NumOp::I64Eqz => ValType::I32,
@@ -354,7 +372,7 @@ impl NumOp {
             NumOp::I32DivS | NumOp::I32DivU | NumOp::I32RemS | NumOp::I32RemU => ValType::I32,
             NumOp::I32And | NumOp::I32Or | NumOp::I32Xor | NumOp::I32Shl => ValType::I32,
             NumOp::I32ShrS | NumOp::I32ShrU | NumOp::I32Rotl | NumOp::I32Rotr => ValType::I32,
-            NumOp::I32WrapI64 => ValType::I32,
+            NumOp::I32WrapI64 | NumOp::I32Extend8S | NumOp::I32Extend16S => ValType::I32,
         }
     }
 
@@ -424,6 +442,11 @@ impl NumOp {
             NumOp::I32WrapI64 => "i32.wrap_i64",
             NumOp::I64ExtendI32S => "i64.extend_i32_s",
             NumOp::I64ExtendI32U => "i64.extend_i32_u",
+            NumOp::I32Extend8S => "i32.extend8_s",
+            NumOp::I32Extend16S => "i32.extend16_s",
+            NumOp::I64Extend8S => "i64.extend8_s",
+            NumOp::I64Extend16S => "i64.extend16_s",
+            NumOp::I64Extend32S => "i64.extend32_s",
         }
     }
 }
