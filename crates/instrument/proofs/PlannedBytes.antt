@@ -10,7 +10,7 @@ use Rattle.hook_mono.specs.declared.HookKey.{HookKey}
 use Rattle.index_remap.specs.declared.Remap.{Remap}
 use Rattle.wasm_encode.specs.Outline.{front_bytes, back_bytes, entries_bytes, code_head}
 use Rattle.wasm_encode.proofs.Outlines.{in_three}
-use Rattle.wasm_encode.proofs.Short.{unsigned_ten}
+use Rattle.leb_binary.proofs.Lengths.{unsigned_ten}
 use Rattle.instrument.specs.Output.{hook_types, hook_import, hook_imports, output, output_bytes}
 use Rattle.instrument.specs.Plan.{Plan, plan_keys, IsPlanned, new_bodies, new_outline, body_length}
 use Rattle.instrument.proofs.CanRewrites.{keys_few}

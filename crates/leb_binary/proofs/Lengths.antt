@@ -1,5 +1,5 @@
 -- How long the shortest spellings are: no signed spelling is shorter, and a greater unsigned number has no fewer bytes.
-use Rattle.std.proofs.Common.{◌≡◌, ℕ, zero, suc, ◌+◌, ◌-◌, ◌*◌, ◌/◌, ◌<◌, ◌≤◌, inl, inr, List, [], ◌∷◌, length, ap, arith}
+use Rattle.std.proofs.Common.{◌≡◌, ℕ, zero, suc, ◌+◌, ◌-◌, ◌*◌, ◌/◌, ◌^◌, ◌<◌, ◌≤◌, inl, inr, List, [], ◌∷◌, length, ap, arith}
 use Rattle.std.specs.Prelude.{ℤ, pos, negsuc, ◌+ℤ◌, ◌-ℤ◌, ◌*ℤ◌}
 use Rattle.std.proofs.lemmas.Bool.{cases_lt}
 use Rattle.std.proofs.lemmas.Int.{ints}
@@ -105,3 +105,10 @@ few_negative (suc more) n h =
       | inl l ↦ let r = ap length (negative_last n l) in omega arith
       | inr g ↦ let r = ap length (negative_next n g) in let k = few_negative more (n / 128) (omega arith) in omega arith
     ]
+
+-- at most 5 bytes for 32 bits, and 10 for 64
+pub unsigned_five : (n : ℕ) → n < 2 ^ 32 → length (unsigned_bytes n) ≤ 5
+unsigned_five n h = few_unsigned 4 n (omega (arith, h))
+
+pub unsigned_ten : (n : ℕ) → n < 2 ^ 64 → length (unsigned_bytes n) ≤ 10
+unsigned_ten n h = few_unsigned 9 n (omega (arith, h))

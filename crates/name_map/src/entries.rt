@@ -10,9 +10,8 @@ ghost use Rattle.name_map.specs.Sections.{AreEntriesIn};
 
 use crate::entry::Entry;
 use crate::fault::Fault;
-use crate::written::put_size;
 use index_remap::Remap;
-use leb_binary::Cursor;
+use leb_binary::{Cursor, put_u64};
 use module_ast::seq::Seq;
 use std::alloc::{AllocError, Global};
 
@@ -77,7 +76,7 @@ pub fn entries_below<E: Entry>(entries: Seq<E>, bound: u32) -> Seq<E>
 pub fn put_entries<E: Entry>(out: &mut Vec<u8>, entries: &[E]) -> Result<(), AllocError>
     ensures { OnOk result (out.new.items ≡ out.old.items ++ vec_bytes E.bytes entries.now) }
 {
-    put_size(out, entries.len() as u64)?;
+    put_u64(out, entries.len() as u64)?;
     for entry in entries {
         entry.put(out)?;
     }

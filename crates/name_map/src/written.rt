@@ -1,7 +1,6 @@
 // The `name` section of names.
 
 ghost use Rattle.std.specs.Prelude.{◌≡◌, ◌++◌, OnOk, OnErr};
-ghost use Rattle.leb_binary.specs.Shortest.{unsigned_bytes};
 ghost use Rattle.module_ast.specs.Canonical.{sized_bytes, section_bytes, vec_section};
 ghost use Rattle.name_map.specs.Written.{module_name_bytes, names_bytes, name_section_bytes};
 
@@ -9,27 +8,15 @@ use crate::Names;
 use crate::entries::put_entries;
 use crate::entry::Entry;
 use crate::section::{CUSTOM, FUNCTIONS, LOCALS, MODULE, NAME};
+use leb_binary::put_u64;
 use module_ast::name::Name;
 use std::alloc::{AllocError, Global};
-
-// Adds a size or a count in its shortest spelling (5.2.2). After an `Err` it is not told what was added; so it is below.
-pub fn put_size(out: &mut Vec<u8>, size: u64) -> Result<(), AllocError>
-    ensures { OnOk result (out.new.items ≡ out.old.items ++ unsigned_bytes size) }
-{
-    let mut rest = size;
-    while rest >= 128 {
-        out.push(128 + (rest % 128) as u8)?;
-        rest /= 128;
-    }
-    out.push(rest as u8)?;
-    Ok(())
-}
 
 // Adds the number of these bytes, and the bytes.
 pub fn put_sized(out: &mut Vec<u8>, bytes: &[u8]) -> Result<(), AllocError>
     ensures { OnOk result (out.new.items ≡ out.old.items ++ sized_bytes bytes.now) }
 {
-    put_size(out, bytes.len() as u64)?;
+    put_u64(out, bytes.len() as u64)?;
     out.extend_from_slice(bytes)?;
     Ok(())
 }

@@ -43,10 +43,11 @@ use hook_mono::HookTable;
 use hook_select::{GroupName, Hooks};
 use i64_split::{Temp, push_each, push_gets};
 use index_remap::Remap;
+use leb_binary::unsigned_length;
 use module_ast::code::Instr;
 use module_ast::module::Group;
 use std::alloc::{AllocError, Global};
-use wasm_encode::{plain_length, unsigned_length};
+use wasm_encode::plain_length;
 use wasm_num::{BlockKind, NoMemory, ValType};
 
 // The bytes of instructions without sequences in them.

@@ -4,7 +4,6 @@
 mod codes;
 mod field;
 pub mod laws;
-mod lengths;
 mod numbers;
 mod put;
 mod reader;

@@ -6,8 +6,7 @@ ghost use Rattle.leb_binary.specs.Shortest.{unsigned_bytes, signed_bytes};
 ghost use Rattle.trace_file.specs.Fields.{FitsNumber};
 
 use crate::field::{ReadTraceFault, Take};
-use crate::lengths::{signed_length, unsigned_length};
-use leb_binary::Cursor;
+use leb_binary::{Cursor, signed_length, unsigned_length};
 use std::alloc::Global;
 
 impl Take for u8 {
@@ -33,7 +32,7 @@ impl Take for u32 {
         let Ok(number) = cursor.read_u32() else {
             return Err(ReadTraceFault::NotTrace);
         };
-        if left - cursor.left() != unsigned_length(number) {
+        if (left - cursor.left()) as u64 != unsigned_length(u64::from(number)) {
             return Err(ReadTraceFault::NotTrace);
         }
         Ok(number)
@@ -50,7 +49,7 @@ impl Take for i32 {
         let Ok(number) = cursor.read_s32() else {
             return Err(ReadTraceFault::NotTrace);
         };
-        if left - cursor.left() != signed_length(i64::from(number)) {
+        if (left - cursor.left()) as u64 != signed_length(i64::from(number)) {
             return Err(ReadTraceFault::NotTrace);
         }
         Ok(number)
@@ -67,7 +66,7 @@ impl Take for i64 {
         let Ok(number) = cursor.read_s64() else {
             return Err(ReadTraceFault::NotTrace);
         };
-        if left - cursor.left() != signed_length(number) {
+        if (left - cursor.left()) as u64 != signed_length(number) {
             return Err(ReadTraceFault::NotTrace);
         }
         Ok(number)

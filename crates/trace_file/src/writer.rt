@@ -4,11 +4,10 @@ ghost use Rattle.std.specs.Prelude.{◌≡◌, ◌+◌, ◌≤◌, [], drop, len
 ghost use Rattle.trace_file.specs.Files.{header, ending, file_bytes, Writing, IsWithin, IsBegun, IsEmptyOrBegun, with_event};
 ghost use Rattle.trace_file.specs.Rows.{FitsEvent};
 
-use crate::lengths::unsigned_length;
 use crate::put::{TraceFault, put_byte};
 use crate::write::put_event;
 use hook_select::Event;
-use leb_binary::put_u32;
+use leb_binary::{put_u32, unsigned_length};
 use std::alloc::{AllocError, Global};
 use std::marker::Model;
 
@@ -78,7 +77,7 @@ impl TraceWriter {
         };
         begin(&mut self.file)?;
         let length = self.file.len() as u64 + self.next.len() as u64;
-        let ending = 1 + unsigned_length(count) as u64;
+        let ending = 1 + unsigned_length(u64::from(count));
         if length > self.max || ending > self.max - length {
             return Err(TraceFault::TooLarge);
         }

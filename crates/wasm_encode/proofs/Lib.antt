@@ -1,7 +1,6 @@
 mod Adding
 pub mod Outlines
 pub mod Rooms
-pub mod Short
 mod Fitting
 mod Runs
 pub mod Totals

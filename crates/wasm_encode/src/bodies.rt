@@ -6,9 +6,10 @@ ghost use Rattle.module_ast.specs.Fits.{FitsCode};
 ghost use Rattle.module_ast.specs.Canonical.{vec_section};
 ghost use Rattle.wasm_encode.specs.Outline.{entry_bytes, entries_bytes};
 
-use crate::numbers::{put_sized, unsigned_length};
+use crate::numbers::put_sized;
 use crate::outline::{code_section_length, put_code_head};
 use crate::vectors::Encode;
+use leb_binary::{put_u64, unsigned_length};
 use module_ast::module::Body;
 use std::alloc::{AllocError, Global};
 

@@ -9,7 +9,8 @@ ghost use Rattle.module_ast.specs.Fits.{FitsIndex, FitsMemArg, FitsCode};
 ghost use Rattle.module_ast.specs.Canonical.{vec_bytes, mem_arg_bytes, code_bytes, expr_bytes};
 ghost use Rattle.wasm_encode.specs.Lengths.{most_bytes};
 
-use crate::numbers::{index_length, signed_length, unsigned_length};
+use crate::numbers::index_length;
+use leb_binary::{signed_length, unsigned_length};
 use module_ast::code::{Code, Instr};
 use module_ast::ops::MemArg;
 

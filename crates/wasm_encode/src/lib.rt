@@ -23,7 +23,6 @@ mod whole;
 
 use crate::bodies::entries_length;
 pub use crate::code_length::plain_length;
-pub use crate::numbers::unsigned_length;
 pub use crate::outline::{Outline, code_section_length, put_code_head, put_entry};
 use crate::whole::{module_length, spell_module};
 use module_ast::module::Module;

@@ -5,10 +5,10 @@ ghost use Rattle.leb_binary.specs.Shortest.{unsigned_bytes};
 ghost use Rattle.module_ast.specs.Canonical.{body_bytes, vec_section, func_type_bytes, import_bytes, table_bytes, limits_bytes, global_bytes, export_bytes, start_bytes, element_bytes};
 ghost use Rattle.wasm_encode.specs.Outline.{front_bytes, back_bytes, entry_bytes, code_head};
 
-use crate::numbers::{put_size, unsigned_length};
 use crate::sections::put_start;
 use crate::tables::put_table_section;
 use crate::vectors::{Encode, put_run, put_runs, put_section, section_length};
+use leb_binary::{put_u64, unsigned_length};
 use module_ast::module::{Body, Element, Export, FuncType, GlobalDef, Import, Range, Segment};
 use std::alloc::{AllocError, Global};
 use std::marker::Model;
@@ -162,8 +162,8 @@ pub fn put_code_head(out: &mut Vec<u8>, count: u64, size: u64) -> Result<(), All
     }
     let mut head = Vec::new(*out.allocator());
     head.push(10)?;
-    put_size(&mut head, unsigned_length(count) + size)?;
-    put_size(&mut head, count)?;
+    put_u64(&mut head, unsigned_length(count) + size)?;
+    put_u64(&mut head, count)?;
     out.extend_from_slice(&head)
 }
 
@@ -174,7 +174,7 @@ pub fn put_entry(out: &mut Vec<u8>, body: &Body, size: u64) -> Result<(), AllocE
     ensures { MatchResult result (λ _. out.new.items ≡ out.old.items ++ entry_bytes body.now) (λ _. out.new.items ≡ out.old.items) }
 {
     let mut entry = Vec::with_capacity(*out.allocator(), size as usize)?;
-    put_size(&mut entry, size)?;
+    put_u64(&mut entry, size)?;
     body.put(&mut entry)?;
     out.extend_from_slice(&entry)
 }

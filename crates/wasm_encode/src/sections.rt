@@ -6,10 +6,10 @@ ghost use Rattle.module_ast.specs.Canonical.{sized_bytes, import_bytes, global_b
 
 use crate::code::put_expr;
 use crate::code_length::expr_length;
-use crate::numbers::{index_length, put_size, put_sized, sized_length, unsigned_length};
+use crate::numbers::{index_length, put_sized, sized_length};
 use crate::types::val_type_byte;
 use crate::vectors::{Encode, put_vec, vec_length};
-use leb_binary::put_u32;
+use leb_binary::{put_u32, put_u64, unsigned_length};
 use module_ast::module::{Body, Element, Export, ExportKind, GlobalDef, Group, Import, Segment};
 use module_ast::name::Name;
 use std::alloc::AllocError;
@@ -178,6 +178,6 @@ pub fn put_start(out: &mut Vec<u8>, start: Option<u32>) -> Result<(), AllocError
         return Ok(());
     };
     out.push(8)?;
-    put_size(out, index_length(func))?;
+    put_u64(out, index_length(func))?;
     put_u32(out, func)
 }

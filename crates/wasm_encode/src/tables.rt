@@ -4,8 +4,9 @@ ghost use Rattle.std.specs.Prelude.{◌≡◌, ◌++◌, ◌<◌, ◌^◌, OnOk,
 ghost use Rattle.module_ast.specs.Fits.{FitsRange};
 ghost use Rattle.module_ast.specs.Canonical.{table_bytes, vec_bytes, vec_section};
 
-use crate::numbers::{put_size, put_sized, unsigned_length};
+use crate::numbers::put_sized;
 use crate::types::{put_table, table_length};
+use leb_binary::{put_u64, unsigned_length};
 use module_ast::module::Range;
 use std::alloc::{AllocError, Global};
 
@@ -47,7 +48,7 @@ pub fn put_table_section(
         return Ok(());
     }
     let mut content = Vec::new(alloc);
-    put_size(&mut content, tables.len() as u64)?;
+    put_u64(&mut content, tables.len() as u64)?;
     for table in tables {
         put_table(&mut content, table)?;
     }

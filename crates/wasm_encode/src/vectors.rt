@@ -5,8 +5,8 @@ ghost use Rattle.leb_binary.specs.Shortest.{unsigned_bytes};
 ghost use Rattle.module_ast.specs.Fits.{FitsIndex};
 ghost use Rattle.module_ast.specs.Canonical.{items_bytes, vec_bytes, vec_section};
 
-use crate::numbers::{index_length, put_size, put_sized, unsigned_length};
-use leb_binary::put_u32;
+use crate::numbers::{index_length, put_sized};
+use leb_binary::{put_u32, put_u64, unsigned_length};
 use std::alloc::{AllocError, Global};
 
 /// What has one canonical spelling. Its length is known before anything is written.
@@ -68,7 +68,7 @@ fn put_items<T: Encode>(out: &mut Vec<u8>, entries: &[T]) -> Result<(), AllocErr
 pub fn put_vec<T: Encode>(out: &mut Vec<u8>, entries: &[T]) -> Result<(), AllocError>
     ensures { OnOk result (out.new.items ≡ out.old.items ++ vec_bytes T.bytes entries.now) }
 {
-    put_size(out, entries.len() as u64)?;
+    put_u64(out, entries.len() as u64)?;
     put_items(out, entries)
 }
 
@@ -94,7 +94,7 @@ pub fn put_section<T: Encode>(out: &mut Vec<u8>, id: u8, entries: &[T]) -> Resul
         return Ok(());
     }
     out.push(id)?;
-    put_size(out, vec_length(entries))?;
+    put_u64(out, vec_length(entries))?;
     put_vec(out, entries)
 }
 
@@ -116,7 +116,7 @@ pub fn put_runs<T: Encode>(
         return Ok(());
     }
     let mut content = Vec::new(alloc);
-    put_size(&mut content, count)?;
+    put_u64(&mut content, count)?;
     put_items(&mut content, first)?;
     put_items(&mut content, second)?;
     out.push(id)?;

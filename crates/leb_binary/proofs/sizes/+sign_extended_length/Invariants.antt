@@ -1,4 +1,4 @@
-use Rattle.wasm_encode.proofs.numbers.+sign_extended_length.Given as goal
+use Rattle.leb_binary.proofs.sizes.+sign_extended_length.Given as goal
 
 abbrev pub decreases-sign_extended_length : goal.decreases-sign_extended_length
 decreases-sign_extended_length l = l.n
