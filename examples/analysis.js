@@ -29,7 +29,7 @@ function lettersOf(hook) {
   const own = hook.startsWith("i32") ? "i" : "l";
   if (hook.endsWith(".const")) return own;
   if (/\.(load|store)/.test(hook)) return "ii" + own;
-  const operands = /\.(clz|ctz|popcnt|eqz)$/.test(hook) ? own : own + own;
+  const operands = /\.(clz|ctz|popcnt|eqz|extend\d+_s)$/.test(hook) ? own : own + own;
   return operands + (/\.(eqz?|ne|[lg][te]_[su])$/.test(hook) ? "i" : own);
 }
 
