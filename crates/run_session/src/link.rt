@@ -11,10 +11,11 @@ ghost use Rattle.run_session.specs.Linking.{ChecksRefusal, exported_type, type_r
 
 use module_ast::module::{Element, FuncType, Module, Segment};
 use module_ast::spaces::Spaces;
+use run_opening::{least_pages, least_slots, offset_of, open_globals};
 use std::alloc::{AllocError, Global};
 use std::collections::BTreeMap;
 use wasm_num::{ValType, Value};
-use wasm_run::{exported_functions, least_pages, least_slots, offset_of, open_globals};
+use wasm_run::exported_functions;
 use wasm_sem::{Call, Script};
 use wasm_valid::ValidModule;
 

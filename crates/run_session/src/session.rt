@@ -5,6 +5,7 @@ ghost use Rattle.wasm_sem.specs.Answers.{summary};
 ghost use Rattle.wasm_sem.specs.Laws.{slots_in};
 ghost use Rattle.wasm_sem.specs.Link.{IsScriptInRange};
 ghost use Rattle.wasm_run.specs.Moves.{MayWant};
+ghost use Rattle.wasm_run.specs.Noting.{IsNoteOf};
 ghost use Rattle.wasm_run.specs.Running.{configuration_of, IsLinked};
 ghost use Rattle.wasm_run.specs.Turns.{RunsFor};
 ghost use Rattle.run_session.specs.Sessions.{OpensSession, TakesTurn, told_outcome, awaits_start, pending_in, pending_summary};
@@ -15,7 +16,7 @@ use run_store::table::Table;
 use std::alloc::Global;
 use std::marker::Model;
 use wasm_num::NoMemory;
-use wasm_run::Machine;
+use wasm_run::{Machine, Note};
 use wasm_sem::{Answer, Script, Stop, Turn};
 use wasm_valid::ValidModule;
 
@@ -121,6 +122,14 @@ impl<'m> Session<'m> {
         ensures linked { IsLinked self.now.module self.now.script }
     {
         self.machine.table()
+    }
+
+    /// What the last step entered, and its host call: the entry and the host call that the trace gained by it. After `run` it is
+    /// of the last of the steps that were made; before the first step there is neither.
+    pub fn note(&self) -> &Note
+        ensures { IsNoteOf result.now self.now }
+    {
+        self.machine.note()
     }
 
     // Whether the module has a start function that has not ended.

@@ -18,7 +18,8 @@ use Rattle.wasm_run.specs.Flat.{Flat, Enters}
 use Rattle.wasm_run.specs.Entering.{IsCalling, entered_next, HasEntered}
 use Rattle.wasm_run.specs.Moves.{RunsOn, EndsWith}
 use Rattle.wasm_run.specs.Reaching.{behind_call}
-use Rattle.wasm_run.specs.Running.{KeepsConfiguration, IsLinked, IsRunning, IsSizeOf}
+use Rattle.run_opening.specs.Resolved.{IsSizeOf}
+use Rattle.wasm_run.specs.Running.{KeepsConfiguration, IsLinked, IsRunning}
 use Rattle.wasm_run.specs.Standing.{KeepsStore}
 use Rattle.wasm_run.proofs.Invoking.{Invoker, behind, lies_behind, room_behind}
 use Rattle.wasm_run.proofs.Moments.{env_store}

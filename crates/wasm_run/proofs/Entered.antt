@@ -29,7 +29,8 @@ use Rattle.wasm_run.specs.Entries.{EntersWith, EntersNext}
 use Rattle.wasm_run.specs.Flat.{Flat}
 use Rattle.wasm_run.specs.Moves.{HasSameAnswers, RunsOn, EndsWith}
 use Rattle.wasm_run.specs.Rooms.{HaveRoom}
-use Rattle.wasm_run.specs.Running.{KeepsConfiguration, IsRunning, IsSizeOf}
+use Rattle.run_opening.specs.Resolved.{IsSizeOf}
+use Rattle.wasm_run.specs.Running.{KeepsConfiguration, IsRunning}
 use Rattle.wasm_run.specs.Standing.{KeepsStore}
 use Rattle.wasm_run.proofs.Answered.{written_store}
 use Rattle.wasm_run.proofs.Answering.{values_none}

@@ -1,5 +1,5 @@
 -- The call of a hook that a step tells.
-use Rattle.std.proofs.Common.{◌≡◌, ℕ, ◌+◌, ◌≤◌, zero, suc, List, [], ◌∷◌, ◌++◌, length, drop, Option, Some, None, Result, Ok, Err, Bool, true, false, ◌||◌, refl, sym, ap, ◌∙◌, arith, slice_get, length-append}
+use Rattle.std.proofs.Common.{◌≡◌, ℕ, ◌+◌, ◌≤◌, zero, suc, List, [], ◌∷◌, ◌++◌, length, drop, Option, Some, None, Result, Ok, Err, Bool, true, false, ◌||◌, refl, sym, ap, ap₂, ◌∙◌, arith, slice_get, length-append}
 use Rattle.std.specs.Borrow.{Bor}
 use Rattle.std.specs.Prelude.{reverse, OnErr}
 use Rattle.std.proofs.lemmas.List.{length-reverse}
@@ -15,7 +15,7 @@ use Rattle.wasm_sem.specs.declared.HookCall.{HookCall}
 use Rattle.wasm_sem.specs.declared.Script.{Script}
 use Rattle.wasm_sem.specs.Answers.{hook_in}
 use Rattle.wasm_sem.specs.Events.{TraceItem, event, entry, host_call, hook_call, shown_items}
-use Rattle.wasm_sem.specs.Link.{Callee, host, hook, own, callees_of, is_hook_function, some_hook, Instance, instance}
+use Rattle.wasm_sem.specs.Link.{Callee, host, hook, own, callee_type, callees_of, is_hook_function, some_hook, Instance, instance}
 use Rattle.wasm_sem.specs.Machine.{Frame, Env, Configuration, configuration, pop_values, run_of}
 use Rattle.wasm_sem.specs.Trace.{told_invoke, told_code, told_items, items_by, items}
 use Rattle.wasm_sem.proofs.AllChosen.{HaveGroups, step_has}
@@ -24,10 +24,11 @@ use Rattle.wasm_run.specs.Below.{IsBelow}
 use Rattle.wasm_run.specs.Calls.{IsNoCall, NextIsNoCall}
 use Rattle.wasm_run.specs.Flat.{Flat}
 use Rattle.wasm_run.specs.Kept.{under}
+use Rattle.wasm_run.specs.Moves.{env_beside}
 use Rattle.wasm_run.specs.Reaching.{index_count, with_index, Reaches}
-use Rattle.wasm_run.specs.Resolved.{callee_for}
-use Rattle.wasm_run.specs.declared.functions.Function.{Function}
-use Rattle.wasm_run.specs.declared.functions.Function.TheVariants as functions
+use Rattle.run_opening.specs.Resolved.{callee_for}
+use Rattle.run_opening.specs.declared.functions.Function.{Function}
+use Rattle.run_opening.specs.declared.functions.Function.TheVariants as functions
 use Rattle.wasm_run.specs.Running.{Innermost, IsRunning}
 use Rattle.wasm_run.proofs.Entering.{parts}
 use Rattle.wasm_run.proofs.Invoking.{index_dropped, index_there, Invoker, invoker}
@@ -103,43 +104,53 @@ module _ (m : Module) (s : Script) (made : ℕ) (f : Flat) (memory : Held) (glob
     pub other_called : is_hook_function called ≡ false → None ≡ hook_in (items inst (run_of m s made))
     other_called h = hook_told inst (run_of m s made) None (ap hook_in told_call_is ∙ no_hook inst x.env func called x.args h) (λ _. refl)
 
-  -- ---- of a hook
+    -- ---- the arguments
 
-  module _ (ty : FuncType) (calls : Reaches inst (run_of m s made) slot func k (hook ty)) where
-    abbrev z : Invoker m s made f memory globals running.linked slot func k (hook ty)
-    z = invoker m s made f memory globals running.linked slot func k (hook ty) running.keeps calls
+    operands_are : f.values ≡ with_index slot x.ops ++ under x.frame x.below
+    operands_are = x.lies.values ∙ ap (λ o. o ++ under x.frame x.below) x.ops_are
 
-    operands_are : f.values ≡ with_index slot z.ops ++ under z.frame z.below
-    operands_are = z.lies.values ∙ ap (λ o. o ++ under z.frame z.below) z.ops_are
+    abbrev count : ℕ
+    count = length (callee_type called).params
 
-    -- its words are there
-    pub words_there : (n : ℕ) → n ≡ index_count slot → n + length ty.params ≤ length f.values
+    -- are there
+    pub words_there : (n : ℕ) → n ≡ index_count slot → n + count ≤ length f.values
     words_there n same =
-        let are = parts (length ty.params) z.ops [] z.args z.rest z.popped in
+        let are = parts count x.ops [] x.args x.rest x.popped in
         let counted = are.count in
         omega (
           arith,
           same,
           counted,
           ap length operands_are,
-          index_there slot z.ops (under z.frame z.below),
-          length-append z.ops (under z.frame z.below),
+          index_there slot x.ops (under x.frame x.below),
+          length-append x.ops (under x.frame x.below),
           ap length are.whole,
-          length-append (reverse z.args) z.rest,
-          length-reverse z.args,
+          length-append (reverse x.args) x.rest,
+          length-reverse x.args,
         )
 
+    args_are : (n : ℕ) (vs : List Value) → n ≡ index_count slot → IsBelow n count vs f.values → x.args ≡ vs
+    args_are n vs same h =
+        let left = drop (n + count) f.values in
+        let taken : drop n f.values ≡ x.ops ++ under x.frame x.below = ap (λ n. drop n f.values) same ∙ ap (drop (index_count slot)) operands_are ∙ index_dropped slot x.ops (under x.frame x.below) in
+        let popped : Some (vs, left) ≡ Some (x.args, x.rest ++ under x.frame x.below) =
+        sym (pop_push vs left) ∙ ap (λ n. pop_values n (push vs left) []) h.size ∙ ap (λ o. pop_values count o []) (sym h.are ∙ taken)
+        ∙ pop_over count x.ops [] (under x.frame x.below) x.args x.rest x.popped in
+        sym (ap (λ (p : List Value × List Value). p.0) (same_Some (vs, left) (x.args, x.rest ++ under x.frame x.below) popped))
+
     -- and are what the call passes
-    pub words_are : (n : ℕ) (vs : List Value) → n ≡ index_count slot → IsBelow n (length ty.params) vs f.values → Some (record { «import» = func; args = vs }) ≡ hook_in (items inst (run_of m s made))
-    words_are n vs same h =
-        let left = drop (n + length ty.params) f.values in
-        let taken : drop n f.values ≡ z.ops ++ under z.frame z.below = ap (λ n. drop n f.values) same ∙ ap (drop (index_count slot)) operands_are ∙ index_dropped slot z.ops (under z.frame z.below) in
-        let popped : Some (vs, left) ≡ Some (z.args, z.rest ++ under z.frame z.below) =
-        sym (pop_push vs left) ∙ ap (λ n. pop_values n (push vs left) []) h.size ∙ ap (λ o. pop_values (length ty.params) o []) (sym h.are ∙ taken)
-        ∙ pop_over (length ty.params) z.ops [] (under z.frame z.below) z.args z.rest z.popped in
-        ap (λ (args : List Value). Some (record { «import» = func; args = args })) (ap (λ (p : List Value × List Value). p.0) (same_Some (vs, left) (z.args, z.rest ++ under z.frame z.below) popped))
-        ∙ hook_told inst (run_of m s made) (Some (record { «import» = func; args = z.args })) (ap hook_in (told_call_is (hook ty) calls))
-        (λ bare. absurd (false≢true (sym bare ∙ hook_there (callees_of m) func (hook ty) z.callee refl)))
+    pub told_with : (n : ℕ) (vs : List Value) → n ≡ index_count slot → IsBelow n count vs f.values → told_items inst (run_of m s made) ≡ told_invoke inst (env_beside (run_of m s made)) func called vs
+    told_with n vs same h = told_call_is ∙ ap₂ (λ (e : Env) (vs : List Value). told_invoke inst e func called vs) (sym (ap env_beside x.at)) (args_are n vs same h)
+
+    pub callee_is : slice_get (callees_of m) func ≡ Some called
+    callee_is = x.callee
+
+  -- the words of a hook
+  pub words_are : (ty : FuncType) → Reaches inst (run_of m s made) slot func k (hook ty) → (n : ℕ) (vs : List Value) → n ≡ index_count slot → IsBelow n (length ty.params) vs f.values
+      → Some (record { «import» = func; args = vs }) ≡ hook_in (items inst (run_of m s made))
+  words_are ty calls n vs same h =
+      hook_told inst (run_of m s made) (Some (record { «import» = func; args = vs })) (ap hook_in (told_with (hook ty) calls n vs same h))
+      (λ bare. absurd (false≢true (sym bare ∙ hook_there (callees_of m) func (hook ty) (callee_is (hook ty) calls) refl)))
 
 -- what holds wherever
 pub on_err : {A E : Type 0} {P : Type 0} (r : Result A E) → P → OnErr r P

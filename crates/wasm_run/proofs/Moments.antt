@@ -211,6 +211,9 @@ place_there m s f memory globals (configuration e []) keeps inside place is = ab
 place_there m s f memory globals (configuration e (fr ∷ below)) (lies, store, room) inside place is = sym (is ∙ ap first_rest lies.spots)
 
 -- memory was wanting
+pub wants : (r : Result (Option Answer) AllocError) (old new : Run) → IsErr r → new ≡ old → MayWant (configuration_of old) → MakesStep r old new
+wants (Ok d) old new h same may = absurd cc
+wants (Err v) old new h same may = (same, may)
+
 pub wanting : (r : Result (Option Answer) AllocError) (old new : Run) → IsErr r → new ≡ old → Innermost IsAtGrow (configuration_of old) → MakesStep r old new
-wanting (Ok d) old new h same grow = absurd cc
-wanting (Err v) old new h same grow = (same, wants_at_grow (configuration_of old) grow)
+wanting r old new h same grow = wants r old new h same (wants_at_grow (configuration_of old) grow)

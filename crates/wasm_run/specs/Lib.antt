@@ -8,7 +8,6 @@ pub mod Entering
 pub mod Rooms
 pub mod Running
 pub mod Calls
-pub mod Resolved
 pub mod Beside
 pub mod Answering
 pub mod Turns
@@ -18,3 +17,4 @@ pub mod Below
 pub mod Entries
 pub mod Progress
 pub mod Exported
+pub mod Noting

@@ -13,7 +13,7 @@ use Rattle.wasm_run.specs.declared.functions.Target.TheVariants as targets
 use Rattle.wasm_run.specs.Advances.{IsAtCall}
 use Rattle.wasm_run.specs.Calls.{NextIsNoCall}
 use Rattle.wasm_run.specs.Flat.{Flat, moved_spots}
-use Rattle.wasm_run.specs.Resolved.{callee_for, HasSize}
+use Rattle.run_opening.specs.Resolved.{callee_for, HasSize}
 use Rattle.wasm_run.specs.Running.{Run, configuration_of, Innermost}
 
 -- how many operands stand above the arguments: the index of a slot, where the call goes through one

@@ -2,13 +2,6 @@
 use Rattle.std.specs.Prelude.{◌≡◌, ℕ, ◌+◌, List, [], ◌∷◌, Bool, true, false}
 use Rattle.wasm_num.specs.declared.Value.{Value}
 use Rattle.module_ast.specs.declared.module.Module.{Module}
-use Rattle.module_ast.specs.declared.module.FuncType.{FuncType}
-use Rattle.module_ast.specs.declared.module.Body.{Body}
-use Rattle.module_ast.specs.Marks.{height}
-use Rattle.module_ast.specs.Positions.{code_nesting}
-use Rattle.module_ast.specs.Profile.{locals_of}
-use Rattle.module_ast.specs.Validity.{declared_locals}
-use Rattle.wasm_sem.specs.Heights.{function_context}
 use Rattle.module_ast.specs.Validity.{IsValid}
 use Rattle.run_store.specs.Held.{Held}
 use Rattle.wasm_sem.specs.declared.Script.{Script}
@@ -66,11 +59,3 @@ HoldsIf false A = A → ⊥
 abbrev pub Innermost : (Frame → Type 0) → Configuration → Type 0
 Innermost P (configuration e []) = ⊥
 Innermost P (configuration e (fr ∷ below)) = P fr
-
--- ---- a function of the module
-
--- what its frame takes
-pub record IsSizeOf (m : Module) (ty : FuncType) (body : Body) (locals high nesting : ℕ) : Type 0 where
-  pub locals_are : locals ≡ locals_of body.groups
-  pub high_is : high ≡ height (function_context m ty (declared_locals body.groups)) body.code
-  pub nesting_is : nesting ≡ code_nesting body.code

@@ -3,25 +3,16 @@
 ghost use Rattle.std.specs.Prelude.{◌≡◌, ◌+◌, ◌≤◌, length, drop, All, IfOk, OnOk, OnErr};
 ghost use Rattle.module_ast.specs.Typing.{push};
 ghost use Rattle.wasm_sem.specs.Link.{IsWriteInRange};
-ghost use Rattle.wasm_sem.specs.Store.{value_of, values_of, answer_at, writes_done, written_memory};
+ghost use Rattle.wasm_sem.specs.Store.{values_of, answer_at, writes_done, written_memory};
 ghost use Rattle.wasm_run.specs.Answering.{returned_with, answer_given};
 
 use crate::stack::Stack;
 use module_ast::module::FuncType;
+use run_opening::value_of;
 use run_store::memory::Memory;
 use std::alloc::Global;
 use wasm_num::{NoMemory, ValType, Value, Values};
 use wasm_sem::{HostAnswer, HostWrite, Script};
-
-/// The value that a number of the script stands for, modulo its width. (Standard, 4.2.1)
-pub(crate) fn value_of(ty: ValType, number: i128) -> Value
-    ensures { result ≡ value_of ty number }
-{
-    match ty {
-        ValType::I32 => Value::I32(number.rem_euclid(1 << 32).unsigned_abs() as u32),
-        ValType::I64 => Value::I64(number.rem_euclid(1 << 64).unsigned_abs() as u64),
-    }
-}
 
 /// A value for each type is put on top, for which there is room: what the numbers stand for in order, and 0 past the last.
 pub(crate) fn push_values(stack: &mut Stack, types: &[ValType], numbers: &[i128])

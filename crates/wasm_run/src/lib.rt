@@ -8,7 +8,7 @@ mod exports;
 mod functions;
 mod host;
 mod machine;
-mod opening;
+mod note;
 mod progress;
 mod running;
 mod stack;
@@ -16,4 +16,4 @@ mod straight;
 
 pub use exports::exported_functions;
 pub use machine::Machine;
-pub use opening::{least_pages, least_slots, offset_of, open_globals};
+pub use note::{Entry, HostNote, Note};

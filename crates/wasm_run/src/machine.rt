@@ -7,11 +7,13 @@ ghost use Rattle.wasm_sem.specs.Link.{IsScriptInRange, Links};
 ghost use Rattle.wasm_sem.specs.Machine.{is_over};
 ghost use Rattle.wasm_run.specs.Beside.{hosts_in, pages_in};
 ghost use Rattle.wasm_run.specs.Moves.{MayWant};
+ghost use Rattle.wasm_run.specs.Noting.{IsNoteOf};
 ghost use Rattle.wasm_run.specs.Progress.{IsEntry, GoesOn};
 ghost use Rattle.wasm_run.specs.Running.{Run, configuration_of, IsInside, IsLinked};
 ghost use Rattle.wasm_run.specs.Turns.{MakesTurn, RunsFor, started_in, answers_in, next_turn};
 
 use crate::exports::called_functions;
+use crate::note::Note;
 use crate::progress::{Progress, Stage, call_from};
 use crate::running::Running;
 use run_store::table::Table;
@@ -185,6 +187,14 @@ impl<'m> Machine<'m> {
         ensures linked { IsLinked self.now.module self.now.script }
     {
         self.running.table()
+    }
+
+    /// What the last step entered, and its host call: the entry and the host call that the trace gained by it. After `run` it is
+    /// of the last of the steps that were made; before the first step there is neither.
+    pub fn note(&self) -> &Note
+        ensures { IsNoteOf result.now self.now }
+    {
+        self.running.note()
     }
 
     /// How many steps have been made.

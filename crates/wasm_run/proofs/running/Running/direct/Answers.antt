@@ -5,9 +5,9 @@ use Rattle.module_ast.specs.Tree.{plain, call}
 use Rattle.wasm_sem.specs.Link.{instance}
 use Rattle.wasm_sem.specs.Machine.{Frame}
 use Rattle.wasm_run.specs.Reaching.{Reaches}
-use Rattle.wasm_run.specs.Resolved.{callee_for, HasSize}
+use Rattle.run_opening.specs.Resolved.{callee_for, HasSize}
 use Rattle.wasm_run.specs.Running.{Run, configuration_of, Innermost}
-use Rattle.wasm_run.proofs.Resolving.{function_at, function_size}
+use Rattle.run_opening.proofs.Resolving.{function_at, function_size}
 use Rattle.wasm_run.proofs.Targets.{direct_there, direct_reaches}
 use Rattle.wasm_run.proofs.running.Running.direct.Goals as goal
 

@@ -6,13 +6,15 @@ use Rattle.wasm_sem.specs.Link.{own, instance}
 use Rattle.wasm_run.specs.Flat.{Flat}
 use Rattle.wasm_run.specs.Moves.{RunsOn, EndsWith, MayWant}
 use Rattle.wasm_run.specs.Reaching.{Reaches}
-use Rattle.wasm_run.specs.Running.{Run, one_more, configuration_of, IsSizeOf}
+use Rattle.run_opening.specs.Resolved.{IsSizeOf}
+use Rattle.wasm_run.specs.Running.{Run, one_more, configuration_of}
 use Rattle.wasm_run.proofs.Answered.{called_index, called_label}
 use Rattle.wasm_run.proofs.Calling.{made_call}
 use Rattle.wasm_run.proofs.Hosts.{own_hosts}
 use Rattle.wasm_run.proofs.Invoking.{invoker, enough, room_back, some_label_back, undone}
 use Rattle.wasm_run.proofs.Targets.{reaches_wants}
 use Rattle.wasm_sem.specs.declared.Trap.{Trap}
+use Rattle.wasm_run.proofs.Noting.{quiet_note, reaches_inside}
 use Rattle.wasm_run.proofs.running.Running.enter_own.Goals as goal
 
 pub place-place-requires : goal.place-place-requires
@@ -49,32 +51,40 @@ step_back-requires-clause-room c =
     (subst (λ (r : Run). Reaches (instance r.module r.script) (configuration_of r) c.args.slot c.requires.calls.0 (code_of c.args.rest.now) (own c.args.ty.now (declared_locals c.args.body.now.groups) c.args.body.now.code)) (sym c.self.view_is) c.requires.calls.1)) c.step_behind.new.self c.step_behind.ensures c.call_own.new.stack c.in-Err.ensures.err
 
 pub invariant_of-self : goal.invariant_of-self
-invariant_of-self c = record {
-  running = (made_call c.self.inside.module.now c.self.inside.script.now c.self.inside.made c.self.inside.stack c.self.inside.memory c.self.inside.globals c.self.invariant.running.linked c.args.slot c.requires.calls.0 (code_of c.args.rest.now) c.args.ty.now c.args.body.now
-      (invoker c.self.inside.module.now c.self.inside.script.now c.self.inside.made c.self.inside.stack c.self.inside.memory c.self.inside.globals c.self.invariant.running.linked c.args.slot c.requires.calls.0 (code_of c.args.rest.now) (own c.args.ty.now (declared_locals c.args.body.now.groups) c.args.body.now.code) c.self.invariant.running.keeps
-      (subst (λ (r : Run). Reaches (instance r.module r.script) (configuration_of r) c.args.slot c.requires.calls.0 (code_of c.args.rest.now) (own c.args.ty.now (declared_locals c.args.body.now.groups) c.args.body.now.code)) (sym c.self.view_is) c.requires.calls.1)) c.step_behind.new.self c.step_behind.ensures
-      c.args.size.locals c.args.size.height c.args.size.nesting c.call_own.new.stack
-      (subst (λ (r : Run). IsSizeOf r.module c.args.ty.now c.args.body.now c.args.size.locals c.args.size.height c.args.size.nesting) (sym c.self.view_is) c.requires.size) c.in-Ok-None.field-0 None c.in-Ok-None.field-0-is c.in-Ok-None.ensures.enters c.in-Ok-None.ensures.ok).0;
-  counted = own_hosts c.self.inside.module.now c.self.inside.script.now c.self.inside.made c.self.inside.hosts c.self.invariant.running.linked c.self.invariant.counted c.self.inside.stack c.self.inside.memory c.self.inside.globals c.args.slot c.requires.calls.0 (code_of c.args.rest.now) c.args.ty.now (declared_locals c.args.body.now.groups) c.args.body.now.code
-      (invoker c.self.inside.module.now c.self.inside.script.now c.self.inside.made c.self.inside.stack c.self.inside.memory c.self.inside.globals c.self.invariant.running.linked c.args.slot c.requires.calls.0 (code_of c.args.rest.now) (own c.args.ty.now (declared_locals c.args.body.now.groups) c.args.body.now.code) c.self.invariant.running.keeps
-      (subst (λ (r : Run). Reaches (instance r.module r.script) (configuration_of r) c.args.slot c.requires.calls.0 (code_of c.args.rest.now) (own c.args.ty.now (declared_locals c.args.body.now.groups) c.args.body.now.code)) (sym c.self.view_is) c.requires.calls.1));
-  functions_are = c.self.invariant.functions_are;
-  table_is = c.self.invariant.table_is;
-}
+invariant_of-self c =
+    let counted = own_hosts c.self.inside.module.now c.self.inside.script.now c.self.inside.made c.self.inside.hosts c.self.invariant.running.linked c.self.invariant.counted c.self.inside.stack c.self.inside.memory c.self.inside.globals c.args.slot c.requires.calls.0 (code_of c.args.rest.now) c.args.ty.now (declared_locals c.args.body.now.groups) c.args.body.now.code
+    (invoker c.self.inside.module.now c.self.inside.script.now c.self.inside.made c.self.inside.stack c.self.inside.memory c.self.inside.globals c.self.invariant.running.linked c.args.slot c.requires.calls.0 (code_of c.args.rest.now) (own c.args.ty.now (declared_locals c.args.body.now.groups) c.args.body.now.code) c.self.invariant.running.keeps
+    (subst (λ (r : Run). Reaches (instance r.module r.script) (configuration_of r) c.args.slot c.requires.calls.0 (code_of c.args.rest.now) (own c.args.ty.now (declared_locals c.args.body.now.groups) c.args.body.now.code)) (sym c.self.view_is) c.requires.calls.1)) in
+    record {
+      running = (made_call c.self.inside.module.now c.self.inside.script.now c.self.inside.made c.self.inside.stack c.self.inside.memory c.self.inside.globals c.self.invariant.running.linked c.args.slot c.requires.calls.0 (code_of c.args.rest.now) c.args.ty.now c.args.body.now
+          (invoker c.self.inside.module.now c.self.inside.script.now c.self.inside.made c.self.inside.stack c.self.inside.memory c.self.inside.globals c.self.invariant.running.linked c.args.slot c.requires.calls.0 (code_of c.args.rest.now) (own c.args.ty.now (declared_locals c.args.body.now.groups) c.args.body.now.code) c.self.invariant.running.keeps
+          (subst (λ (r : Run). Reaches (instance r.module r.script) (configuration_of r) c.args.slot c.requires.calls.0 (code_of c.args.rest.now) (own c.args.ty.now (declared_locals c.args.body.now.groups) c.args.body.now.code)) (sym c.self.view_is) c.requires.calls.1)) c.step_behind.new.self c.step_behind.ensures
+          c.args.size.locals c.args.size.height c.args.size.nesting c.call_own.new.stack
+          (subst (λ (r : Run). IsSizeOf r.module c.args.ty.now c.args.body.now c.args.size.locals c.args.size.height c.args.size.nesting) (sym c.self.view_is) c.requires.size) c.in-Ok-None.field-0 None c.in-Ok-None.field-0-is c.in-Ok-None.ensures.enters c.in-Ok-None.ensures.ok).0;
+      counted = counted;
+      functions_are = c.self.invariant.functions_are;
+      table_is = c.self.invariant.table_is;
+      noted_is = quiet_note c.self.inside.module.now c.self.inside.script.now c.self.inside.made c.self.inside.hosts c.self.invariant.running.linked c.self.invariant.counted counted (reaches_inside (instance c.self.inside.module.now c.self.inside.script.now) (configuration_of (record { «module» = c.self.inside.module.now; script = c.self.inside.script.now; made = c.self.inside.made })) c.args.slot c.requires.calls.0 (code_of c.args.rest.now) (own c.args.ty.now (declared_locals c.args.body.now.groups) c.args.body.now.code)
+          (subst (λ (r : Run). Reaches (instance r.module r.script) (configuration_of r) c.args.slot c.requires.calls.0 (code_of c.args.rest.now) (own c.args.ty.now (declared_locals c.args.body.now.groups) c.args.body.now.code)) (sym c.self.view_is) c.requires.calls.1)) c.self.inside.noted c.self.invariant.noted_is;
+    }
 
 pub invariant_of-self-in-Ok-Some : goal.invariant_of-self-in-Ok-Some
-invariant_of-self-in-Ok-Some c = record {
-  running = (made_call c.self.inside.module.now c.self.inside.script.now c.self.inside.made c.self.inside.stack c.self.inside.memory c.self.inside.globals c.self.invariant.running.linked c.args.slot c.requires.calls.0 (code_of c.args.rest.now) c.args.ty.now c.args.body.now
-      (invoker c.self.inside.module.now c.self.inside.script.now c.self.inside.made c.self.inside.stack c.self.inside.memory c.self.inside.globals c.self.invariant.running.linked c.args.slot c.requires.calls.0 (code_of c.args.rest.now) (own c.args.ty.now (declared_locals c.args.body.now.groups) c.args.body.now.code) c.self.invariant.running.keeps
-      (subst (λ (r : Run). Reaches (instance r.module r.script) (configuration_of r) c.args.slot c.requires.calls.0 (code_of c.args.rest.now) (own c.args.ty.now (declared_locals c.args.body.now.groups) c.args.body.now.code)) (sym c.self.view_is) c.requires.calls.1)) c.step_behind.new.self c.step_behind.ensures
-      c.args.size.locals c.args.size.height c.args.size.nesting c.call_own.new.stack
-      (subst (λ (r : Run). IsSizeOf r.module c.args.ty.now c.args.body.now c.args.size.locals c.args.size.height c.args.size.nesting) (sym c.self.view_is) c.requires.size) c.in-Ok-Some.field-0 (Some c.in-Ok-Some.trap) c.in-Ok-Some.field-0-is c.in-Ok-Some.ensures.enters c.in-Ok-Some.ensures.ok).0 c.clear.new.self (ap (λ (t : Flat). t.bases) c.clear.ensures);
-  counted = own_hosts c.self.inside.module.now c.self.inside.script.now c.self.inside.made c.self.inside.hosts c.self.invariant.running.linked c.self.invariant.counted c.self.inside.stack c.self.inside.memory c.self.inside.globals c.args.slot c.requires.calls.0 (code_of c.args.rest.now) c.args.ty.now (declared_locals c.args.body.now.groups) c.args.body.now.code
-      (invoker c.self.inside.module.now c.self.inside.script.now c.self.inside.made c.self.inside.stack c.self.inside.memory c.self.inside.globals c.self.invariant.running.linked c.args.slot c.requires.calls.0 (code_of c.args.rest.now) (own c.args.ty.now (declared_locals c.args.body.now.groups) c.args.body.now.code) c.self.invariant.running.keeps
-      (subst (λ (r : Run). Reaches (instance r.module r.script) (configuration_of r) c.args.slot c.requires.calls.0 (code_of c.args.rest.now) (own c.args.ty.now (declared_locals c.args.body.now.groups) c.args.body.now.code)) (sym c.self.view_is) c.requires.calls.1));
-  functions_are = c.self.invariant.functions_are;
-  table_is = c.self.invariant.table_is;
-}
+invariant_of-self-in-Ok-Some c =
+    let counted = own_hosts c.self.inside.module.now c.self.inside.script.now c.self.inside.made c.self.inside.hosts c.self.invariant.running.linked c.self.invariant.counted c.self.inside.stack c.self.inside.memory c.self.inside.globals c.args.slot c.requires.calls.0 (code_of c.args.rest.now) c.args.ty.now (declared_locals c.args.body.now.groups) c.args.body.now.code
+    (invoker c.self.inside.module.now c.self.inside.script.now c.self.inside.made c.self.inside.stack c.self.inside.memory c.self.inside.globals c.self.invariant.running.linked c.args.slot c.requires.calls.0 (code_of c.args.rest.now) (own c.args.ty.now (declared_locals c.args.body.now.groups) c.args.body.now.code) c.self.invariant.running.keeps
+    (subst (λ (r : Run). Reaches (instance r.module r.script) (configuration_of r) c.args.slot c.requires.calls.0 (code_of c.args.rest.now) (own c.args.ty.now (declared_locals c.args.body.now.groups) c.args.body.now.code)) (sym c.self.view_is) c.requires.calls.1)) in
+    record {
+      running = (made_call c.self.inside.module.now c.self.inside.script.now c.self.inside.made c.self.inside.stack c.self.inside.memory c.self.inside.globals c.self.invariant.running.linked c.args.slot c.requires.calls.0 (code_of c.args.rest.now) c.args.ty.now c.args.body.now
+          (invoker c.self.inside.module.now c.self.inside.script.now c.self.inside.made c.self.inside.stack c.self.inside.memory c.self.inside.globals c.self.invariant.running.linked c.args.slot c.requires.calls.0 (code_of c.args.rest.now) (own c.args.ty.now (declared_locals c.args.body.now.groups) c.args.body.now.code) c.self.invariant.running.keeps
+          (subst (λ (r : Run). Reaches (instance r.module r.script) (configuration_of r) c.args.slot c.requires.calls.0 (code_of c.args.rest.now) (own c.args.ty.now (declared_locals c.args.body.now.groups) c.args.body.now.code)) (sym c.self.view_is) c.requires.calls.1)) c.step_behind.new.self c.step_behind.ensures
+          c.args.size.locals c.args.size.height c.args.size.nesting c.call_own.new.stack
+          (subst (λ (r : Run). IsSizeOf r.module c.args.ty.now c.args.body.now c.args.size.locals c.args.size.height c.args.size.nesting) (sym c.self.view_is) c.requires.size) c.in-Ok-Some.field-0 (Some c.in-Ok-Some.trap) c.in-Ok-Some.field-0-is c.in-Ok-Some.ensures.enters c.in-Ok-Some.ensures.ok).0 c.clear.new.self (ap (λ (t : Flat). t.bases) c.clear.ensures);
+      counted = counted;
+      functions_are = c.self.invariant.functions_are;
+      table_is = c.self.invariant.table_is;
+      noted_is = quiet_note c.self.inside.module.now c.self.inside.script.now c.self.inside.made c.self.inside.hosts c.self.invariant.running.linked c.self.invariant.counted counted (reaches_inside (instance c.self.inside.module.now c.self.inside.script.now) (configuration_of (record { «module» = c.self.inside.module.now; script = c.self.inside.script.now; made = c.self.inside.made })) c.args.slot c.requires.calls.0 (code_of c.args.rest.now) (own c.args.ty.now (declared_locals c.args.body.now.groups) c.args.body.now.code)
+          (subst (λ (r : Run). Reaches (instance r.module r.script) (configuration_of r) c.args.slot c.requires.calls.0 (code_of c.args.rest.now) (own c.args.ty.now (declared_locals c.args.body.now.groups) c.args.body.now.code)) (sym c.self.view_is) c.requires.calls.1)) c.self.inside.noted c.self.invariant.noted_is;
+    }
 
 pub invariant_of-self-in-Err : goal.invariant_of-self-in-Err
 invariant_of-self-in-Err c = record {
@@ -85,6 +95,7 @@ invariant_of-self-in-Err c = record {
   counted = c.self.invariant.counted;
   functions_are = c.self.invariant.functions_are;
   table_is = c.self.invariant.table_is;
+  noted_is = c.self.invariant.noted_is;
 }
 
 pub returns-in-Ok-None : goal.returns-in-Ok-None

@@ -2,11 +2,11 @@ use Rattle.std.proofs.Common.{◌≡◌, ◌+◌, ◌≤◌, Some, None, length,
 use Rattle.module_ast.specs.Seen.{code_of}
 use Rattle.wasm_num.specs.declared.ValType.{ValType}
 use Rattle.wasm_sem.specs.Answers.{hook_in}
-use Rattle.wasm_sem.specs.Link.{instance}
+use Rattle.wasm_sem.specs.Link.{hook, instance}
 use Rattle.wasm_sem.specs.Trace.{items}
 use Rattle.wasm_run.specs.Below.{IsBelow}
 use Rattle.wasm_run.specs.Reaching.{Reaches}
-use Rattle.wasm_run.specs.Resolved.{callee_for}
+use Rattle.run_opening.specs.Resolved.{callee_for}
 use Rattle.wasm_run.specs.Running.{Run, configuration_of}
 use Rattle.wasm_run.proofs.Hooks.{other_called, other_function, words_there, words_are}
 use Rattle.wasm_run.proofs.running.Running.hook_of.Goals as goal
@@ -20,7 +20,7 @@ returns-in_default c = record {
 pub values_below-requires : goal.values_below-requires
 values_below-requires c =
     subst (λ (ts : List ValType). c.above.result + length ts ≤ length c.self.inside.stack.values) (sym c.as_slice.ensures)
-    (words_there c.self.inside.module.now c.self.inside.script.now c.self.inside.made c.self.inside.stack c.self.inside.memory c.self.inside.globals c.self.invariant.running c.args.invocation.slot c.args.invocation.func (code_of c.args.invocation.rest.now) c.in-Hook.ty.now
+    (words_there c.self.inside.module.now c.self.inside.script.now c.self.inside.made c.self.inside.stack c.self.inside.memory c.self.inside.globals c.self.invariant.running c.args.invocation.slot c.args.invocation.func (code_of c.args.invocation.rest.now) (hook c.in-Hook.ty.now)
     (subst (Reaches (instance c.self.inside.module.now c.self.inside.script.now) (configuration_of (record { «module» = c.self.inside.module.now; script = c.self.inside.script.now; made = c.self.inside.made })) c.args.invocation.slot c.args.invocation.func (code_of c.args.invocation.rest.now)) (ap callee_for c.in-Hook.is)
     (subst (λ (r : Run). Reaches (instance r.module r.script) (configuration_of r) c.args.invocation.slot c.args.invocation.func (code_of c.args.invocation.rest.now) (callee_for c.args.invocation.function)) (sym c.self.view_is) c.requires.0)) c.above.result c.above.ensures)
 

@@ -9,7 +9,7 @@ use Rattle.wasm_sem.specs.Link.{callee_type, callees_of, instance}
 use Rattle.wasm_sem.specs.Machine.{same_func_type, step, traps}
 use Rattle.wasm_sem.specs.Trace.{told_items}
 use Rattle.wasm_run.specs.Reaching.{Reaches, IsAtSlot}
-use Rattle.wasm_run.specs.Resolved.{callee_for}
+use Rattle.run_opening.specs.Resolved.{callee_for}
 use Rattle.wasm_run.specs.Running.{Run, configuration_of, Innermost}
 use Rattle.wasm_run.proofs.Targets.{type_there, slot_there, slot_reaches, slot_wrong}
 use Rattle.wasm_run.proofs.running.Running.in_slot.Goals as goal

@@ -2,7 +2,7 @@ use Rattle.std.proofs.Common.{◌≤◌, sym, subst}
 use Rattle.module_ast.specs.declared.module.Module.{Module}
 use Rattle.module_ast.specs.Spaces.{memories_of}
 use Rattle.wasm_sem.specs.Link.{least_size, page_limit}
-use Rattle.wasm_run.proofs.Ranges.{begins_within}
+use Rattle.run_opening.proofs.Ranges.{begins_within}
 use Rattle.wasm_run.proofs.running.Running.new.Goals as goal
 
 pub open_memory-requires-clause-least : goal.open_memory-requires-clause-least

@@ -9,6 +9,7 @@ use Rattle.wasm_run.specs.declared.advance.Did.{Did}
 use Rattle.wasm_run.proofs.Hosts.{inside_hosts, trap_hosts}
 use Rattle.wasm_run.proofs.Moments.{standing, Leaves, leaves, went_moves, left_few, trap_ends, wanting}
 use Rattle.wasm_run.proofs.Rooms.{next_state}
+use Rattle.wasm_run.proofs.Noting.{quiet_note}
 use Rattle.wasm_run.proofs.running.Running.step_inside.Goals as goal
 
 pub advance-requires : goal.advance-requires
@@ -28,6 +29,7 @@ invariant_of-self c = record {
   counted = c.self.invariant.counted;
   functions_are = c.self.invariant.functions_are;
   table_is = c.self.invariant.table_is;
+  noted_is = c.self.invariant.noted_is;
 }
 
 pub answer-requires : goal.answer-requires
@@ -38,26 +40,32 @@ answer-requires c =
     (subst (λ (r : Run). IsInside (configuration_of r)) (sym c.self.view_is) c.requires.inside) c.in_ok-advance.ensures.calls c.in_ok-advance.ensures.advances))).1
 
 pub invariant_of-self-in-Went : goal.invariant_of-self-in-Went
-invariant_of-self-in-Went c = record {
-  running = ((subst (λ (d : Did). Leaves c.self.inside.module.now c.self.inside.script.now c.self.inside.made c.self.inside.stack c.self.inside.memory c.self.inside.globals c.self.invariant.running (Ok d) (configuration_of (record { «module» = c.self.inside.module.now; script = c.self.inside.script.now; made = c.self.inside.made })) c.advance.new.stack c.advance.new.memory c.advance.new.globals) c.in-Went.is
-      (leaves c.self.inside.module.now c.self.inside.script.now c.self.inside.made c.self.inside.stack c.self.inside.memory c.self.inside.globals c.self.invariant.running c.advance.new.stack c.advance.new.memory c.advance.new.globals c.in_ok-advance.ensures.value_room c.in_ok-advance.ensures.spot_room (Ok c.in_ok-advance.field-0)
-      (subst (λ (r : Run). IsInside (configuration_of r)) (sym c.self.view_is) c.requires.inside) c.in_ok-advance.ensures.calls c.in_ok-advance.ensures.advances))).0;
-  counted = inside_hosts c.self.inside.module.now c.self.inside.script.now c.self.inside.made c.self.inside.hosts c.self.invariant.running.linked c.self.invariant.counted c.self.inside.stack c.self.inside.memory c.self.inside.globals c.self.invariant.running (subst (λ (r : Run). IsInside (configuration_of r)) (sym c.self.view_is) c.requires.inside) (subst (λ (d : Did). GoesAtNoCall (Ok d) (first_rest c.self.inside.stack.spots)) c.in-Went.is c.in_ok-advance.ensures.calls);
-  functions_are = c.self.invariant.functions_are;
-  table_is = c.self.invariant.table_is;
-}
+invariant_of-self-in-Went c =
+    let counted = inside_hosts c.self.inside.module.now c.self.inside.script.now c.self.inside.made c.self.inside.hosts c.self.invariant.running.linked c.self.invariant.counted c.self.inside.stack c.self.inside.memory c.self.inside.globals c.self.invariant.running (subst (λ (r : Run). IsInside (configuration_of r)) (sym c.self.view_is) c.requires.inside) (subst (λ (d : Did). GoesAtNoCall (Ok d) (first_rest c.self.inside.stack.spots)) c.in-Went.is c.in_ok-advance.ensures.calls) in
+    record {
+      running = ((subst (λ (d : Did). Leaves c.self.inside.module.now c.self.inside.script.now c.self.inside.made c.self.inside.stack c.self.inside.memory c.self.inside.globals c.self.invariant.running (Ok d) (configuration_of (record { «module» = c.self.inside.module.now; script = c.self.inside.script.now; made = c.self.inside.made })) c.advance.new.stack c.advance.new.memory c.advance.new.globals) c.in-Went.is
+          (leaves c.self.inside.module.now c.self.inside.script.now c.self.inside.made c.self.inside.stack c.self.inside.memory c.self.inside.globals c.self.invariant.running c.advance.new.stack c.advance.new.memory c.advance.new.globals c.in_ok-advance.ensures.value_room c.in_ok-advance.ensures.spot_room (Ok c.in_ok-advance.field-0)
+          (subst (λ (r : Run). IsInside (configuration_of r)) (sym c.self.view_is) c.requires.inside) c.in_ok-advance.ensures.calls c.in_ok-advance.ensures.advances))).0;
+      counted = counted;
+      functions_are = c.self.invariant.functions_are;
+      table_is = c.self.invariant.table_is;
+      noted_is = quiet_note c.self.inside.module.now c.self.inside.script.now c.self.inside.made c.self.inside.hosts c.self.invariant.running.linked c.self.invariant.counted counted (subst (λ (r : Run). IsInside (configuration_of r)) (sym c.self.view_is) c.requires.inside) c.self.inside.noted c.self.invariant.noted_is;
+    }
 
 pub invariant_of-self-in-Trapped : goal.invariant_of-self-in-Trapped
-invariant_of-self-in-Trapped c = record {
-  running = ((subst (λ (d : Did). Leaves c.self.inside.module.now c.self.inside.script.now c.self.inside.made c.self.inside.stack c.self.inside.memory c.self.inside.globals c.self.invariant.running (Ok d) (configuration_of (record { «module» = c.self.inside.module.now; script = c.self.inside.script.now; made = c.self.inside.made })) c.advance.new.stack c.advance.new.memory c.advance.new.globals) c.in-Trapped.is
-      (leaves c.self.inside.module.now c.self.inside.script.now c.self.inside.made c.self.inside.stack c.self.inside.memory c.self.inside.globals c.self.invariant.running c.advance.new.stack c.advance.new.memory c.advance.new.globals c.in_ok-advance.ensures.value_room c.in_ok-advance.ensures.spot_room (Ok c.in_ok-advance.field-0)
-      (subst (λ (r : Run). IsInside (configuration_of r)) (sym c.self.view_is) c.requires.inside) c.in_ok-advance.ensures.calls c.in_ok-advance.ensures.advances))).0 c.clear.new.self (ap (λ (t : Flat). t.bases) c.clear.ensures);
-  counted = trap_hosts c.self.inside.module.now c.self.inside.script.now c.self.inside.made c.self.inside.hosts c.self.invariant.running.linked c.self.invariant.counted c.in-Trapped.trap ((subst (λ (d : Did). Leaves c.self.inside.module.now c.self.inside.script.now c.self.inside.made c.self.inside.stack c.self.inside.memory c.self.inside.globals c.self.invariant.running (Ok d) (configuration_of (record { «module» = c.self.inside.module.now; script = c.self.inside.script.now; made = c.self.inside.made })) c.advance.new.stack c.advance.new.memory c.advance.new.globals) c.in-Trapped.is
-      (leaves c.self.inside.module.now c.self.inside.script.now c.self.inside.made c.self.inside.stack c.self.inside.memory c.self.inside.globals c.self.invariant.running c.advance.new.stack c.advance.new.memory c.advance.new.globals c.in_ok-advance.ensures.value_room c.in_ok-advance.ensures.spot_room (Ok c.in_ok-advance.field-0)
-      (subst (λ (r : Run). IsInside (configuration_of r)) (sym c.self.view_is) c.requires.inside) c.in_ok-advance.ensures.calls c.in_ok-advance.ensures.advances))).1;
-  functions_are = c.self.invariant.functions_are;
-  table_is = c.self.invariant.table_is;
-}
+invariant_of-self-in-Trapped c =
+    let counted = trap_hosts c.self.inside.module.now c.self.inside.script.now c.self.inside.made c.self.inside.hosts c.self.invariant.running.linked c.self.invariant.counted c.in-Trapped.trap ((subst (λ (d : Did). Leaves c.self.inside.module.now c.self.inside.script.now c.self.inside.made c.self.inside.stack c.self.inside.memory c.self.inside.globals c.self.invariant.running (Ok d) (configuration_of (record { «module» = c.self.inside.module.now; script = c.self.inside.script.now; made = c.self.inside.made })) c.advance.new.stack c.advance.new.memory c.advance.new.globals) c.in-Trapped.is
+    (leaves c.self.inside.module.now c.self.inside.script.now c.self.inside.made c.self.inside.stack c.self.inside.memory c.self.inside.globals c.self.invariant.running c.advance.new.stack c.advance.new.memory c.advance.new.globals c.in_ok-advance.ensures.value_room c.in_ok-advance.ensures.spot_room (Ok c.in_ok-advance.field-0)
+    (subst (λ (r : Run). IsInside (configuration_of r)) (sym c.self.view_is) c.requires.inside) c.in_ok-advance.ensures.calls c.in_ok-advance.ensures.advances))).1 in
+    record {
+      running = ((subst (λ (d : Did). Leaves c.self.inside.module.now c.self.inside.script.now c.self.inside.made c.self.inside.stack c.self.inside.memory c.self.inside.globals c.self.invariant.running (Ok d) (configuration_of (record { «module» = c.self.inside.module.now; script = c.self.inside.script.now; made = c.self.inside.made })) c.advance.new.stack c.advance.new.memory c.advance.new.globals) c.in-Trapped.is
+          (leaves c.self.inside.module.now c.self.inside.script.now c.self.inside.made c.self.inside.stack c.self.inside.memory c.self.inside.globals c.self.invariant.running c.advance.new.stack c.advance.new.memory c.advance.new.globals c.in_ok-advance.ensures.value_room c.in_ok-advance.ensures.spot_room (Ok c.in_ok-advance.field-0)
+          (subst (λ (r : Run). IsInside (configuration_of r)) (sym c.self.view_is) c.requires.inside) c.in_ok-advance.ensures.calls c.in_ok-advance.ensures.advances))).0 c.clear.new.self (ap (λ (t : Flat). t.bases) c.clear.ensures);
+      counted = counted;
+      functions_are = c.self.invariant.functions_are;
+      table_is = c.self.invariant.table_is;
+      noted_is = quiet_note c.self.inside.module.now c.self.inside.script.now c.self.inside.made c.self.inside.hosts c.self.invariant.running.linked c.self.invariant.counted counted (subst (λ (r : Run). IsInside (configuration_of r)) (sym c.self.view_is) c.requires.inside) c.self.inside.noted c.self.invariant.noted_is;
+    }
 
 pub invariant_of-self-in-Calls : goal.invariant_of-self-in-Calls
 invariant_of-self-in-Calls c = record {
@@ -67,6 +75,7 @@ invariant_of-self-in-Calls c = record {
   counted = c.self.invariant.counted;
   functions_are = c.self.invariant.functions_are;
   table_is = c.self.invariant.table_is;
+  noted_is = c.self.invariant.noted_is;
 }
 
 pub call-requires : goal.call-requires
