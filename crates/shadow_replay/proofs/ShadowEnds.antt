@@ -1,0 +1,253 @@
+-- What a branch and the end of a block make of a state that they are fit for.
+use Rattle.std.proofs.Common.{◌≡◌, ℕ, zero, suc, ◌+◌, ◌<◌, ◌≤◌, List, [], ◌∷◌, ◌++◌, Option, Some, None, IsSome, Bool, length, option_and_then, take, drop, refl, sym, ap, ◌∙◌, subst, arith, append-nil}
+use Rattle.std.specs.Prelude.{reverse, Result, Ok, Err, is_ok, OnOk, true}
+use Rattle.std.proofs.lemmas.List.{reverse-reverse, length-drop, drop_all}
+use Rattle.wasm_num.specs.declared.Value.{Value}
+use Rattle.module_ast.specs.Typing.{push}
+use Rattle.wasm_sem.specs.Machine.{pop_values}
+use Rattle.shadow_replay.specs.declared.marked.Marked.{Marked}
+use Rattle.shadow_replay.specs.Shadow.{ShadowLabel, ShadowFrame, HeldValues, Shadow, have_types, types_of, swap, swap_in, with_operands, branch_values, with_held, with_results, holds, holds_results, drops_last, drops_label}
+use Rattle.shadow_replay.specs.Stacked.{values_in, marks_in, Standing, Has, HasLabel, exchanged_in, exchanged, arity_in, outer_count, operand_count, top_operands, frame_left, label_landed, AreOperandsBelow}
+use Rattle.shadow_replay.specs.Tainted.{ShadowMarks, TaintedShadow, held_arity, holds_marks, holds_results_marks, drops_marks, takes_given_marks, with_marks}
+use Rattle.shadow_replay.specs.Replayed.{Replay, EndsLabel, TakesGiven, below, held_below, held_in, with_standing, standing_in, ended_in, ended, given_taken}
+use Rattle.shadow_replay.proofs.ShadowTakes.{some_if, Popped, popped, push_is}
+use Rattle.shadow_replay.proofs.StackReads.{map-reverse}
+
+-- ---- the values that a branch takes
+
+pub record Found (o : List Value) (n a : ℕ) (outer : List ShadowLabel) : Type 0 where
+  pub label : n ≤ length outer
+  pub within : held_arity n a outer ≤ length o
+  pub is : branch_values o n a outer ≡ Some (reverse (take (held_arity n a outer) o) ++ [], drop (held_arity n a outer) o)
+
+found : (o : List Value) (n a : ℕ) (outer : List ShadowLabel) → IsSome (branch_values o n a outer) → Found o n a outer
+found o zero a outer h = let p = popped a o [] h in record { label = omega arith; within = p.within; is = p.is }
+found o (suc n) a [] h = absurd cc
+found o (suc n) a (l ∷ ls) h = let r = found o n l.arity ls h in record { label = omega (arith, r.label); within = r.within; is = r.is }
+
+some_held : (sh : Shadow) (n : ℕ) (r : Option (List Value × List Value)) → IsSome (with_held sh n r) → IsSome r
+some_held sh n None h = absurd cc
+some_held sh n (Some p) h = refl
+
+frame_found : (n : ℕ) (fr : ShadowFrame) (below : List ShadowFrame) (sh : Shadow) → IsSome (holds n (fr ∷ below) sh) → Found fr.top.ops n fr.top.arity fr.outer
+frame_found n fr below sh h = found fr.top.ops n fr.top.arity fr.outer (some_held sh n (branch_values fr.top.ops n fr.top.arity fr.outer) h)
+
+-- a label and its values are there, below so many operands
+pub record HasHeld (a n : ℕ) (fs : List ShadowFrame) : Type 0 where
+  pub label : HasLabel n fs
+  pub values : Has (a + arity_in n fs) fs
+
+has_held : (a n : ℕ) (fs : List ShadowFrame) (sh : Shadow) → Has a fs → IsSome (holds n (exchanged_in a [] fs) sh) → HasHeld a n fs
+has_held a n [] sh k h = absurd k
+has_held a n (fr ∷ below) sh k h =
+    let r = frame_found n (record fr { top = record fr.top { ops = drop a fr.top.ops } }) below sh h in
+    record { label = r.label; values = omega (arith, r.within, length-drop a fr.top.ops, k) }
+
+pub held_has : (a n : ℕ) (sh : Shadow) → Has a sh.frames → IsSome (held_below a n sh) → HasHeld a n sh.frames
+held_has a n sh k h = has_held a n sh.frames (below a sh) k h
+
+-- what is held then
+abbrev pub holding : (label : ℕ) → List Marked → ShadowMarks → Shadow → Option TaintedShadow
+holding n ms k sh = Some (record { state = record sh { held = Some (record { values = values_in ms; label = n }) }; marks = record k { held = reverse (marks_in ms) } })
+
+pub held_is : (n : ℕ) (fs : List ShadowFrame) (sh : Shadow) (k : ShadowMarks) (ms : List Marked) → IsSome (holds n fs sh) → values_in ms ≡ reverse (take (arity_in n fs) (top_operands fs)) → marks_in ms ≡ reverse (take (arity_in n fs) k.taint.operands)
+    → with_marks (holds_marks n fs k) (holds n fs sh) ≡ holding n ms k sh
+held_is n [] sh k ms h e g = absurd cc
+held_is n (fr ∷ below) sh k ms h e g =
+    let r = frame_found n fr below sh h in
+    let a = held_arity n fr.top.arity fr.outer in
+    let with_values : List Value → Option Shadow = λ vs. Some (record sh { held = Some (record { values = vs; label = n }) }) in
+    ap (λ r. with_marks (holds_marks n (fr ∷ below) k) (with_held sh n r)) r.is
+    ∙ (ap (λ vs. with_marks (holds_marks n (fr ∷ below) k) (with_values vs)) (append-nil (reverse (take a fr.top.ops)) ∙ sym e)
+    ∙ ap (λ ks. with_marks (record k { held = ks }) (with_values (values_in ms))) (sym (reverse-reverse (take a k.taint.operands)) ∙ ap reverse (sym g)))
+
+-- below so many operands
+arity_below : (a n : ℕ) (fs : List ShadowFrame) → arity_in n (exchanged_in a [] fs) ≡ arity_in n fs
+arity_below a n [] = refl
+arity_below a n (fr ∷ below) = refl
+
+top_below : (a : ℕ) (fs : List ShadowFrame) → Has a fs → top_operands (exchanged_in a [] fs) ≡ drop a (top_operands fs)
+top_below a [] h = absurd h
+top_below a (fr ∷ below) h = refl
+
+pub held_below_is : (a n : ℕ) (sh : TaintedShadow) (ms : List Marked) → Has a sh.state.frames → IsSome (held_below a n sh.state) → values_in ms ≡ reverse (take (arity_in n sh.state.frames) (drop a (top_operands sh.state.frames)))
+    → marks_in ms ≡ reverse (take (arity_in n sh.state.frames) (drop a sh.marks.taint.operands))
+    → with_marks (holds_marks n (exchanged_in a [] sh.state.frames) (record sh.marks { taint = record sh.marks.taint { operands = drop a sh.marks.taint.operands } })) (held_below a n sh.state)
+    ≡ Some (with_standing (exchanged a [] (standing_in sh)) (held_in n ms sh))
+held_below_is a n sh ms has h e g =
+    let fs = sh.state.frames in
+    let fs2 = exchanged_in a [] fs in
+    let arity = sym (arity_below a n fs) in
+    held_is n fs2 (below a sh.state) (record sh.marks { taint = record sh.marks.taint { operands = drop a sh.marks.taint.operands } }) ms h
+    (e ∙ (ap (λ k. reverse (take k (drop a (top_operands fs)))) arity ∙ ap (λ os. reverse (take (arity_in n fs2) os)) (sym (top_below a fs has))))
+    (g ∙ ap (λ k. reverse (take k (drop a sh.marks.taint.operands))) arity)
+
+-- where none are above
+pub none_above : (fs : List ShadowFrame) → exchanged_in 0 [] fs ≡ fs
+none_above [] = refl
+none_above (fr ∷ below) = refl
+
+pub below_none : (n : ℕ) (sh : Shadow) → held_below 0 n sh ≡ holds n sh.frames sh
+below_none n sh = ap (λ fs. holds n fs (record sh { frames = fs })) (none_above sh.frames)
+
+-- ---- a return
+
+some_results : (sh : Shadow) (n : ℕ) (vs : List Value) (r : Option (List Value × List Value)) → IsSome (with_results sh n vs r) → with_results sh n vs r ≡ with_held sh n r
+some_results sh n vs None h = absurd cc
+some_results sh n vs (Some p) h = (some_if (have_types (types_of vs) p.0) (with_held sh n (Some p)) h).0
+
+return_in : (vs : List Value) (fs : List ShadowFrame) (sh : Shadow) → IsSome (holds_results vs fs sh) → holds_results vs fs sh ≡ holds (outer_count fs) fs sh
+return_in vs [] sh h = absurd cc
+return_in vs (fr ∷ below) sh h = some_results sh (length fr.outer) vs (branch_values fr.top.ops (length fr.outer) fr.top.arity fr.outer) h
+
+pub return_is : (vs : List Value) (sh : Shadow) → IsSome (holds_results vs sh.frames sh) → holds_results vs sh.frames sh ≡ holds (outer_count sh.frames) sh.frames sh
+return_is vs sh h = return_in vs sh.frames sh h
+
+pub return_marks : (fs : List ShadowFrame) (k : ShadowMarks) → holds_results_marks fs k ≡ holds_marks (outer_count fs) fs k
+return_marks [] k = refl
+return_marks (fr ∷ below) k = refl
+
+-- ---- ends
+
+-- the function's label goes, where none are held
+abbrev giving : List Marked → Standing → TaintedShadow → TaintedShadow
+giving ms st sh = record {
+  state = record (with_standing st sh).state { given = Some (values_in ms) };
+  marks = record (with_standing st sh).marks { given = reverse (marks_in ms) };
+}
+
+some_marked : (k : ShadowMarks) (o : Option Shadow) → IsSome (with_marks k o) → IsSome o
+some_marked k None h = absurd cc
+some_marked k (Some sh) h = refl
+
+some_last : (sh : Shadow) (below : List ShadowFrame) (r : Option (List Value × List Value)) → IsSome (drops_last sh below r) → IsSome r
+some_last sh below None h = absurd cc
+some_last sh below (Some p) h = refl
+
+module _ (sh : TaintedShadow) (fr : ShadowFrame) (below : List ShadowFrame) where
+  abbrev ended_frame : Option HeldValues → List ShadowLabel → Option TaintedShadow
+  ended_frame held outer = with_marks (drops_marks (record fr { outer = outer }) held sh.marks) (drops_label sh.state (record fr { outer = outer }) below held)
+
+  popped_last : IsSome (ended_frame None []) → Popped fr.top.arity fr.top.ops []
+  popped_last h =
+      popped fr.top.arity fr.top.ops [] (some_last sh.state below (pop_values fr.top.arity fr.top.ops []) (some_marked (drops_marks (record fr { outer = [] }) None sh.marks) (drops_last sh.state below (pop_values fr.top.arity fr.top.ops [])) h))
+
+  last_ends : (ms : List Marked) → IsSome (ended_frame None []) → values_in ms ≡ reverse (take fr.top.arity fr.top.ops) → marks_in ms ≡ reverse (take fr.top.arity sh.marks.taint.operands)
+      → ended_frame None [] ≡ Some (giving ms (record { frames = below; operands = drop (length fr.top.ops) sh.marks.taint.operands; locals = drop 1 sh.marks.taint.locals }) sh)
+  last_ends ms h e g =
+      let p = popped_last h in
+      let with_given : List Value → Option Shadow = λ vs. Some (record sh.state { frames = below; given = Some vs }) in
+      ap (λ r. with_marks (drops_marks (record fr { outer = [] }) None sh.marks) (drops_last sh.state below r)) p.is
+      ∙ (ap (λ vs. with_marks (drops_marks (record fr { outer = [] }) None sh.marks) (with_given vs)) (append-nil (reverse (take fr.top.arity fr.top.ops)) ∙ sym e)
+      ∙ ap (λ ks. with_marks (record (drops_marks (record fr { outer = [] }) None sh.marks) { given = ks }) (with_given (values_in ms))) (sym (reverse-reverse (take fr.top.arity sh.marks.taint.operands)) ∙ ap reverse (sym g)))
+
+empty : (ls : List ShadowLabel) → length ls ≡ 0 → ls ≡ []
+empty [] h = refl
+empty (l ∷ ls) h = absurd (omega (arith, h))
+
+abbrev fallen : TaintedShadow → List ShadowFrame → Option TaintedShadow
+fallen sh [] = None
+fallen sh (fr ∷ below) = ended_frame sh fr below None fr.outer
+
+has_fallen : (sh : TaintedShadow) (fs : List ShadowFrame) → outer_count fs ≡ 0 → IsSome (fallen sh fs) → Has (0 + arity_in 0 fs) fs
+has_fallen sh [] q h = absurd cc
+has_fallen sh (fr ∷ below) q h = omega (arith, (popped_last sh fr below (subst (λ ls. IsSome (ended_frame sh fr below None ls)) (empty fr.outer q) h)).within)
+
+fallen_is : (sh : TaintedShadow) (fs : List ShadowFrame) (ms : List Marked) → outer_count fs ≡ 0 → IsSome (fallen sh fs) → values_in ms ≡ reverse (take (arity_in 0 fs) (top_operands fs)) → marks_in ms ≡ reverse (take (arity_in 0 fs) sh.marks.taint.operands)
+    → fallen sh fs ≡ Some (giving ms (record { frames = drop 1 fs; operands = drop (operand_count fs) sh.marks.taint.operands; locals = drop 1 sh.marks.taint.locals }) sh)
+fallen_is sh [] ms q h e g = absurd cc
+fallen_is sh (fr ∷ below) ms q h e g =
+    let none = empty fr.outer q in
+    ap (ended_frame sh fr below None) none ∙ last_ends sh fr below ms (subst (λ ls. IsSome (ended_frame sh fr below None ls)) none h) e g
+
+ended_fallen : (sh : TaintedShadow) (fs : List ShadowFrame) → sh.state.held ≡ None → ended_in fs sh ≡ fallen sh fs
+ended_fallen sh [] h = refl
+ended_fallen sh (fr ∷ below) h = ap (λ held. with_marks (drops_marks fr held sh.marks) (drops_label sh.state fr below held)) h
+
+pub has_results : (sh : TaintedShadow) → sh.state.held ≡ None → outer_count sh.state.frames ≡ 0 → IsSome (ended sh) → Has (0 + arity_in 0 sh.state.frames) sh.state.frames
+has_results sh e q h = has_fallen sh sh.state.frames q (subst (λ (o : Option TaintedShadow). IsSome o) (ended_fallen sh sh.state.frames e) h)
+
+pub results_given : (sh : TaintedShadow) (ms : List Marked) → sh.state.held ≡ None → outer_count sh.state.frames ≡ 0 → IsSome (ended sh) → AreOperandsBelow 0 (arity_in 0 sh.state.frames) ms (standing_in sh) → ended sh ≡ Some (giving ms (frame_left (standing_in sh)) sh)
+results_given sh ms e q h r =
+    let same = ended_fallen sh sh.state.frames e in
+    same ∙ fallen_is sh sh.state.frames ms q (subst (λ (o : Option TaintedShadow). IsSome o) same h) r.values r.marks
+
+-- ---- held and given values
+
+-- nothing stands above the topmost operand
+no_top : (o : List Value) → drop (length o) o ≡ []
+no_top o = drop_all (length o) o (omega arith)
+
+pushed : (ms : List Marked) (o : List Value) → push (values_in ms) o ≡ values_in (reverse ms) ++ o
+pushed ms o = push_is (values_in ms) o ∙ ap (λ vs. vs ++ o) (sym (map-reverse (λ (m : Marked). m.value) ms))
+
+marked : (ms : List Marked) → reverse (marks_in ms) ≡ marks_in (reverse ms)
+marked ms = sym (map-reverse (λ (m : Marked). m.mark) ms)
+
+-- with nothing held or given
+abbrev pub unheld : TaintedShadow → TaintedShadow
+unheld sh = record { state = record sh.state { held = None }; marks = record sh.marks { held = [] } }
+
+abbrev pub ungiven : TaintedShadow → TaintedShadow
+ungiven sh = record { state = record sh.state { given = None }; marks = record sh.marks { given = [] } }
+
+module _ (sh : TaintedShadow) (ms : List Marked) where
+  land_labels : (fr : ShadowFrame) (below : List ShadowFrame) (outer : List ShadowLabel) → 0 < length outer → sh.state.held ≡ Some (record { values = values_in ms; label = 0 }) → sh.marks.held ≡ reverse (marks_in ms)
+      → with_marks (drops_marks (record fr { outer = outer }) sh.state.held sh.marks) (drops_label sh.state (record fr { outer = outer }) below sh.state.held)
+      ≡ Some (unheld (with_standing (label_landed (reverse ms) (record { frames = record fr { outer = outer } ∷ below; operands = sh.marks.taint.operands; locals = sh.marks.taint.locals })) sh))
+  land_labels fr below [] k e g = absurd (omega (arith, k))
+  land_labels fr below (l ∷ ls) k e g =
+      let n = length fr.top.ops in
+      let operands = drop n sh.marks.taint.operands in
+      let with_ops : List Bool → List Value → Option TaintedShadow = λ ks o. Some (record {
+        state = record sh.state { frames = record fr { top = record l { ops = o }; outer = ls } ∷ below; held = None };
+        marks = record sh.marks { taint = record sh.marks.taint { operands = ks }; held = [] };
+      }) in
+      ap (λ held. with_marks (drops_marks (record fr { outer = l ∷ ls }) held sh.marks) (drops_label sh.state (record fr { outer = l ∷ ls }) below held)) e
+      ∙ (ap (λ ks. with_ops (ks ++ operands) (push (values_in ms) l.ops)) (g ∙ marked ms)
+      ∙ (ap (with_ops (marks_in (reverse ms) ++ operands)) (pushed ms l.ops) ∙ ap (λ o. with_ops (marks_in (reverse ms) ++ operands) (values_in (reverse ms) ++ (o ++ l.ops))) (sym (no_top fr.top.ops))))
+
+  land_in : (fs : List ShadowFrame) → 0 < outer_count fs → sh.state.held ≡ Some (record { values = values_in ms; label = 0 }) → sh.marks.held ≡ reverse (marks_in ms)
+      → ended_in fs sh ≡ Some (unheld (with_standing (label_landed (reverse ms) (record { frames = fs; operands = sh.marks.taint.operands; locals = sh.marks.taint.locals })) sh))
+  land_in [] k e g = absurd (omega (arith, k))
+  land_in (fr ∷ below) k e g = land_labels fr below fr.outer k e g
+
+  pub land_is : 0 < outer_count sh.state.frames → sh.state.held ≡ Some (record { values = values_in ms; label = 0 }) → sh.marks.held ≡ reverse (marks_in ms) → ended sh ≡ Some (unheld (with_standing (label_landed (reverse ms) (standing_in sh)) sh))
+  land_is k e g = land_in sh.state.frames k e g
+
+  -- what is given
+  swap_given : (fs : List ShadowFrame) (state : Shadow) → Has 0 fs → swap_in fs [] (values_in ms) state ≡ Some (record state { frames = exchanged_in 0 (values_in (reverse ms)) fs })
+  swap_given [] state k = absurd k
+  swap_given (fr ∷ below) state k = ap (λ o. Some (with_operands state fr below o)) (pushed ms fr.top.ops)
+
+  pub given_is : Has 0 sh.state.frames → sh.state.given ≡ Some (values_in ms) → sh.marks.given ≡ reverse (marks_in ms) → given_taken sh ≡ Some (ungiven (with_standing (exchanged 0 (reverse ms) (standing_in sh)) sh))
+  given_is k e g =
+      ap (λ o. with_marks (takes_given_marks sh.marks) (option_and_then (λ (vs : List Value). swap [] vs (record sh.state { given = None })) o)) e
+      ∙ (ap (with_marks (takes_given_marks sh.marks)) (swap_given sh.state.frames (record sh.state { given = None }) k)
+      ∙ ap (λ ks. (let r : Option TaintedShadow = Some (record {
+        state = record sh.state { frames = exchanged_in 0 (values_in (reverse ms)) sh.state.frames; given = None };
+        marks = record sh.marks { taint = record sh.marks.taint { operands = ks ++ sh.marks.taint.operands }; given = [] };
+      }) in r)) (g ∙ marked ms))
+
+-- ---- what a shadow is seen as
+
+pub ends : (seen old : Replay) (next : TaintedShadow) → seen ≡ old → ended seen.shadow ≡ Some next → EndsLabel old (record seen { shadow = next })
+ends seen old next e h = record {
+  effect = subst (λ (r : Replay). ended r.shadow ≡ Some next) e h;
+  rest = ap (λ (r : Replay). (let s : Replay = record r { shadow = next } in s)) e;
+}
+
+pub takes_given : (seen old : Replay) (next : TaintedShadow) → seen ≡ old → given_taken seen.shadow ≡ Some next → TakesGiven old (record seen { shadow = next })
+takes_given seen old next e h = record {
+  effect = subst (λ (r : Replay). given_taken r.shadow ≡ Some next) e h;
+  rest = ap (λ (r : Replay). (let s : Replay = record r { shadow = next } in s)) e;
+}
+
+-- what is told of a call that did not fail
+pub on_ok : {A E P : Type 0} (r : Result A E) → is_ok r ≡ true → OnOk r P → P
+on_ok (Ok a) e h = h
+on_ok (Err x) e h = absurd cc
+
+pub positive : (n : ℕ) → (n ≡ 0 → ⊥) → 0 < n
+positive zero h = absurd (h refl)
+positive (suc n) h = omega arith

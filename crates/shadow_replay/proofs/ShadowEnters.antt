@@ -1,0 +1,193 @@
+-- What entries and calls make of a state that they are fit for.
+use Rattle.std.proofs.Common.{◌≡◌, ℕ, ◌+◌, List, [], ◌∷◌, Option, Some, None, IsSome, option_and_then, Bool, true, false, cond, length, take, drop, get_or, slice_get, arith, refl, sym, ap, ◌∙◌, subst, append-nil}
+use Rattle.std.specs.Prelude.{reverse}
+use Rattle.std.proofs.lemmas.List.{length-drop, drop-drop}
+use Rattle.std.proofs.Math.Seq.{drop-nil}
+use Rattle.std.proofs.lemmas.Option.{get_or_from_slice_get}
+use Rattle.wasm_num.specs.declared.ValType.{ValType}
+use Rattle.wasm_num.specs.declared.ValType.TheVariants as types
+use Rattle.wasm_num.specs.declared.Value.{Value}
+use Rattle.module_ast.specs.declared.module.FuncType.{FuncType}
+use Rattle.module_ast.specs.declared.module.Loc.{Loc}
+use Rattle.module_ast.specs.declared.module.Module.{Module}
+use Rattle.wasm_sem.specs.Link.{Callee, callee_type, callees_of}
+use Rattle.wasm_sem.specs.Machine.{pop_values, same_func_type}
+use Rattle.wasm_sem.specs.Events.{entry}
+use Rattle.wasm_sem.proofs.Straight.{some_is}
+use Rattle.shadow_replay.specs.declared.marked.Marked.{Marked}
+use Rattle.shadow_replay.specs.Shadow.{ShadowFrame, Shadow, have_types, with_prepared, takes_arguments, calls_callee, calls_typed, swap, prepared_locals, prepared_typed, prepared_slot, enters, effect}
+use Rattle.shadow_replay.specs.Stacked.{values_in, marks_in, Has, exchanged_in, exchanged, top_operands, AreOperandsBelow}
+use Rattle.shadow_replay.specs.Taint.{Watch, each_marked, exchange, no_frames}
+use Rattle.shadow_replay.specs.Tainted.{PreparedMarks, TaintedShadow, move, calls_marks, calls_typed_marks, enters_marks, local_marks, prepared_marks, typed_marks, slot_marks, with_marks, tainted_effect}
+use Rattle.shadow_replay.specs.Resolved.{begun_with}
+use Rattle.shadow_replay.specs.Replayed.{Replay, PreparedLocals, with_standing, standing_in, marked_values, values_prepared, marks_prepared, Prepares}
+use Rattle.shadow_replay.proofs.ShadowTakes.{some_if, popped, Swaps, swapped}
+use Rattle.shadow_replay.proofs.ShadowHosts.{marked_is, marked_so}
+use Rattle.shadow_replay.proofs.ZeroLocals.{begun_values, begun_marks}
+
+-- ---- entries
+
+abbrev entering : List Marked → TaintedShadow → TaintedShadow
+entering ms sh = record {
+  state = record sh.state { frames = []; prepared = Some (values_in ms); held = None; given = None };
+  marks = record { taint = no_frames sh.marks.taint; prepared = Some (record { call = None; marks = marks_in ms }); held = []; given = [] };
+}
+
+pub enter_is : (m : Module) (limit : ℕ) (w : Watch) (sh : TaintedShadow) (f : ℕ) (args : List Value) (c : Callee) → slice_get (callees_of m) f ≡ Some c → IsSome (effect m limit sh.state (entry (record { func = f; args = args })))
+    → tainted_effect m limit w sh (entry (record { func = f; args = args })) ≡ Some (entering (begun_with c (marked_values false args)) sh)
+enter_is m limit w sh f args c e h =
+    let ms = marked_values false args in
+    let fit = subst (λ c. IsSome (enters sh.state args c)) e h in
+    let with_locals : List Value → List Bool → Option TaintedShadow = λ vs ks. Some (record {
+      state = record sh.state { frames = []; prepared = Some vs; held = None; given = None };
+      marks = record { taint = no_frames sh.marks.taint; prepared = Some (record { call = None; marks = ks }); held = []; given = [] };
+    }) in
+    ap (λ c. with_marks (enters_marks args c sh.marks) (enters sh.state args c)) e
+    ∙ (ap (with_marks (enters_marks args (Some c) sh.marks)) (some_if (have_types (callee_type c).params args) (Some (record sh.state { frames = []; prepared = Some (prepared_locals c args); held = None; given = None })) fit).0
+    ∙ (ap (λ vs. with_locals vs (local_marks c (each_marked false args))) (ap (prepared_locals c) (sym (marked_is false args)) ∙ sym (begun_values c ms))
+    ∙ ap (with_locals (values_in (begun_with c ms))) (ap (local_marks c) (sym (marked_so false args)) ∙ sym (begun_marks c ms))))
+
+-- ---- calls
+
+abbrev Taken : Shadow → List ShadowFrame → List ValType → (List Value → Option (List Value)) → Type 0
+Taken sh fs ts prepared =
+    Has (length ts) fs × (takes_arguments sh fs ts prepared ≡ Some (record sh { frames = exchanged_in (length ts) [] fs; prepared = prepared (reverse (take (length ts) (top_operands fs))) }))
+
+taken : (sh : Shadow) (fs : List ShadowFrame) (ts : List ValType) (prepared : List Value → Option (List Value)) → IsSome (takes_arguments sh fs ts prepared) → Taken sh fs ts prepared
+taken sh [] ts prepared h = absurd cc
+taken sh (fr ∷ below) ts prepared h = by_pop (pop_values (length ts) fr.top.ops []) refl h
+  where
+    by_pop : (r : Option (List Value × List Value)) → pop_values (length ts) fr.top.ops [] ≡ r → IsSome (with_prepared sh fr below ts prepared r) → Taken sh (fr ∷ below) ts prepared
+    by_pop None e h = absurd cc
+    by_pop (Some p) e h =
+        let q = popped (length ts) fr.top.ops [] (subst (λ (r : Option (List Value × List Value)). IsSome r) (sym e) refl) in
+        let is = some_is (sym e ∙ q.is) in
+        let with_both : List Value → List Value → Option Shadow = λ args o. Some (record sh { frames = record fr { top = record fr.top { ops = o } } ∷ below; prepared = prepared args }) in (
+          q.within,
+          ap (with_prepared sh fr below ts prepared) e ∙ ((some_if (have_types ts p.0) (with_both p.0 p.1) h).0
+              ∙ (ap (λ (r : List Value × List Value). with_both r.0 r.1) is ∙ ap (λ args. with_both args (drop (length ts) fr.top.ops)) (append-nil (reverse (take (length ts) fr.top.ops))))),
+        )
+
+pub call_has : (sh : Shadow) (c : Callee) → IsSome (calls_callee sh (Some c)) → Has (length (callee_type c).params) sh.frames
+call_has sh c h = (taken sh sh.frames (callee_type c).params (λ args. Some (prepared_locals c args)) h).0
+
+abbrev calling : Loc → ℕ → List Marked → TaintedShadow → TaintedShadow
+calling l n ms sh = record {
+  state = record (with_standing (exchanged n [] (standing_in sh)) sh).state { prepared = Some (values_in ms) };
+  marks = record (with_standing (exchanged n [] (standing_in sh)) sh).marks { prepared = Some (record { call = Some l; marks = marks_in ms }) };
+}
+
+pub call_is : (l : Loc) (sh : TaintedShadow) (c : Callee) (ms : List Marked) → IsSome (calls_callee sh.state (Some c)) → AreOperandsBelow 0 (length (callee_type c).params) ms (standing_in sh)
+    → with_marks (calls_marks l (Some c) sh.marks) (calls_callee sh.state (Some c)) ≡ Some (calling l (length (callee_type c).params) (begun_with c ms) sh)
+call_is l sh c ms h r =
+    let n = length (callee_type c).params in
+    let with_locals : List Value → List Bool → Option TaintedShadow = λ vs ks. Some (record {
+      state = record (with_standing (exchanged n [] (standing_in sh)) sh).state { prepared = Some vs };
+      marks = record (with_standing (exchanged n [] (standing_in sh)) sh).marks { prepared = Some (record { call = Some l; marks = ks }) };
+    }) in
+    ap (with_marks (calls_marks l (Some c) sh.marks)) (taken sh.state sh.state.frames (callee_type c).params (λ args. Some (prepared_locals c args)) h).1
+    ∙ (ap (λ vs. with_locals vs (local_marks c (reverse (take n sh.marks.taint.operands)))) (ap (prepared_locals c) (sym r.values) ∙ sym (begun_values c ms))
+    ∙ ap (with_locals (values_in (begun_with c ms))) (ap (local_marks c) (sym r.marks) ∙ sym (begun_marks c ms)))
+
+-- ---- calls through a slot
+
+-- the type that is asked for is there, and so are the slot's number and the arguments
+pub slot_type : (m : Module) (f : Option ℕ) (ty : Option FuncType) (sh : Option Shadow) → IsSome (option_and_then (calls_typed m f ty) sh) → IsSome ty
+slot_type m f (Some ty) sh h = refl
+slot_type m f None None h = absurd cc
+slot_type m f None (Some sh) h = absurd cc
+
+-- what is read at a place where there is something
+pub found_at : {A : Type 0} (xs : List A) (i : ℕ) (x : A) → IsSome (slice_get xs i) → x ≡ get_or xs i x → slice_get xs i ≡ Some x
+found_at {A} xs i x h e = go (slice_get xs i) refl h
+  where
+    go : (o : Option A) → slice_get xs i ≡ o → IsSome o → o ≡ Some x
+    go None q h = absurd cc
+    go (Some y) q h = ap (λ z. Some z) (sym (e ∙ get_or_from_slice_get xs i y x q))
+
+inner_some : {A : Type 0} (change : A → Option Shadow) (o : Option A) → IsSome (option_and_then change o) → IsSome o
+inner_some change None h = absurd cc
+inner_some change (Some a) h = refl
+
+has_more : (n : ℕ) (fs : List ShadowFrame) → Has 1 fs → Has n (exchanged_in 1 [] fs) → Has (1 + n) fs
+has_more n [] h k = absurd h
+has_more n (fr ∷ below) h k = omega (arith, h, k, length-drop 1 fr.top.ops)
+
+exchanged_twice : (n : ℕ) (fs : List ShadowFrame) → exchanged_in n [] (exchanged_in 1 [] fs) ≡ exchanged_in (1 + n) [] fs
+exchanged_twice n [] = refl
+exchanged_twice n (fr ∷ below) = ap (λ o. (let t : ShadowFrame = record fr { top = record fr.top { ops = o } } in t) ∷ below) (drop-drop n 1 fr.top.ops)
+
+top_past : (n : ℕ) (fs : List ShadowFrame) → top_operands (exchanged_in n [] fs) ≡ drop n (top_operands fs)
+top_past n [] = sym (drop-nil n)
+top_past n (fr ∷ below) = refl
+
+-- the state without the slot's number
+module _ (m : Module) (f : Option ℕ) (ty : FuncType) (sh : Shadow) (h : IsSome (option_and_then (calls_typed m f (Some ty)) (swap (types.I32 ∷ []) [] sh))) where
+  abbrev n : ℕ
+  n = length ty.params
+
+  abbrev past : Shadow
+  past = record sh { frames = exchanged_in 1 [] sh.frames }
+
+  first : Swaps (types.I32 ∷ []) [] sh
+  first = swapped (types.I32 ∷ []) [] sh (inner_some (calls_typed m f (Some ty)) (swap (types.I32 ∷ []) [] sh) h)
+
+  second : Taken past past.frames ty.params (prepared_slot m ty f)
+  second = taken past past.frames ty.params (prepared_slot m ty f) (subst (λ (o : Option Shadow). IsSome (option_and_then (calls_typed m f (Some ty)) o)) first.is h)
+
+  pub slot_has : Has (1 + n) sh.frames
+  slot_has = has_more n sh.frames first.has second.0
+
+  slot_state : option_and_then (calls_typed m f (Some ty)) (swap (types.I32 ∷ []) [] sh)
+      ≡ Some (record sh { frames = exchanged_in (1 + n) [] sh.frames; prepared = prepared_slot m ty f (reverse (take n (drop 1 (top_operands sh.frames)))) })
+  slot_state =
+      ap (option_and_then (calls_typed m f (Some ty))) first.is ∙ (second.1
+      ∙ (ap (λ fs. (let t : Option Shadow = Some (record sh { frames = fs; prepared = prepared_slot m ty f (reverse (take n (top_operands past.frames))) }) in t)) (exchanged_twice n sh.frames)
+      ∙ ap (λ o. (let t : Option Shadow = Some (record sh { frames = exchanged_in (1 + n) [] sh.frames; prepared = prepared_slot m ty f (reverse (take n o)) }) in t)) (top_past 1 sh.frames)))
+
+abbrev calling_slot : ℕ → Option PreparedLocals → TaintedShadow → TaintedShadow
+calling_slot n p sh = record {
+  state = record (with_standing (exchanged n [] (standing_in sh)) sh).state { prepared = values_prepared p };
+  marks = record (with_standing (exchanged n [] (standing_in sh)) sh).marks { prepared = marks_prepared p };
+}
+
+pub slot_is : (m : Module) (l : Loc) (f : Option ℕ) (ty : FuncType) (sh : TaintedShadow) (ms : List Marked) (p : Option PreparedLocals) → IsSome (option_and_then (calls_typed m f (Some ty)) (swap (types.I32 ∷ []) [] sh.state))
+    → AreOperandsBelow 1 (length ty.params) ms (standing_in sh) → values_prepared p ≡ prepared_slot m ty f (values_in ms) → marks_prepared p ≡ slot_marks m l ty f (marks_in ms)
+    → with_marks (calls_typed_marks m l f (Some ty) (move (exchange 1 []) sh.marks)) (option_and_then (calls_typed m f (Some ty)) (swap (types.I32 ∷ []) [] sh.state)) ≡ Some (calling_slot (1 + length ty.params) p sh)
+slot_is m l f ty sh ms p h r e g =
+    let n = length ty.params in
+    let with_prepared : Option (List Value) → Option PreparedMarks → List Bool → Option TaintedShadow = λ vs ks o. Some (record {
+      state = record sh.state { frames = exchanged_in (1 + n) [] sh.state.frames; prepared = vs };
+      marks = record sh.marks { taint = record sh.marks.taint { operands = o }; prepared = ks };
+    }) in
+    let o = sh.marks.taint.operands in
+    ap (with_marks (calls_typed_marks m l f (Some ty) (move (exchange 1 []) sh.marks))) (slot_state m f ty sh.state h)
+    ∙ (ap (λ vs. with_prepared vs (slot_marks m l ty f (reverse (take n (drop 1 o)))) (drop n (drop 1 o))) (ap (prepared_slot m ty f) (sym r.values) ∙ sym e)
+    ∙ (ap (λ ks. with_prepared (values_prepared p) ks (drop n (drop 1 o))) (ap (slot_marks m l ty f) (sym r.marks) ∙ sym g)
+    ∙ ap (with_prepared (values_prepared p) (marks_prepared p)) (drop-drop n 1 o)))
+
+-- ---- what a call through a slot prepares
+
+pub prepares_none : (loc : Loc) (asked : FuncType) (f : Option ℕ) (ms : List Marked) (r : Replay) → f ≡ None → Prepares loc asked f ms r None
+prepares_none loc asked f ms r e = rw e (record { values = refl; marks = refl })
+
+-- there is no such function
+pub prepares_past : (loc : Loc) (asked : FuncType) (f : ℕ) (ms : List Marked) (r : Replay) → slice_get (callees_of r.module) f ≡ None → Prepares loc asked (Some f) ms r None
+prepares_past loc asked f ms r e = record {
+  values = sym (ap (λ c. prepared_typed asked c (values_in ms)) e);
+  marks = sym (ap (λ c. typed_marks loc asked c (marks_in ms)) e);
+}
+
+-- it has another type
+pub prepares_other : (loc : Loc) (asked : FuncType) (f : ℕ) (ms : List Marked) (r : Replay) (c : Callee) → slice_get (callees_of r.module) f ≡ Some c → same_func_type (callee_type c) asked ≡ false → Prepares loc asked (Some f) ms r None
+prepares_other loc asked f ms r c e h = record {
+  values = sym (ap (λ c. prepared_typed asked c (values_in ms)) e ∙ ap (λ b. cond b (Some (prepared_locals c (values_in ms))) None) h);
+  marks = sym (ap (λ c. typed_marks loc asked c (marks_in ms)) e ∙ ap (λ b. cond b (prepared_marks (Some loc) (Some c) (marks_in ms)) None) h);
+}
+
+pub prepares_locals : (loc : Loc) (asked : FuncType) (f : ℕ) (ms ls : List Marked) (r : Replay) (c : Callee) → slice_get (callees_of r.module) f ≡ Some c → same_func_type (callee_type c) asked ≡ true → ls ≡ begun_with c ms
+    → Prepares loc asked (Some f) ms r (Some (record { call = Some loc; locals = ls }))
+prepares_locals loc asked f ms ls r c e h g = record {
+  values = sym (ap (λ c. prepared_typed asked c (values_in ms)) e ∙ (ap (λ b. cond b (Some (prepared_locals c (values_in ms))) None) h ∙ ap (λ vs. Some vs) (sym (ap values_in g ∙ begun_values c ms))));
+  marks = sym (ap (λ c. typed_marks loc asked c (marks_in ms)) e ∙ (ap (λ b. cond b (prepared_marks (Some loc) (Some c) (marks_in ms)) None) h ∙ ap (λ ks. (let t : Option PreparedMarks = Some (record { call = Some loc; marks = ks }) in t)) (sym (ap marks_in g ∙ begun_marks c ms))));
+}

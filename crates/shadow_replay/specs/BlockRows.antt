@@ -1,0 +1,32 @@
+-- The blocks of a module, function by function and position by position.
+use Rattle.std.specs.Prelude.{List, [], ◌∷◌, ◌++◌, map, ℤ, pos, negsuc, Option, None, slice_index_or}
+use Rattle.wasm_num.specs.declared.BlockKind.TheVariants as kinds
+use Rattle.module_ast.specs.declared.module.Module.{Module}
+use Rattle.module_ast.specs.Tree.{Tree, done, plain, block, loop, if_then, if_else}
+use Rattle.wasm_sem.specs.Link.{Callee, host, hook, own, callees_of}
+use Rattle.shadow_replay.specs.Blocks.{of_kind}
+use Rattle.shadow_replay.specs.declared.blocks.Block.{Block}
+
+-- the block that begins at each position of code, where one does
+abbrev pub code_row : Tree → List (Option Block)
+code_row done = []
+code_row (plain i k) = None ∷ code_row k
+code_row (block ty body k) = of_kind kinds.Block ty ∷ (code_row body ++ None ∷ code_row k)
+code_row (loop ty body k) = of_kind kinds.Loop ty ∷ (code_row body ++ None ∷ code_row k)
+code_row (if_then ty body k) = of_kind kinds.If ty ∷ (code_row body ++ None ∷ code_row k)
+code_row (if_else ty body other k) = of_kind kinds.If ty ∷ (code_row body ++ of_kind kinds.Else ty ∷ (code_row other ++ None ∷ code_row k))
+
+-- the block at a position; the function begins before the first
+abbrev pub row_block : List (Option Block) → ℤ → Option Block
+row_block row (pos n) = slice_index_or row n None
+row_block row (negsuc n) = None
+
+-- of a function
+abbrev pub callee_row : Callee → List (Option Block)
+callee_row (own ty locals code) = code_row code
+callee_row (host ty) = []
+callee_row (hook ty) = []
+
+-- of each function
+abbrev pub block_rows : Module → List (List (Option Block))
+block_rows m = map callee_row (callees_of m)

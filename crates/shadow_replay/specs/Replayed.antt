@@ -1,0 +1,271 @@
+-- What a shadow is seen as: a state with its marks, beside the module, the bound on its pages, and what is watched.
+use Rattle.std.specs.Prelude.{◌≡◌, ℕ, List, [], ◌∷◌, length, map, reverse, take, drop, slice_get, Option, Some, None, option_map, option_and_then, IsSome, Bool}
+use Rattle.wasm_num.specs.declared.ValType.TheVariants as types
+use Rattle.wasm_num.specs.declared.NumOp.{NumOp}
+use Rattle.wasm_num.specs.declared.Value.{Value}
+use Rattle.wasm_num.specs.Shapes.{num_operands, num_result}
+use Rattle.module_ast.specs.declared.module.FuncType.{FuncType}
+use Rattle.module_ast.specs.declared.module.Loc.{Loc}
+use Rattle.module_ast.specs.declared.module.Module.{Module}
+use Rattle.module_ast.specs.Memory.{with_bytes, store_bytes, grown_memory}
+use Rattle.module_ast.specs.declared.ops.StoreOp.{StoreOp}
+use Rattle.module_ast.specs.Shapes.{store_width}
+use Rattle.hook_select.specs.declared.Event.{Event}
+use Rattle.hook_select.specs.declared.Event.TheVariants as events
+use Rattle.wasm_sem.specs.declared.HostWrite.{HostWrite}
+use Rattle.wasm_sem.specs.Events.{TraceItem, host_call}
+use Rattle.wasm_sem.specs.Link.{callees_of}
+use Rattle.shadow_replay.specs.declared.Warning.{Warning}
+use Rattle.shadow_replay.specs.declared.marked.Marked.{Marked}
+use Rattle.shadow_replay.specs.Blocks.{block_at}
+use Rattle.shadow_replay.specs.Shadow.{ShadowFrame, Shadow, have_type, if_true, swap, holds, drops_label, begins_block, begins_function, calls_callee, calls_typed, prepared_slot, event_effect}
+use Rattle.shadow_replay.specs.Stacked.{values_in, marks_in, Standing, exchanged_in, arity_in, top_operands}
+use Rattle.shadow_replay.specs.Taint.{Watch, some_marked, exchange, mark_bytes, add_pages, warnings_by}
+use Rattle.shadow_replay.specs.Tainted.{PreparedMarks, TaintedShadow, move, drops_marks, takes_given_marks, begins_marks, calls_marks, calls_typed_marks, slot_marks, with_marks, tainted_effect}
+
+pub record Replay : Type 0 where
+  pub «module» : Module
+  pub limit : ℕ
+  pub watch : Watch
+  pub shadow : TaintedShadow
+
+-- locals that are prepared, with the call that prepared them
+pub record PreparedLocals : Type 0 where
+  pub call : Option Loc
+  pub locals : List Marked
+
+-- values that a branch takes along, the lowest first
+pub record HeldOperands : Type 0 where
+  pub operands : List Marked
+  pub label : ℕ
+
+abbrev pub held_marks : Option HeldOperands → List Bool
+held_marks None = []
+held_marks (Some h) = reverse (marks_in h.operands)
+
+abbrev pub given_marks : Option (List Marked) → List Bool
+given_marks None = []
+given_marks (Some ms) = reverse (marks_in ms)
+
+abbrev pub values_prepared : Option PreparedLocals → Option (List Value)
+values_prepared p = option_map (λ (p : PreparedLocals). values_in p.locals) p
+
+abbrev pub marks_prepared : Option PreparedLocals → Option PreparedMarks
+marks_prepared p = option_map (λ (p : PreparedLocals). record { call = p.call; marks = marks_in p.locals }) p
+
+-- the state that is kept so
+abbrev pub shadow_seen : (memory : List ℕ) → List Bool → (globals : List Marked) → Standing → Option PreparedLocals → Option HeldOperands → (given : Option (List Marked)) → List Warning → TaintedShadow
+shadow_seen memory ks gs st p h g ws = record {
+  state = record {
+    memory = memory;
+    globals = values_in gs;
+    frames = st.frames;
+    prepared = values_prepared p;
+    held = option_map (λ (h : HeldOperands). record { values = values_in h.operands; label = h.label }) h;
+    given = option_map values_in g;
+  };
+  marks = record {
+    taint = record { memory = ks; globals = marks_in gs; locals = st.locals; operands = st.operands; warnings = ws };
+    prepared = marks_prepared p;
+    held = held_marks h;
+    given = given_marks g;
+  };
+}
+
+-- ---- what its calls leave
+
+-- with another stack
+abbrev pub with_standing : Standing → TaintedShadow → TaintedShadow
+with_standing st sh = record {
+  state = record sh.state { frames = st.frames };
+  marks = record sh.marks { taint = record sh.marks.taint { locals = st.locals; operands = st.operands } };
+}
+
+abbrev pub standing_in : TaintedShadow → Standing
+standing_in sh = record { frames = sh.state.frames; operands = sh.marks.taint.operands; locals = sh.marks.taint.locals }
+
+-- with another memory
+abbrev pub with_marked_memory : (bytes : List ℕ) → List Bool → TaintedShadow → TaintedShadow
+with_marked_memory bytes ks sh = record { state = record sh.state { memory = bytes }; marks = record sh.marks { taint = record sh.marks.taint { memory = ks } } }
+
+-- an item moves the state, and nothing else
+pub record TakesItem (i : TraceItem) (old new : Replay) : Type 0 where
+  pub effect : tainted_effect old.module old.limit old.watch old.shadow i ≡ Some new.shadow
+  pub «module» : new.module ≡ old.module
+  pub limit : new.limit ≡ old.limit
+  pub watch : new.watch ≡ old.watch
+
+abbrev pub IsFitEvent : Event → Replay → Type 0
+IsFitEvent e r = IsSome (event_effect r.module r.limit r.shadow.state e)
+
+-- events of instructions on operands alone
+abbrev pub IsOnOperands : Event → Type 0
+IsOnOperands (events.If p x) = Unit {0}
+IsOnOperands (events.Const p v) = Unit {0}
+IsOnOperands (events.Unary p op a r) = Unit {0}
+IsOnOperands (events.Binary p op a b r) = Unit {0}
+IsOnOperands (events.Drop p v) = Unit {0}
+IsOnOperands (events.Select p a b x) = Unit {0}
+IsOnOperands (events.MemorySize p n) = Unit {0}
+IsOnOperands _ = ⊥
+
+-- of instructions on variables
+abbrev pub IsOnLocal : Event → Type 0
+IsOnLocal (events.Local p op x v) = Unit {0}
+IsOnLocal _ = ⊥
+
+abbrev pub IsOnGlobal : Event → Type 0
+IsOnGlobal (events.Global p op x v) = Unit {0}
+IsOnGlobal _ = ⊥
+
+-- of instructions on the memory
+abbrev pub IsOnMemory : Event → Type 0
+IsOnMemory (events.Load p op offset a v) = Unit {0}
+IsOnMemory (events.Store p op offset a v) = Unit {0}
+IsOnMemory (events.MemoryGrow p by previous) = Unit {0}
+IsOnMemory _ = ⊥
+
+-- the operands, labels and frames move so, and nothing else
+abbrev pub MovesStanding : (Standing → Standing) → (old new : Replay) → Type 0
+MovesStanding change old new = new ≡ record old { shadow = with_standing (change (standing_in old.shadow)) old.shadow }
+
+-- what the event of a number instruction makes of a state
+abbrev pub number_effect : NumOp → (result : Value) → Shadow → Option Shadow
+number_effect op r sh = if_true (have_type (num_result op) r) (swap (num_operands op) (r ∷ []) sh)
+
+-- its result, marked where one of its operands is
+abbrev pub joined : NumOp → (result : Value) → TaintedShadow → Marked
+joined op r sh = record { value = r; mark = some_marked (take (length (num_operands op)) sh.marks.taint.operands) }
+
+-- the memory has so many pages more
+pub record Grows (by : ℕ) (old new : Replay) : Type 0 where
+  pub memory : grown_memory old.limit by old.shadow.state.memory ≡ Some new.shadow.state.memory
+  pub rest : new ≡ record old { shadow = with_marked_memory new.shadow.state.memory (add_pages by old.shadow.marks.taint).memory old.shadow }
+
+-- the lowest bytes of a value are written
+abbrev pub stored_memory : StoreOp → (address : ℕ) → Value → List ℕ → Option (List ℕ)
+stored_memory op a v memory = option_and_then (λ (bytes : List ℕ). with_bytes a bytes memory) (store_bytes op v)
+
+pub record StoresBytes (address : ℕ) (op : StoreOp) (value : Value) (mark : Bool) (old new : Replay) : Type 0 where
+  pub memory : stored_memory op address value old.shadow.state.memory ≡ Some new.shadow.state.memory
+  pub rest : new ≡ record old { shadow = with_marked_memory new.shadow.state.memory (mark_bytes address (store_width op) mark old.shadow.marks.taint).memory old.shadow }
+
+-- ---- branches and ends
+
+abbrev pub IsBranch : Event → Type 0
+IsBranch (events.Br p n target) = Unit {0}
+IsBranch (events.BrIf p n target x) = Unit {0}
+IsBranch (events.BrTable p x n target) = Unit {0}
+IsBranch (events.Return p vs) = Unit {0}
+IsBranch _ = ⊥
+
+-- without so many operands
+abbrev pub below : (count : ℕ) → Shadow → Shadow
+below n sh = record sh { frames = exchanged_in n [] sh.frames }
+
+abbrev pub held_below : (above label : ℕ) → Shadow → Option Shadow
+held_below above n sh = holds n (below above sh).frames (below above sh)
+
+-- these are held
+abbrev pub held_in : (label : ℕ) → List Marked → TaintedShadow → TaintedShadow
+held_in n ms sh = record {
+  state = record sh.state { held = Some (record { values = values_in ms; label = n }) };
+  marks = record sh.marks { held = reverse (marks_in ms) };
+}
+
+-- the values that a branch takes to a label, below so many operands
+pub record HoldsValues (label above : ℕ) (old new : Replay) : Type 0 where
+  pub operands : List Marked
+  pub values : values_in operands ≡ reverse (take (arity_in label old.shadow.state.frames) (drop above (top_operands old.shadow.state.frames)))
+  pub marks : marks_in operands ≡ reverse (take (arity_in label old.shadow.state.frames) (drop above old.shadow.marks.taint.operands))
+  pub is : new ≡ record old { shadow = held_in label operands old.shadow }
+
+-- what the end of the innermost label makes of a state
+abbrev pub ended_in : List ShadowFrame → TaintedShadow → Option TaintedShadow
+ended_in [] sh = None
+ended_in (fr ∷ below) sh = with_marks (drops_marks fr sh.state.held sh.marks) (drops_label sh.state fr below sh.state.held)
+
+abbrev pub ended : TaintedShadow → Option TaintedShadow
+ended sh = ended_in sh.state.frames sh
+
+pub record EndsLabel (old new : Replay) : Type 0 where
+  pub effect : ended old.shadow ≡ Some new.shadow
+  pub rest : new ≡ record old { shadow = new.shadow }
+
+-- what is given goes onto the operands
+abbrev pub given_taken : TaintedShadow → Option TaintedShadow
+given_taken sh = with_marks (takes_given_marks sh.marks) (option_and_then (λ (vs : List Value). swap [] vs (record sh.state { given = None })) sh.state.given)
+
+pub record TakesGiven (old new : Replay) : Type 0 where
+  pub effect : given_taken old.shadow ≡ Some new.shadow
+  pub rest : new ≡ record old { shadow = new.shadow }
+
+-- of ends, and behind calls
+abbrev pub IsReturn : Event → Type 0
+IsReturn (events.End p kind begin) = Unit {0}
+IsReturn (events.CallPost p vs) = Unit {0}
+IsReturn _ = ⊥
+
+-- ---- calls
+
+-- of calls
+abbrev pub IsCallEvent : Event → Type 0
+IsCallEvent (events.CallPre p f args) = Unit {0}
+IsCallEvent (events.IndirectPre p ty slot f args) = Unit {0}
+IsCallEvent _ = ⊥
+
+-- a function begins whose locals are prepared
+abbrev pub function_begun : (func : ℕ) → Replay → Option Shadow
+function_begun f r = begins_function r.shadow.state f (slice_get (callees_of r.module) f) r.shadow.state.prepared
+
+pub record BeginsFunction (func : ℕ) (old new : Replay) : Type 0 where
+  pub effect : with_marks (begins_marks old.shadow.marks) (function_begun func old) ≡ Some new.shadow
+  pub rest : new ≡ record old { shadow = new.shadow }
+
+-- a block begins
+abbrev pub block_begun : Loc → Replay → Option Shadow
+block_begun l r = begins_block r.module r.shadow.state l.instr (block_at r.module l)
+
+pub record BeginsBlock (loc : Loc) (old new : Replay) : Type 0 where
+  pub effect : with_marks old.shadow.marks (block_begun loc old) ≡ Some new.shadow
+  pub rest : new ≡ record old { shadow = new.shadow }
+
+-- a call takes its arguments off
+abbrev pub called : (func : ℕ) → Replay → Option Shadow
+called f r = calls_callee r.shadow.state (slice_get (callees_of r.module) f)
+
+pub record CallsFunction (loc : Loc) (func : ℕ) (old new : Replay) : Type 0 where
+  pub effect : with_marks (calls_marks loc (slice_get (callees_of old.module) func) old.shadow.marks) (called func old) ≡ Some new.shadow
+  pub rest : new ≡ record old { shadow = new.shadow }
+
+-- a call through a slot takes the slot's number and its arguments off
+abbrev pub called_through : (ty : ℕ) → (func : Option ℕ) → Replay → Option Shadow
+called_through ty f r = option_and_then (calls_typed r.module f (slice_get r.module.types ty)) (swap (types.I32 ∷ []) [] r.shadow.state)
+
+pub record CallsSlot (loc : Loc) (ty : ℕ) (func : Option ℕ) (old new : Replay) : Type 0 where
+  pub effect : with_marks (calls_typed_marks old.module loc func (slice_get old.module.types ty) (move (exchange 1 []) old.shadow.marks)) (called_through ty func old) ≡ Some new.shadow
+  pub rest : new ≡ record old { shadow = new.shadow }
+
+-- what it prepares for the function of the slot
+pub record Prepares (loc : Loc) (asked : FuncType) (func : Option ℕ) (args : List Marked) (r : Replay) (p : Option PreparedLocals) : Type 0 where
+  pub values : values_prepared p ≡ prepared_slot r.module asked func (values_in args)
+  pub marks : marks_prepared p ≡ slot_marks r.module loc asked func (marks_in args)
+
+-- ---- host calls
+
+-- these values, each with this mark
+abbrev pub marked_values : (mark : Bool) → List Value → List Marked
+marked_values k vs = map (λ (v : Value). record { value = v; mark = k }) vs
+
+-- a host call with the arguments that are prepared
+abbrev pub arguments : Option (List Value) → List Value
+arguments None = []
+arguments (Some vs) = vs
+
+abbrev pub answered : (func : ℕ) → (results : List Value) → List HostWrite → Shadow → TraceItem
+answered f vs ws sh = host_call f (arguments sh.prepared) vs ws
+
+-- the warnings of a call
+abbrev pub call_warnings : Watch → (func : ℕ) → Option PreparedMarks → List Warning
+call_warnings w f None = []
+call_warnings w f (Some p) = warnings_by w f p.call p.marks

@@ -1,0 +1,748 @@
+// The state that items rebuild.
+
+ghost use Rattle.std.specs.Prelude.{◌≡◌, ◌+◌, ◌∷◌, [], length, slice_get, None, Some, IsSome, IfOk, OnOk, OnErr};
+ghost use Rattle.hook_select.specs.declared.Event.TheVariants.{Begin};
+ghost use Rattle.wasm_num.specs.Shapes.{num_operands};
+ghost use Rattle.shadow_replay.specs.Stacked.{Has, exchanged};
+ghost use Rattle.shadow_replay.specs.Taint.{nth_mark, read_mark};
+ghost use Rattle.wasm_sem.specs.Events.{event, entry};
+ghost use Rattle.wasm_sem.specs.Link.{callees_of, IsScriptInRange, Links};
+ghost use Rattle.run_opening.specs.Resolved.{callee_for};
+ghost use Rattle.shadow_replay.specs.Fit.{IsItemFit};
+ghost use Rattle.shadow_replay.specs.Opened.{opening_replay, replay_with};
+ghost use Rattle.shadow_replay.specs.Replayed.{TakesItem, MovesStanding, joined, number_effect, IsFitEvent, IsOnOperands, IsOnLocal, IsOnGlobal, IsOnMemory, IsBranch, IsReturn, IsCallEvent, BeginsFunction, BeginsBlock, CallsFunction, CallsSlot, Prepares, function_begun, block_begun, called, called_through, call_warnings, answered, StoresBytes, Grows, HoldsValues, EndsLabel, TakesGiven, held_below, ended, stored_memory};
+ghost use Rattle.module_ast.specs.Memory.{load_value, grown_memory};
+ghost use Rattle.module_ast.specs.Shapes.{load_width};
+
+use crate::Warning;
+use crate::blocks::Blocks;
+use crate::functions::begun_locals;
+use crate::marked::Marked;
+use crate::marks::{
+    argument_warnings, is_some_marked, is_watched, mark_all, marked_values, unmarked, write_all,
+};
+use crate::stack::Stack;
+use hook_select::Event;
+use module_ast::module::{FuncType, Loc};
+use module_ast::ops::{LoadOp, StoreOp, VarOp};
+use run_opening::{Function, functions_of, open_globals, open_memory, same_func_type};
+use run_store::memory::{Memory, PAGE_SIZE};
+use std::alloc::{AllocError, Global};
+use std::marker::Model;
+use wasm_num::{BlockKind, NoMemory, NumOp, Value, Values};
+use wasm_sem::{HostWrite, Script};
+use wasm_valid::ValidModule;
+
+// Locals that are prepared for a function, and the call that prepared them.
+#[derive(Drop)]
+struct Prepared {
+    call: Option<Loc>,
+    locals: Vec<Marked>,
+}
+
+impl Model for Prepared {
+    ghost use Rattle.shadow_replay.specs.Replayed.{PreparedLocals};
+
+    ghost Value = { PreparedLocals };
+
+    ghost view = { λ a. record { call = a.call; locals = a.locals.items } };
+}
+
+// Values that a branch takes along, the lowest first, and how many labels it leaves beside the innermost.
+#[derive(Drop)]
+struct Held {
+    operands: Vec<Marked>,
+    label: usize,
+}
+
+impl Model for Held {
+    ghost use Rattle.shadow_replay.specs.Replayed.{HeldOperands};
+
+    ghost Value = { HeldOperands };
+
+    ghost view = { λ a. record { operands = a.operands.items; label = a.label } };
+}
+
+/// The machine's state, with a mark on each byte and value, as the items told so far rebuild it; and the warnings so far.
+#[derive(Drop)]
+pub struct Shadow<'m> {
+    alloc: Global,
+    valid: &'m ValidModule,
+    functions: Vec<Function<'m>>,
+    blocks: Blocks,
+    sources: Vec<u32>,
+    sinks: Vec<u32>,
+    memory: Memory,
+    memory_marks: Vec<bool>,
+    globals: Vec<Marked>,
+    stack: Stack,
+    prepared: Option<Prepared>,
+    held: Option<Held>,
+    given: Option<Vec<Marked>>,
+    warnings: Vec<Warning>,
+}
+
+impl<'m> Model for Shadow<'m> {
+    ghost use Rattle.std.specs.Prelude.{◌≡◌, length, option_map};
+    ghost use Rattle.shadow_replay.specs.Replayed.{Replay, shadow_seen};
+
+    ghost Value = { Replay };
+
+    ghost use Rattle.module_ast.specs.contracts.module.Module as of_module;
+    ghost use Rattle.std.specs.Coded.{codes};
+
+    ghost coded = { Prim.hlevel (codes, of_module.the_row.coded) };
+
+    ghost view = { λ a.
+        record {
+          «module» = a.valid.now;
+          limit = a.memory.max;
+          watch = record { sources = a.sources.items; sinks = a.sinks.items };
+          shadow = shadow_seen a.memory.bytes a.memory_marks.items a.globals.items a.stack a.prepared a.held (option_map (λ v. v.items) a.given) a.warnings.items;
+        } };
+
+    ghost use Rattle.std.specs.Prelude.{map};
+    ghost use Rattle.wasm_sem.specs.Link.{callees_of};
+    ghost use Rattle.run_opening.specs.Resolved.{callee_for};
+    ghost use Rattle.shadow_replay.specs.BlockRows.{block_rows};
+
+    ghost invariant = { λ a. (length a.memory_marks.items ≡ length a.memory.bytes) × (map callee_for a.functions.items ≡ callees_of a.valid.now) × (a.blocks ≡ block_rows a.valid.now) };
+}
+
+impl<'m> Shadow<'m> {
+    /// The state before the first step of a run of a module under a script with which it links: its memory, with the data
+    /// of its segments, and its globals. Nothing is marked. The results of the sources will be, and marked arguments of the
+    /// sinks be warned of. (Standard, 4.5.4)
+    pub fn new(
+        alloc: Global,
+        valid: &'m ValidModule,
+        script: &Script,
+        sources: &[u32],
+        sinks: &[u32],
+    ) -> Result<Shadow<'m>, NoMemory>
+        requires range { IsScriptInRange script.now }
+        requires links { Links valid.now script.now }
+        ensures { IfOk result (λ sh. sh ≡ opening_replay valid.now script.now (record { sources = sources.now; sinks = sinks.now })) }
+    {
+        let module = valid.module();
+        let values = open_globals(alloc, module, script)?;
+        let memory = open_memory(alloc, module, script, values.as_slice())?;
+        let globals = unmarked(alloc, values.as_slice())?;
+        Shadow::with_store(alloc, valid, memory, globals, sources, sinks)
+    }
+
+    // The state of a module in which no function has begun and no byte is marked.
+    #[tactic(auto, using(crate::proofs::Openings::no_marks))]
+    fn with_store(
+        alloc: Global,
+        valid: &'m ValidModule,
+        memory: Memory,
+        globals: Vec<Marked>,
+        sources: &[u32],
+        sinks: &[u32],
+    ) -> Result<Shadow<'m>, NoMemory>
+        ensures { IfOk result (λ sh. sh ≡ replay_with valid.now memory.max (record { sources = sources.now; sinks = sinks.now }) memory.bytes globals.items) }
+    {
+        let mut memory_marks = Vec::new(alloc);
+        memory_marks.resize(memory.bytes().len(), false)?;
+        let functions = functions_of(alloc, valid)?;
+        let blocks = Blocks::new(alloc, functions.as_slice())?;
+        Ok(Shadow {
+            alloc,
+            valid,
+            functions,
+            blocks,
+            sources: Vec::from_slice(alloc, sources)?,
+            sinks: Vec::from_slice(alloc, sinks)?,
+            memory,
+            memory_marks,
+            globals,
+            stack: Stack::new(alloc),
+            prepared: None,
+            held: None,
+            given: None,
+            warnings: Vec::new(alloc),
+        })
+    }
+
+    /// The warnings so far, in order.
+    pub fn warnings(&self) -> &[Warning]
+        ensures { result.now ≡ self.now.shadow.marks.taint.warnings }
+    {
+        self.warnings.as_slice()
+    }
+
+    /// The bytes of the memory now, none without one.
+    pub fn bytes(&self) -> &[u8]
+        ensures { result.now ≡ self.now.shadow.state.memory }
+    {
+        self.memory.bytes()
+    }
+
+    // The event of an instruction on operands alone.
+    fn take_on_operands(&mut self, e: &Event) -> Result<(), NoMemory>
+        requires kind { IsOnOperands e.now }
+        requires fit { IsFitEvent e.now self.old }
+        ensures ok { OnOk result (TakesItem (event e.now) self.old self.new) }
+        ensures err { OnErr result (self.new ≡ self.old) }
+    {
+        match e {
+            Event::Const { value, .. } => self.stack.push(Marked {
+                value: *value,
+                mark: false,
+            }),
+            Event::MemorySize { pages, .. } => self.stack.push(Marked {
+                value: Value::I32(*pages),
+                mark: false,
+            }),
+            Event::Unary { op, result, .. } => {
+                self.take_number(*op, *result);
+                Ok(())
+            }
+            Event::Binary { op, result, .. } => {
+                self.take_number(*op, *result);
+                Ok(())
+            }
+            Event::Select {
+                first,
+                second,
+                cond,
+                ..
+            } => {
+                let (value, above) = if *cond == 0 {
+                    (*second, 1)
+                } else {
+                    (*first, 2)
+                };
+                let mark = self.stack.mark(above);
+                self.stack.replace(3, Marked { value, mark });
+                Ok(())
+            }
+            Event::Drop { .. } | Event::If { .. } => {
+                self.stack.pop(1);
+                Ok(())
+            }
+            _ => unreachable!(),
+        }
+    }
+
+    // A number instruction has this result.
+    fn take_number(&mut self, op: NumOp, value: Value)
+        requires fit { IsSome (number_effect op value self.old.shadow.state) }
+        ensures { MovesStanding (exchanged (length (num_operands op)) (joined op value self.old.shadow ∷ [])) self.old self.new }
+    {
+        let count = op.operands();
+        let mark = self.stack.joined(count);
+        self.stack.replace(count, Marked { value, mark });
+    }
+
+    // The event of an instruction on a local.
+    fn take_on_local(&mut self, e: &Event) -> Result<(), NoMemory>
+        requires kind { IsOnLocal e.now }
+        requires fit { IsFitEvent e.now self.old }
+        ensures ok { OnOk result (TakesItem (event e.now) self.old self.new) }
+        ensures err { OnErr result (self.new ≡ self.old) }
+    {
+        let Event::Local {
+            op,
+            index,
+            value,
+            ..
+        } = e
+        else {
+            unreachable!();
+        };
+        let value = *value;
+        match op {
+            VarOp::Get => {
+                let mark = self.stack.local_mark(*index);
+                self.stack.push(Marked { value, mark })
+            }
+            VarOp::Set => {
+                let mark = self.stack.mark(0);
+                self.stack.pop(1);
+                self.stack.set_local(*index, Marked { value, mark });
+                Ok(())
+            }
+            VarOp::Tee => {
+                let mark = self.stack.mark(0);
+                self.stack.set_local(*index, Marked { value, mark });
+                Ok(())
+            }
+        }
+    }
+
+    // The event of an instruction on a global.
+    fn take_on_global(&mut self, e: &Event) -> Result<(), NoMemory>
+        requires kind { IsOnGlobal e.now }
+        requires fit { IsFitEvent e.now self.old }
+        ensures ok { OnOk result (TakesItem (event e.now) self.old self.new) }
+        ensures err { OnErr result (self.new ≡ self.old) }
+    {
+        let Event::Global {
+            op,
+            index,
+            value,
+            ..
+        } = e
+        else {
+            unreachable!();
+        };
+        let value = *value;
+        match op {
+            VarOp::Get => {
+                let mark = self.global_mark(*index);
+                self.stack.push(Marked { value, mark })
+            }
+            VarOp::Set => {
+                let mark = self.stack.mark(0);
+                self.stack.pop(1);
+                self.globals[*index as usize] = Marked { value, mark };
+                Ok(())
+            }
+            VarOp::Tee => unreachable!(),
+        }
+    }
+
+    // The mark of a global; none past the last one.
+    fn global_mark(&self, index: u32) -> bool
+        ensures { result ≡ nth_mark self.now.shadow.marks.taint.globals index }
+    {
+        match self.globals.as_slice().get(index as usize) {
+            Some(global) => global.mark,
+            None => false,
+        }
+    }
+
+    // The event of an instruction on the memory.
+    fn take_on_memory(&mut self, e: &Event) -> Result<(), NoMemory>
+        requires kind { IsOnMemory e.now }
+        requires fit { IsFitEvent e.now self.old }
+        ensures ok { OnOk result (TakesItem (event e.now) self.old self.new) }
+        ensures err { OnErr result (self.new ≡ self.old) }
+    {
+        match e {
+            Event::Load {
+                op,
+                offset,
+                address,
+                value,
+                ..
+            } => {
+                let mark = self.read_mark(*op, *address, *offset);
+                self.stack.replace(
+                    1,
+                    Marked {
+                        value: *value,
+                        mark,
+                    },
+                );
+                Ok(())
+            }
+            Event::Store {
+                op,
+                offset,
+                address,
+                value,
+                ..
+            } => {
+                let mark = self.stack.mark(0);
+                self.store(*op, *address, *offset, *value, mark);
+                self.stack.pop(2);
+                Ok(())
+            }
+            Event::MemoryGrow { by, previous, .. } => {
+                if *previous != u32::MAX {
+                    self.grow(*by)?;
+                }
+                self.stack.replace(
+                    1,
+                    Marked {
+                        value: Value::I32(*previous),
+                        mark: false,
+                    },
+                );
+                Ok(())
+            }
+            _ => unreachable!(),
+        }
+    }
+
+    // Whether one of the bytes that a load reads is marked. They lie within the memory.
+    fn read_mark(&self, op: LoadOp, address: u32, offset: u32) -> bool
+        requires { IsSome (load_value op (address + offset) self.now.shadow.state.memory) }
+        ensures { result ≡ read_mark (address + offset) (load_width op) self.now.shadow.marks.taint }
+    {
+        let start = address as usize + offset as usize;
+        is_some_marked(&self.memory_marks[start..start + op.width() as usize])
+    }
+
+    // The lowest bytes of a value are written, marked as it is. They lie within the memory.
+    fn store(&mut self, op: StoreOp, address: u32, offset: u32, value: Value, mark: bool)
+        requires { IsSome (stored_memory op (address + offset) value self.old.shadow.state.memory) }
+        ensures { StoresBytes (address + offset) op value mark self.old self.new }
+    {
+        let start = address as usize + offset as usize;
+        if self.memory.store(op, address, offset, value).is_err() {
+            unreachable!();
+        }
+        mark_all(
+            &mut self.memory_marks[start..start + op.width() as usize],
+            mark,
+        );
+    }
+
+    // The memory has so many pages more, within its bound, which are not marked.
+    fn grow(&mut self, by: u32) -> Result<(), NoMemory>
+        requires { IsSome (grown_memory self.old.limit by self.old.shadow.state.memory) }
+        ensures ok { OnOk result (Grows by self.old self.new) }
+        ensures err { OnErr result (self.new ≡ self.old) }
+    {
+        let size = self.memory_marks.len() + by as usize * PAGE_SIZE;
+        self.memory_marks.reserve(by as usize * PAGE_SIZE)?;
+        if self.memory.grow(by)?.is_none() {
+            unreachable!();
+        }
+        if self.memory_marks.resize(size, false).is_err() {
+            unreachable!();
+        }
+        Ok(())
+    }
+
+    // The values that a branch takes to a label, below so many operands, are held.
+    fn hold(&mut self, label: usize, above: usize) -> Result<(), NoMemory>
+        requires above { Has above self.old.shadow.state.frames }
+        requires fit { IsSome (held_below above label self.old.shadow.state) }
+        ensures ok { OnOk result (HoldsValues label above self.old self.new) }
+        ensures err { OnErr result (self.new ≡ self.old) }
+    {
+        let arity = self.stack.arity(label);
+        let operands = self.stack.values_below(self.alloc, above, arity)?;
+        self.held = Some(Held { operands, label });
+        Ok(())
+    }
+
+    // The event of a branch.
+    fn take_branch(&mut self, e: &Event) -> Result<(), NoMemory>
+        requires kind { IsBranch e.now }
+        requires fit { IsFitEvent e.now self.old }
+        ensures ok { OnOk result (TakesItem (event e.now) self.old self.new) }
+        ensures err { OnErr result (self.new ≡ self.old) }
+    {
+        match e {
+            Event::Br { label, .. } => self.hold(*label as usize, 0),
+            Event::BrIf { label, cond, .. } => {
+                if *cond == 0 {
+                    self.stack.pop(1);
+                    return Ok(());
+                }
+                self.hold(*label as usize, 1)?;
+                self.stack.pop(1);
+                Ok(())
+            }
+            Event::BrTable { label, .. } => {
+                self.hold(*label as usize, 1)?;
+                self.stack.pop(1);
+                Ok(())
+            }
+            Event::Return { .. } => {
+                let label = self.stack.outer_count();
+                self.hold(label, 0)
+            }
+            _ => unreachable!(),
+        }
+    }
+
+    // The innermost label goes; what stands on it goes to the label around it, and at the function's it is given.
+    fn fall(&mut self) -> Result<(), NoMemory>
+        requires held { self.old.shadow.state.held ≡ None }
+        requires fit { IsSome (ended self.old.shadow) }
+        ensures ok { OnOk result (EndsLabel self.old self.new) }
+        ensures err { OnErr result (self.new ≡ self.old) }
+    {
+        if self.stack.outer_count() != 0 {
+            self.stack.close();
+            return Ok(());
+        }
+        let arity = self.stack.arity(0);
+        let results = self.stack.values_below(self.alloc, 0, arity)?;
+        self.stack.leave();
+        self.given = Some(results);
+        Ok(())
+    }
+
+    // The innermost label goes.
+    fn end(&mut self) -> Result<(), NoMemory>
+        requires fit { IsSome (ended self.old.shadow) }
+        ensures ok { OnOk result (EndsLabel self.old self.new) }
+        ensures err { OnErr result (self.new ≡ self.old) }
+    {
+        let Some(mut held) = self.held.take() else {
+            return self.fall();
+        };
+        if self.stack.outer_count() == 0 {
+            self.stack.leave();
+            self.given = Some(held.operands);
+            return Ok(());
+        }
+        if held.label == 0 {
+            if self.stack.land(held.operands.as_slice()).is_err() {
+                self.held = Some(held);
+                return Err(AllocError);
+            }
+            return Ok(());
+        }
+        let count = self.stack.operand_count();
+        self.stack.pop(count);
+        self.stack.close();
+        held.label -= 1;
+        self.held = Some(held);
+        Ok(())
+    }
+
+    // The event of an end, or the one behind a call.
+    fn take_return(&mut self, e: &Event) -> Result<(), NoMemory>
+        requires kind { IsReturn e.now }
+        requires fit { IsFitEvent e.now self.old }
+        ensures ok { OnOk result (TakesItem (event e.now) self.old self.new) }
+        ensures err { OnErr result (self.new ≡ self.old) }
+    {
+        match e {
+            Event::End { .. } => self.end(),
+            Event::CallPost { .. } => self.take_given(),
+            _ => unreachable!(),
+        }
+    }
+
+    // The frame that made a call has what it gave.
+    fn take_given(&mut self) -> Result<(), NoMemory>
+        requires frame { Has 0 self.old.shadow.state.frames }
+        requires given { IsSome self.old.shadow.state.given }
+        ensures ok { OnOk result (TakesGiven self.old self.new) }
+        ensures err { OnErr result (self.new ≡ self.old) }
+    {
+        let Some(given) = self.given.take() else {
+            unreachable!();
+        };
+        if self.stack.extend(given.as_slice()).is_err() {
+            self.given = Some(given);
+            return Err(AllocError);
+        }
+        Ok(())
+    }
+
+    // A function of the module.
+    fn function(&self, func: u32) -> Function<'m>
+        requires { IsSome (slice_get (callees_of self.now.module) func) }
+        ensures { slice_get (callees_of self.now.module) func ≡ Some (callee_for result) }
+    {
+        self.functions[func as usize]
+    }
+
+    // The function begins whose locals are prepared.
+    fn begin(&mut self, func: u32) -> Result<(), NoMemory>
+        requires fit { IsSome (function_begun func self.old) }
+        ensures ok { OnOk result (BeginsFunction func self.old self.new) }
+        ensures err { OnErr result (self.new ≡ self.old) }
+    {
+        let function = self.function(func);
+        let arity = function.ty().results.as_slice().len();
+        let Some(prepared) = self.prepared.take() else {
+            unreachable!();
+        };
+        let call = prepared.call;
+        match self.stack.enter(func, arity, prepared.locals) {
+            Ok(()) => Ok(()),
+            Err(locals) => {
+                self.prepared = Some(Prepared { call, locals });
+                Err(AllocError)
+            }
+        }
+    }
+
+    // A block begins.
+    fn open(&mut self, loc: Loc) -> Result<(), NoMemory>
+        requires fit { IsSome (block_begun loc self.old) }
+        ensures ok { OnOk result (BeginsBlock loc self.old self.new) }
+        ensures err { OnErr result (self.new ≡ self.old) }
+    {
+        let Some(block) = self.blocks.at(loc) else {
+            unreachable!();
+        };
+        self.stack.open(block.kind, loc.instr, block.arity())
+    }
+
+    // The event of a function or a block that begins.
+    fn take_begin(&mut self, loc: Loc, kind: BlockKind) -> Result<(), NoMemory>
+        requires fit { IsFitEvent (Begin loc kind) self.old }
+        ensures ok { OnOk result (TakesItem (event (Begin loc kind)) self.old self.new) }
+        ensures err { OnErr result (self.new ≡ self.old) }
+    {
+        match kind {
+            BlockKind::Function => self.begin(loc.func),
+            _ => self.open(loc),
+        }
+    }
+
+    // A call takes its arguments off, which are prepared.
+    fn call(&mut self, loc: Loc, callee: u32) -> Result<(), NoMemory>
+        requires fit { IsSome (called callee self.old) }
+        ensures ok { OnOk result (CallsFunction loc callee self.old self.new) }
+        ensures err { OnErr result (self.new ≡ self.old) }
+    {
+        let function = self.function(callee);
+        let count = function.ty().params.as_slice().len();
+        let args = self.stack.values_below(self.alloc, 0, count)?;
+        let locals = begun_locals(&function, args)?;
+        self.stack.pop(count);
+        self.prepared = Some(Prepared {
+            call: Some(loc),
+            locals,
+        });
+        Ok(())
+    }
+
+    // What a call through a slot prepares for the function there, where there is one and it has the type that is asked for.
+    fn prepare(
+        &self,
+        loc: Loc,
+        asked: &FuncType,
+        callee: Option<u32>,
+        args: Vec<Marked>,
+    ) -> Result<Option<Prepared>, NoMemory>
+        ensures { IfOk result (λ p. Prepares loc asked.now callee args.items self.now p) }
+    {
+        let Some(func) = callee else {
+            return Ok(None);
+        };
+        let Some(function) = self.functions.as_slice().get(func as usize) else {
+            return Ok(None);
+        };
+        if !same_func_type(function.ty(), asked) {
+            return Ok(None);
+        }
+        let locals = begun_locals(function, args)?;
+        Ok(Some(Prepared {
+            call: Some(loc),
+            locals,
+        }))
+    }
+
+    // A call through a slot takes the slot's number and its arguments off.
+    fn call_slot(&mut self, loc: Loc, ty: u32, callee: Option<u32>) -> Result<(), NoMemory>
+        requires fit { IsSome (called_through ty callee self.old) }
+        ensures ok { OnOk result (CallsSlot loc ty callee self.old self.new) }
+        ensures err { OnErr result (self.new ≡ self.old) }
+    {
+        let asked = &self.valid.module().types.as_slice()[ty as usize];
+        let count = asked.params.as_slice().len();
+        let args = self.stack.values_below(self.alloc, 1, count)?;
+        let prepared = self.prepare(loc, asked, callee, args)?;
+        self.stack.pop(1 + count);
+        self.prepared = prepared;
+        Ok(())
+    }
+
+    // The event of a call.
+    fn take_call(&mut self, e: &Event) -> Result<(), NoMemory>
+        requires kind { IsCallEvent e.now }
+        requires fit { IsFitEvent e.now self.old }
+        ensures ok { OnOk result (TakesItem (event e.now) self.old self.new) }
+        ensures err { OnErr result (self.new ≡ self.old) }
+    {
+        match e {
+            Event::CallPre { loc, callee, .. } => self.call(*loc, *callee),
+            Event::IndirectPre {
+                loc,
+                ty,
+                callee,
+                ..
+            } => self.call_slot(*loc, *ty, *callee),
+            _ => unreachable!(),
+        }
+    }
+
+    /// The start or a call of the script is entered with these arguments, which are not marked. After an `Err` nothing has
+    /// changed.
+    pub fn enter(&mut self, func: u32, args: &Values) -> Result<(), NoMemory>
+        requires fit { IsItemFit self.old.module self.old.limit self.old.shadow.state (entry (record { func = func; args = args.now })) }
+        ensures ok { OnOk result (TakesItem (entry (record { func = func; args = args.now })) self.old self.new) }
+        ensures err { OnErr result (self.new ≡ self.old) }
+    {
+        let function = self.function(func);
+        let locals = begun_locals(&function, marked_values(self.alloc, args, false)?)?;
+        self.stack.clear();
+        self.prepared = Some(Prepared { call: None, locals });
+        self.held = None;
+        self.given = None;
+        Ok(())
+    }
+
+    // The warnings of the call that is prepared, where it calls a sink and an instruction makes it.
+    fn warnings_of(&self, import: u32) -> Result<Vec<Warning>, NoMemory>
+        requires { IsSome self.now.shadow.state.prepared }
+        ensures { IfOk result (λ ws. ws.items ≡ call_warnings self.now.watch import self.now.shadow.marks.prepared) }
+    {
+        let Some(prepared) = &self.prepared else {
+            unreachable!();
+        };
+        match prepared.call {
+            Some(loc) if is_watched(self.sinks.as_slice(), import) => {
+                argument_warnings(self.alloc, loc, import, prepared.locals.as_slice())
+            }
+            _ => Ok(Vec::new(self.alloc)),
+        }
+    }
+
+    /// A host function answers with these results and writes the call whose arguments are prepared. The results are marked
+    /// where it is a source, and what it writes is not. Each marked argument is warned of where it is a sink, unless the
+    /// script entered it. After an `Err` nothing has changed.
+    pub fn host(
+        &mut self,
+        import: u32,
+        results: &Values,
+        writes: &[HostWrite],
+    ) -> Result<(), NoMemory>
+        requires fit { IsItemFit self.old.module self.old.limit self.old.shadow.state (answered import results.now writes.now self.old.shadow.state) }
+        ensures ok { OnOk result (TakesItem (answered import results.now writes.now self.old.shadow.state) self.old self.new) }
+        ensures err { OnErr result (self.new ≡ self.old) }
+    {
+        let source = is_watched(self.sources.as_slice(), import);
+        let given = marked_values(self.alloc, results, source)?;
+        let warnings = self.warnings_of(import)?;
+        self.warnings.extend_from_slice(warnings.as_slice())?;
+        write_all(&mut self.memory, self.memory_marks.as_mut_slice(), writes);
+        self.prepared = None;
+        self.given = Some(given);
+        Ok(())
+    }
+
+    /// An instruction, or a function or block that begins or ends, is told by its event. After an `Err` nothing has changed.
+    pub fn take(&mut self, e: &Event) -> Result<(), NoMemory>
+        requires fit { IsItemFit self.old.module self.old.limit self.old.shadow.state (event e.now) }
+        ensures ok { OnOk result (TakesItem (event e.now) self.old self.new) }
+        ensures err { OnErr result (self.new ≡ self.old) }
+    {
+        match e {
+            Event::Start { .. } | Event::Nop { .. } | Event::Unreachable { .. } => Ok(()),
+            Event::If { .. }
+            | Event::Const { .. }
+            | Event::Unary { .. }
+            | Event::Binary { .. }
+            | Event::Drop { .. }
+            | Event::Select { .. }
+            | Event::MemorySize { .. } => self.take_on_operands(e),
+            Event::Local { .. } => self.take_on_local(e),
+            Event::Global { .. } => self.take_on_global(e),
+            Event::Load { .. } | Event::Store { .. } | Event::MemoryGrow { .. } => {
+                self.take_on_memory(e)
+            }
+            Event::Br { .. } | Event::BrIf { .. } | Event::BrTable { .. } => self.take_branch(e),
+            Event::Return { .. } => self.take_branch(e),
+            Event::Begin { loc, kind } => self.take_begin(*loc, *kind),
+            Event::End { .. } | Event::CallPost { .. } => self.take_return(e),
+            Event::CallPre { .. } | Event::IndirectPre { .. } => self.take_call(e),
+            Event::Stray { .. } => unreachable!(),
+        }
+    }
+}

@@ -1,0 +1,285 @@
+// Operands, labels and frames, with a mark on each value.
+
+ghost use Rattle.std.specs.Prelude.{◌≡◌, ◌+◌, ◌<◌, ◌≤◌, ◌∷◌, [], OnOk, OnErr, IfOk, IfErr, length, reverse, take, slice_set};
+ghost use Rattle.module_ast.specs.Lists.{first_or};
+ghost use Rattle.shadow_replay.specs.Taint.{nth_mark, some_marked};
+ghost use Rattle.shadow_replay.specs.Stacked.{Has, HasLabel, HasLocal, AreOperandsBelow, operand_count, outer_count, arity_in, IsNested, IsOutermost, exchanged, label_closed, label_landed, label_opened, frame_entered, frame_left, local_set};
+
+use crate::marked::Marked;
+use std::alloc::Global;
+use std::marker::Model;
+use wasm_num::{BlockKind, NoMemory};
+
+/// A label: its block, how many values a branch to it takes, and how many operands stand below its own.
+#[derive(Drop)]
+pub(crate) struct Label {
+    kind: BlockKind,
+    begin: i32,
+    arity: usize,
+    height: usize,
+}
+
+impl Model for Label {
+    ghost use Rattle.shadow_replay.specs.Stacked.{KeptLabel};
+
+    ghost Value = { KeptLabel };
+
+    ghost view = { λ a. record { kind = a.kind; begin = a.begin; arity = a.arity; height = a.height } };
+}
+
+/// A frame: its function, its locals, and how many labels stand below its own.
+#[derive(Drop)]
+pub(crate) struct Frame {
+    func: u32,
+    locals: Vec<Marked>,
+    labels: usize,
+}
+
+impl Model for Frame {
+    ghost use Rattle.shadow_replay.specs.Stacked.{KeptFrame};
+
+    ghost Value = { KeptFrame };
+
+    ghost view = { λ a. record { func = a.func; locals = a.locals.items; labels = a.labels } };
+}
+
+/// The operands, labels and frames of a shadow, each in one vector. Contracts see the frames as they stand, and the marks.
+#[derive(Drop)]
+pub(crate) struct Stack {
+    operands: Vec<Marked>,
+    labels: Vec<Label>,
+    frames: Vec<Frame>,
+}
+
+impl Model for Stack {
+    ghost use Rattle.std.specs.Prelude.{reverse};
+    ghost use Rattle.shadow_replay.specs.Stacked.{Standing, standing, AreWellKept};
+
+    ghost Value = { Standing };
+
+    ghost view = { λ a. standing (reverse a.operands.items) (reverse a.labels.items) (reverse a.frames.items) };
+
+    ghost invariant = { λ a. AreWellKept (reverse a.operands.items) (reverse a.labels.items) (reverse a.frames.items) };
+}
+
+impl Frame {
+    // A local, which is there, is set.
+    fn set_local(&mut self, index: usize, value: Marked)
+        requires { index < length self.old.locals }
+        ensures { self.new ≡ record self.old { locals = slice_set self.old.locals index value } }
+    {
+        self.locals[index] = value;
+    }
+}
+
+impl Stack {
+    /// No operand, no label and no frame. It takes no memory.
+    pub fn new(alloc: Global) -> Stack
+        ensures { result ≡ record { frames = []; operands = []; locals = [] } }
+    {
+        Stack {
+            operands: Vec::new(alloc),
+            labels: Vec::new(alloc),
+            frames: Vec::new(alloc),
+        }
+    }
+
+    /// A value is put on top.
+    pub fn push(&mut self, value: Marked) -> Result<(), NoMemory>
+        requires { Has 0 self.old.frames }
+        ensures ok { OnOk result (self.new ≡ exchanged 0 (value ∷ []) self.old) }
+        ensures err { OnErr result (self.new ≡ self.old) }
+    {
+        self.operands.push(value)?;
+        Ok(())
+    }
+
+    /// So many values are taken off the top.
+    pub fn pop(&mut self, count: usize)
+        requires { Has count self.old.frames }
+        ensures { self.new ≡ exchanged count [] self.old }
+    {
+        self.operands.truncate(self.operands.len() - count);
+    }
+
+    /// A value stands for so many on top, of which there is one.
+    pub fn replace(&mut self, count: usize, value: Marked)
+        requires some { 1 ≤ count }
+        requires has { Has count self.old.frames }
+        ensures { self.new ≡ exchanged count (value ∷ []) self.old }
+    {
+        let last = self.operands.len() - count;
+        self.operands[last] = value;
+        self.operands.truncate(last + 1);
+    }
+
+    /// These values are put on top, in order.
+    pub fn extend(&mut self, values: &[Marked]) -> Result<(), NoMemory>
+        requires { Has 0 self.old.frames }
+        ensures ok { OnOk result (self.new ≡ exchanged 0 (reverse values.now) self.old) }
+        ensures err { OnErr result (self.new ≡ self.old) }
+    {
+        self.operands.extend_from_slice(values)?;
+        Ok(())
+    }
+
+    /// A block begins, with no operands.
+    pub fn open(&mut self, kind: BlockKind, begin: i32, arity: usize) -> Result<(), NoMemory>
+        requires { Has 0 self.old.frames }
+        ensures ok { OnOk result (self.new ≡ label_opened kind begin arity self.old) }
+        ensures err { OnErr result (self.new ≡ self.old) }
+    {
+        self.labels.push(Label {
+            kind,
+            begin,
+            arity,
+            height: self.operands.len(),
+        })?;
+        Ok(())
+    }
+
+    /// The innermost label goes, and its operands stay.
+    pub fn close(&mut self)
+        requires { IsNested self.old.frames }
+        ensures { self.new ≡ label_closed self.old }
+    {
+        self.labels.truncate(self.labels.len() - 1);
+    }
+
+    /// The innermost label goes with its operands, and these come to the label around it.
+    pub fn land(&mut self, values: &[Marked]) -> Result<(), NoMemory>
+        requires { IsNested self.old.frames }
+        ensures ok { OnOk result (self.new ≡ label_landed (reverse values.now) self.old) }
+        ensures err { OnErr result (self.new ≡ self.old) }
+    {
+        self.operands.reserve(values.len())?;
+        let innermost = self.labels.len() - 1;
+        self.operands.truncate(self.labels[innermost].height);
+        self.labels.truncate(innermost);
+        if self.operands.extend_from_slice(values).is_err() {
+            unreachable!();
+        }
+        Ok(())
+    }
+
+    /// A function begins with these locals, which come back where there is no memory for it.
+    pub fn enter(&mut self, func: u32, arity: usize, locals: Vec<Marked>) -> Result<(), Vec<Marked>>
+        ensures ok { OnOk result (self.new ≡ frame_entered func arity locals.items self.old) }
+        ensures back { IfErr result (λ back. back.items ≡ locals.items) }
+        ensures err { OnErr result (self.new ≡ self.old) }
+    {
+        let labels = self.labels.len();
+        let label = Label {
+            kind: BlockKind::Function,
+            begin: -1,
+            arity,
+            height: self.operands.len(),
+        };
+        if self.frames.reserve(1).is_err() || self.labels.push(label).is_err() {
+            return Err(locals);
+        }
+        self.frames.push_reserved(Frame {
+            func,
+            locals,
+            labels,
+        });
+        Ok(())
+    }
+
+    /// The innermost frame goes, with its operands and locals.
+    pub fn leave(&mut self)
+        requires { IsOutermost self.old.frames }
+        ensures { self.new ≡ frame_left self.old }
+    {
+        let innermost = self.labels.len() - 1;
+        self.operands.truncate(self.labels[innermost].height);
+        self.labels.truncate(innermost);
+        self.frames.truncate(self.frames.len() - 1);
+    }
+
+    /// All frames go.
+    pub fn clear(&mut self)
+        ensures { self.new ≡ record { frames = []; operands = []; locals = [] } }
+    {
+        self.operands.truncate(0);
+        self.labels.truncate(0);
+        self.frames.truncate(0);
+    }
+
+    /// A local, which is there, is set.
+    pub fn set_local(&mut self, index: u32, value: Marked)
+        requires { HasLocal index self.old.frames }
+        ensures { self.new ≡ local_set index value self.old }
+    {
+        let innermost = self.frames.len() - 1;
+        self.frames[innermost].set_local(index as usize, value);
+    }
+
+    /// How many operands the innermost label has.
+    pub fn operand_count(&self) -> usize
+        requires { Has 0 self.now.frames }
+        ensures { result ≡ operand_count self.now.frames }
+    {
+        self.operands.len() - self.labels[self.labels.len() - 1].height
+    }
+
+    /// How many labels the innermost frame has beside its innermost one.
+    pub fn outer_count(&self) -> usize
+        requires { Has 0 self.now.frames }
+        ensures { result ≡ outer_count self.now.frames }
+    {
+        self.labels.len() - 1 - self.frames[self.frames.len() - 1].labels
+    }
+
+    /// How many values a branch takes to the label of this number, counted outwards.
+    pub fn arity(&self, label: usize) -> usize
+        requires { HasLabel label self.now.frames }
+        ensures { result ≡ arity_in label self.now.frames }
+    {
+        self.labels[self.labels.len() - 1 - label].arity
+    }
+
+    /// So many values below so many others, the lowest first.
+    pub fn values_below(
+        &self,
+        alloc: Global,
+        above: usize,
+        count: usize,
+    ) -> Result<Vec<Marked>, NoMemory>
+        requires { Has (above + count) self.now.frames }
+        ensures { IfOk result (λ v. AreOperandsBelow above count v.items self.now) }
+    {
+        let highest = self.operands.len() - above;
+        let lowest = highest - count;
+        let values = Vec::from_slice(alloc, &self.operands[lowest..highest])?;
+        Ok(values)
+    }
+
+    /// The mark of the operand with so many above it; none past the lowest.
+    pub fn mark(&self, above: usize) -> bool
+        ensures { result ≡ nth_mark self.now.operands above }
+    {
+        above < self.operands.len() && self.operands[self.operands.len() - 1 - above].mark
+    }
+
+    /// Whether one of one or two operands on top is marked.
+    pub fn joined(&self, count: usize) -> bool
+        requires some { 1 ≤ count }
+        requires few { count ≤ 2 }
+        ensures { result ≡ some_marked (take count self.now.operands) }
+    {
+        self.mark(0) || count == 2 && self.mark(1)
+    }
+
+    /// The mark of a local of the innermost frame; none past the last one.
+    pub fn local_mark(&self, index: u32) -> bool
+        requires { Has 0 self.now.frames }
+        ensures { result ≡ nth_mark (first_or self.now.locals []) index }
+    {
+        let frame = &self.frames[self.frames.len() - 1];
+        match frame.locals.as_slice().get(index as usize) {
+            Some(local) => local.mark,
+            None => false,
+        }
+    }
+}
