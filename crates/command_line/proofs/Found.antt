@@ -45,11 +45,14 @@ pub record Has (found : List Row) (line : Line) : Type 0 where
   pub out : first_of (codes "out") found ≡ line.out
   pub info : first_of (codes "info") found ≡ line.info
   pub script : first_of (codes "script") found ≡ line.script
+  pub sources : first_of (codes "sources") found ≡ line.sources
+  pub sinks : first_of (codes "sinks") found ≡ line.sinks
   pub hooks : first_of (codes "hooks") found ≡ Some line.hooks
   pub reports : first_of (codes "reports") found ≡ Some line.reports
+  pub names : first_of (codes "names") found ≡ Some line.names
   pub jobs : number_in 64 (one_of (codes "jobs") found) ≡ Some line.jobs
   pub max_output : number_in 268435456 (one_of (codes "max-output") found) ≡ Some line.max_output
 
 pub has_line : (found : List Row) (line : Line) → Has found line → line_in found ≡ Some line
 has_line found line parts =
-    rw (parts.mode, parts.subject, parts.hooks, parts.reports, parts.jobs, parts.max_output, parts.out, parts.info, parts.script) refl
+    rw (parts.mode, parts.subject, parts.hooks, parts.reports, parts.names, parts.jobs, parts.max_output, parts.out, parts.info, parts.script, parts.sources, parts.sinks) refl

@@ -44,7 +44,7 @@ good_default false = refl
 
 are_fine : AreFine top.rules
 unfolding clap_on_literals
-are_fine = (no_default _, (no_default _, (no_default _, (no_default _, (no_default _, (good_default, (good_default, (good_default, (good_default, (no_default _, tt))))))))))
+are_fine = (no_default _, (no_default _, (no_default _, (no_default _, (no_default _, (no_default _, (no_default _, (good_default, (good_default, (good_default, (good_default, (good_default, (no_default _, tt)))))))))))))
 
 -- ---- what is found after the defaults
 
@@ -168,8 +168,11 @@ other_name id value (inr (inl is)) = (ap (bytes_eq (codes "mode")) is, ap (bytes
 other_name id value (inr (inr (inl is))) = (ap (bytes_eq (codes "mode")) is, ap (bytes_eq (codes "subject")) is)
 other_name id value (inr (inr (inr (inl is)))) = (ap (bytes_eq (codes "mode")) is, ap (bytes_eq (codes "subject")) is)
 other_name id value (inr (inr (inr (inr (inl is))))) = (ap (bytes_eq (codes "mode")) is, ap (bytes_eq (codes "subject")) is)
-other_name id value (inr (inr (inr (inr (inr (inl is)))))) = (ap (bytes_eq (codes "mode")) is.0, ap (bytes_eq (codes "subject")) is.0)
-other_name id value (inr (inr (inr (inr (inr (inr is)))))) = (ap (bytes_eq (codes "mode")) is.0, ap (bytes_eq (codes "subject")) is.0)
+other_name id value (inr (inr (inr (inr (inr (inl is)))))) = (ap (bytes_eq (codes "mode")) is, ap (bytes_eq (codes "subject")) is)
+other_name id value (inr (inr (inr (inr (inr (inr (inl is))))))) = (ap (bytes_eq (codes "mode")) is, ap (bytes_eq (codes "subject")) is)
+other_name id value (inr (inr (inr (inr (inr (inr (inr (inl is)))))))) = (ap (bytes_eq (codes "mode")) is, ap (bytes_eq (codes "subject")) is)
+other_name id value (inr (inr (inr (inr (inr (inr (inr (inr (inl is))))))))) = (ap (bytes_eq (codes "mode")) is.0, ap (bytes_eq (codes "subject")) is.0)
+other_name id value (inr (inr (inr (inr (inr (inr (inr (inr (inr is))))))))) = (ap (bytes_eq (codes "mode")) is.0, ap (bytes_eq (codes "subject")) is.0)
 
 widened : (mode subject : Text) (before uses : List Use) → AreUses before uses → AreUses (all_of mode subject before) uses
 widened mode subject before [] are = tt
@@ -196,8 +199,11 @@ jobs_number id value e (inr (inl is)) = absurd (true≢false (sym e ∙ ap (λ i
 jobs_number id value e (inr (inr (inl is))) = absurd (true≢false (sym e ∙ ap (λ i. bytes_eq i (codes "jobs")) is))
 jobs_number id value e (inr (inr (inr (inl is)))) = absurd (true≢false (sym e ∙ ap (λ i. bytes_eq i (codes "jobs")) is))
 jobs_number id value e (inr (inr (inr (inr (inl is))))) = absurd (true≢false (sym e ∙ ap (λ i. bytes_eq i (codes "jobs")) is))
-jobs_number id value e (inr (inr (inr (inr (inr (inl is)))))) = is.1
-jobs_number id value e (inr (inr (inr (inr (inr (inr is)))))) = absurd (true≢false (sym e ∙ ap (λ i. bytes_eq i (codes "jobs")) is.0))
+jobs_number id value e (inr (inr (inr (inr (inr (inl is)))))) = absurd (true≢false (sym e ∙ ap (λ i. bytes_eq i (codes "jobs")) is))
+jobs_number id value e (inr (inr (inr (inr (inr (inr (inl is))))))) = absurd (true≢false (sym e ∙ ap (λ i. bytes_eq i (codes "jobs")) is))
+jobs_number id value e (inr (inr (inr (inr (inr (inr (inr (inl is)))))))) = absurd (true≢false (sym e ∙ ap (λ i. bytes_eq i (codes "jobs")) is))
+jobs_number id value e (inr (inr (inr (inr (inr (inr (inr (inr (inl is))))))))) = is.1
+jobs_number id value e (inr (inr (inr (inr (inr (inr (inr (inr (inr is))))))))) = absurd (true≢false (sym e ∙ ap (λ i. bytes_eq i (codes "jobs")) is.0))
 
 output_number : (id value : Text) → bytes_eq id (codes "max-output") ≡ true → IsOption id value → (n : ℕ) × Writes 268435456 value n
 output_number id value e (inl is) = absurd (true≢false (sym e ∙ ap (λ i. bytes_eq i (codes "max-output")) is))
@@ -205,8 +211,11 @@ output_number id value e (inr (inl is)) = absurd (true≢false (sym e ∙ ap (λ
 output_number id value e (inr (inr (inl is))) = absurd (true≢false (sym e ∙ ap (λ i. bytes_eq i (codes "max-output")) is))
 output_number id value e (inr (inr (inr (inl is)))) = absurd (true≢false (sym e ∙ ap (λ i. bytes_eq i (codes "max-output")) is))
 output_number id value e (inr (inr (inr (inr (inl is))))) = absurd (true≢false (sym e ∙ ap (λ i. bytes_eq i (codes "max-output")) is))
-output_number id value e (inr (inr (inr (inr (inr (inl is)))))) = absurd (true≢false (sym e ∙ ap (λ i. bytes_eq i (codes "max-output")) is.0))
-output_number id value e (inr (inr (inr (inr (inr (inr is)))))) = is.1
+output_number id value e (inr (inr (inr (inr (inr (inl is)))))) = absurd (true≢false (sym e ∙ ap (λ i. bytes_eq i (codes "max-output")) is))
+output_number id value e (inr (inr (inr (inr (inr (inr (inl is))))))) = absurd (true≢false (sym e ∙ ap (λ i. bytes_eq i (codes "max-output")) is))
+output_number id value e (inr (inr (inr (inr (inr (inr (inr (inl is)))))))) = absurd (true≢false (sym e ∙ ap (λ i. bytes_eq i (codes "max-output")) is))
+output_number id value e (inr (inr (inr (inr (inr (inr (inr (inr (inl is))))))))) = absurd (true≢false (sym e ∙ ap (λ i. bytes_eq i (codes "max-output")) is.0))
+output_number id value e (inr (inr (inr (inr (inr (inr (inr (inr (inr is))))))))) = is.1
 
 abbrev number_of : Text → ℕ
 number_of text = digits_value 10 (without_leading_plus text)
@@ -256,8 +265,11 @@ line_of mode subject uses = record {
   out = value_given uses (codes "out");
   info = value_given uses (codes "info");
   script = value_given uses (codes "script");
+  sources = value_given uses (codes "sources");
+  sinks = value_given uses (codes "sinks");
   hooks = unwrap_or (value_given uses (codes "hooks")) (codes "all");
   reports = unwrap_or (value_given uses (codes "reports")) (codes "all");
+  names = unwrap_or (value_given uses (codes "names")) (codes "drop");
   jobs = number_of (unwrap_or (value_given uses (codes "jobs")) (codes "1"));
   max_output = number_of (unwrap_or (value_given uses (codes "max-output")) (codes "268435456"));
 }
@@ -282,8 +294,11 @@ holds mode subject uses are =
       out = first (codes "out") ∙ text_given (use_of uses (codes "out"));
       info = first (codes "info") ∙ text_given (use_of uses (codes "info"));
       script = first (codes "script") ∙ text_given (use_of uses (codes "script"));
+      sources = first (codes "sources") ∙ text_given (use_of uses (codes "sources"));
+      sinks = first (codes "sinks") ∙ text_given (use_of uses (codes "sinks"));
       hooks = first (codes "hooks") ∙ text_or (use_of uses (codes "hooks")) (default_in (codes "hooks") top.rules) (codes "all") refl;
       reports = first (codes "reports") ∙ text_or (use_of uses (codes "reports")) (default_in (codes "reports") top.rules) (codes "all") refl;
+      names = first (codes "names") ∙ text_or (use_of uses (codes "names")) (default_in (codes "names") top.rules) (codes "drop") refl;
       jobs = number_of_text 64 _ _ (omega arith) (one (codes "jobs") ∙ one_or (use_of uses (codes "jobs")) (default_in (codes "jobs") top.rules) (codes "1") refl) (jobs_text uses are);
       max_output = number_of_text 268435456 _ _ (omega arith) (one (codes "max-output") ∙ one_or (use_of uses (codes "max-output")) (default_in (codes "max-output") top.rules) (codes "268435456") refl) (output_text uses are);
     }
@@ -331,8 +346,11 @@ pairs_say program mode subject uses m s are = (
     out_is = refl;
     info_is = refl;
     script_is = refl;
+    sources_is = refl;
+    sinks_is = refl;
     hooks_is = refl;
     reports_is = refl;
+    names_is = refl;
     jobs_is = jobs_text uses are;
     max_output_is = output_text uses are;
   },

@@ -161,6 +161,34 @@ script_known : Known (codes "script")
 unfolding clap_on_literals
 script_known = record { name = λ rows u. refl; value = script_value; name_fault = λ rows u. refl; value_fault = script_fault }
 
+sources_value : (rows : List Row) (u : Use) (v : Text) → IsValue v → walked top.rules [] (named rows u (codes "sources")) v ≡ standing (settled_rows top.rules (Some (u.id, u.value ∷ [])) rows) (record { id = codes "sources"; value = v })
+unfolding clap_on_literals
+sources_value rows u [] h = absurd h
+sources_value rows u (b ∷ bs) h = let e = not_dash b h in rw e (rw e refl)
+
+sources_fault : (rows : List Row) (u : Use) (v : Text) → IsValue v → turn_fault top [] (named rows u (codes "sources")) v ≡ []
+unfolding clap_on_literals
+sources_fault rows u [] h = absurd h
+sources_fault rows u (b ∷ bs) h = let e = not_dash b h in rw e (rw e refl)
+
+sources_known : Known (codes "sources")
+unfolding clap_on_literals
+sources_known = record { name = λ rows u. refl; value = sources_value; name_fault = λ rows u. refl; value_fault = sources_fault }
+
+sinks_value : (rows : List Row) (u : Use) (v : Text) → IsValue v → walked top.rules [] (named rows u (codes "sinks")) v ≡ standing (settled_rows top.rules (Some (u.id, u.value ∷ [])) rows) (record { id = codes "sinks"; value = v })
+unfolding clap_on_literals
+sinks_value rows u [] h = absurd h
+sinks_value rows u (b ∷ bs) h = let e = not_dash b h in rw e (rw e refl)
+
+sinks_fault : (rows : List Row) (u : Use) (v : Text) → IsValue v → turn_fault top [] (named rows u (codes "sinks")) v ≡ []
+unfolding clap_on_literals
+sinks_fault rows u [] h = absurd h
+sinks_fault rows u (b ∷ bs) h = let e = not_dash b h in rw e (rw e refl)
+
+sinks_known : Known (codes "sinks")
+unfolding clap_on_literals
+sinks_known = record { name = λ rows u. refl; value = sinks_value; name_fault = λ rows u. refl; value_fault = sinks_fault }
+
 hooks_value : (rows : List Row) (u : Use) (v : Text) → IsValue v → walked top.rules [] (named rows u (codes "hooks")) v ≡ standing (settled_rows top.rules (Some (u.id, u.value ∷ [])) rows) (record { id = codes "hooks"; value = v })
 unfolding clap_on_literals
 hooks_value rows u [] h = absurd h
@@ -188,6 +216,20 @@ reports_fault rows u (b ∷ bs) h = let e = not_dash b h in rw e (rw e refl)
 reports_known : Known (codes "reports")
 unfolding clap_on_literals
 reports_known = record { name = λ rows u. refl; value = reports_value; name_fault = λ rows u. refl; value_fault = reports_fault }
+
+names_value : (rows : List Row) (u : Use) (v : Text) → IsValue v → walked top.rules [] (named rows u (codes "names")) v ≡ standing (settled_rows top.rules (Some (u.id, u.value ∷ [])) rows) (record { id = codes "names"; value = v })
+unfolding clap_on_literals
+names_value rows u [] h = absurd h
+names_value rows u (b ∷ bs) h = let e = not_dash b h in rw e (rw e refl)
+
+names_fault : (rows : List Row) (u : Use) (v : Text) → IsValue v → turn_fault top [] (named rows u (codes "names")) v ≡ []
+unfolding clap_on_literals
+names_fault rows u [] h = absurd h
+names_fault rows u (b ∷ bs) h = let e = not_dash b h in rw e (rw e refl)
+
+names_known : Known (codes "names")
+unfolding clap_on_literals
+names_known = record { name = λ rows u. refl; value = names_value; name_fault = λ rows u. refl; value_fault = names_fault }
 
 jobs_value : (rows : List Row) (u : Use) (v : Text) → IsValue v → walked top.rules [] (named rows u (codes "jobs")) v ≡ standing (settled_rows top.rules (Some (u.id, u.value ∷ [])) rows) (record { id = codes "jobs"; value = v })
 unfolding clap_on_literals
@@ -237,6 +279,14 @@ pub script_kept : (v : Text) → Kept (codes "script") v
 unfolding clap_on_literals
 script_kept v = record { rows = λ rows h. noted (codes "script") v rows h; fault = λ rows h. rw h refl }
 
+pub sources_kept : (v : Text) → Kept (codes "sources") v
+unfolding clap_on_literals
+sources_kept v = record { rows = λ rows h. noted (codes "sources") v rows h; fault = λ rows h. rw h refl }
+
+pub sinks_kept : (v : Text) → Kept (codes "sinks") v
+unfolding clap_on_literals
+sinks_kept v = record { rows = λ rows h. noted (codes "sinks") v rows h; fault = λ rows h. rw h refl }
+
 pub hooks_kept : (v : Text) → Kept (codes "hooks") v
 unfolding clap_on_literals
 hooks_kept v = record { rows = λ rows h. noted (codes "hooks") v rows h; fault = λ rows h. rw h refl }
@@ -244,6 +294,10 @@ hooks_kept v = record { rows = λ rows h. noted (codes "hooks") v rows h; fault 
 pub reports_kept : (v : Text) → Kept (codes "reports") v
 unfolding clap_on_literals
 reports_kept v = record { rows = λ rows h. noted (codes "reports") v rows h; fault = λ rows h. rw h refl }
+
+pub names_kept : (v : Text) → Kept (codes "names") v
+unfolding clap_on_literals
+names_kept v = record { rows = λ rows h. noted (codes "names") v rows h; fault = λ rows h. rw h refl }
 
 pub jobs_kept : (v : Text) → accepts false (parser.Unsigned 1 64) v ≡ true → Kept (codes "jobs") v
 unfolding clap_on_literals
@@ -270,11 +324,14 @@ pair_of : (u : Use) → IsOption u.id u.value → Pair u
 pair_of u (inl is) = pair_as (codes "out") u is out_known (out_kept u.value)
 pair_of u (inr (inl is)) = pair_as (codes "info") u is info_known (info_kept u.value)
 pair_of u (inr (inr (inl is))) = pair_as (codes "script") u is script_known (script_kept u.value)
-pair_of u (inr (inr (inr (inl is)))) = pair_as (codes "hooks") u is hooks_known (hooks_kept u.value)
-pair_of u (inr (inr (inr (inr (inl is))))) = pair_as (codes "reports") u is reports_known (reports_kept u.value)
-pair_of u (inr (inr (inr (inr (inr (inl is)))))) =
+pair_of u (inr (inr (inr (inl is)))) = pair_as (codes "sources") u is sources_known (sources_kept u.value)
+pair_of u (inr (inr (inr (inr (inl is))))) = pair_as (codes "sinks") u is sinks_known (sinks_kept u.value)
+pair_of u (inr (inr (inr (inr (inr (inl is)))))) = pair_as (codes "hooks") u is hooks_known (hooks_kept u.value)
+pair_of u (inr (inr (inr (inr (inr (inr (inl is))))))) = pair_as (codes "reports") u is reports_known (reports_kept u.value)
+pair_of u (inr (inr (inr (inr (inr (inr (inr (inl is)))))))) = pair_as (codes "names") u is names_known (names_kept u.value)
+pair_of u (inr (inr (inr (inr (inr (inr (inr (inr (inl is))))))))) =
     pair_as (codes "jobs") u is.0 jobs_known (jobs_kept u.value (accepted 64 is.1.0 u.value (omega arith) is.1.1))
-pair_of u (inr (inr (inr (inr (inr (inr is)))))) =
+pair_of u (inr (inr (inr (inr (inr (inr (inr (inr (inr is))))))))) =
     pair_as (codes "max-output") u is.0 max_output_known (max_output_kept u.value (accepted 268435456 is.1.0 u.value (omega arith) is.1.1))
 
 has_rows : (uses : List Use) (id : Text) → has_row id (map row_for uses) ≡ has_option uses id

@@ -20,9 +20,9 @@ wanted id = record (new_rule id) { required = true }
 abbrev pub text_option : (id : Text) → Rule
 text_option id = record (new_rule id) { long = Some id }
 
--- an option with a list, which is `all` where it is not given
-abbrev pub list_option : (id : Text) → Rule
-list_option id = record (text_option id) { defaults = codes "all" ∷ [] }
+-- an option with words that are `default` where it is not given
+abbrev pub worded_option : (id : Text) → (default : Text) → Rule
+worded_option id default = record (text_option id) { defaults = default ∷ [] }
 
 -- an option with a number from 1 to `most`
 abbrev pub number_option : (id : Text) → (most : ℕ) → (default : Text) → Rule
@@ -38,7 +38,8 @@ wasabi =
     with_rules (new_app (codes "wasabi"))
     (wanted (codes "mode") ∷ wanted (codes "subject")
     ∷ text_option (codes "out") ∷ text_option (codes "info") ∷ text_option (codes "script")
-    ∷ list_option (codes "hooks") ∷ list_option (codes "reports")
+    ∷ text_option (codes "sources") ∷ text_option (codes "sinks")
+    ∷ worded_option (codes "hooks") (codes "all") ∷ worded_option (codes "reports") (codes "all") ∷ worded_option (codes "names") (codes "drop")
     ∷ number_option (codes "jobs") 64 (codes "1") ∷ number_option (codes "max-output") 268435456 (codes "268435456") ∷ [])
 
 -- ---- what the words ask for
@@ -49,8 +50,11 @@ pub record Line : Type 0 where
   pub out : Option Text
   pub info : Option Text
   pub script : Option Text
+  pub sources : Option Text
+  pub sinks : Option Text
   pub hooks : Text
   pub reports : Text
+  pub names : Text
   pub jobs : ℕ
   pub max_output : ℕ
 
@@ -63,19 +67,23 @@ number_in most (Some text) = cond (is_unsigned_in 1 most text) (Some (digits_val
 abbrev pub line_in : List Row → Option Line
 line_in found =
     option_and_then (λ mode. option_and_then (λ subject. option_and_then (λ hooks. option_and_then (λ reports.
-    option_and_then (λ jobs. option_map (λ max_output. record {
+    option_and_then (λ names. option_and_then (λ jobs. option_map (λ max_output. record {
       mode = mode;
       subject = subject;
       out = first_of (codes "out") found;
       info = first_of (codes "info") found;
       script = first_of (codes "script") found;
+      sources = first_of (codes "sources") found;
+      sinks = first_of (codes "sinks") found;
       hooks = hooks;
       reports = reports;
+      names = names;
       jobs = jobs;
       max_output = max_output;
     })
     (number_in 268435456 (one_of (codes "max-output") found)))
     (number_in 64 (one_of (codes "jobs") found)))
+    (first_of (codes "names") found))
     (first_of (codes "reports") found)) (first_of (codes "hooks") found))
     (first_of (codes "subject") found)) (first_of (codes "mode") found)
 

@@ -26,9 +26,10 @@ pub record Use : Type 0 where
 -- the options, and what each takes
 abbrev pub IsOption : (id value : Text) → Type 0
 IsOption id value =
-    (id ≡ codes "out") ⊎ ((id ≡ codes "info") ⊎ ((id ≡ codes "script") ⊎ ((id ≡ codes "hooks") ⊎ ((id ≡ codes "reports")
+    (id ≡ codes "out") ⊎ ((id ≡ codes "info") ⊎ ((id ≡ codes "script") ⊎ ((id ≡ codes "sources") ⊎ ((id ≡ codes "sinks")
+    ⊎ ((id ≡ codes "hooks") ⊎ ((id ≡ codes "reports") ⊎ ((id ≡ codes "names")
     ⊎ (((id ≡ codes "jobs") × ((n : ℕ) × Writes 64 value n))
-    ⊎ ((id ≡ codes "max-output") × ((n : ℕ) × Writes 268435456 value n)))))))
+    ⊎ ((id ≡ codes "max-output") × ((n : ℕ) × Writes 268435456 value n))))))))))
 
 -- the option's name is among these
 abbrev pub has_option : List Use → (id : Text) → Bool
@@ -54,7 +55,10 @@ pub record Says (mode subject : Text) (uses : List Use) (line : Line) : Type 0 w
   pub out_is : line.out ≡ value_given uses (codes "out")
   pub info_is : line.info ≡ value_given uses (codes "info")
   pub script_is : line.script ≡ value_given uses (codes "script")
+  pub sources_is : line.sources ≡ value_given uses (codes "sources")
+  pub sinks_is : line.sinks ≡ value_given uses (codes "sinks")
   pub hooks_is : line.hooks ≡ unwrap_or (value_given uses (codes "hooks")) (codes "all")
   pub reports_is : line.reports ≡ unwrap_or (value_given uses (codes "reports")) (codes "all")
+  pub names_is : line.names ≡ unwrap_or (value_given uses (codes "names")) (codes "drop")
   pub jobs_is : Writes 64 (unwrap_or (value_given uses (codes "jobs")) (codes "1")) line.jobs
   pub max_output_is : Writes 268435456 (unwrap_or (value_given uses (codes "max-output")) (codes "268435456")) line.max_output

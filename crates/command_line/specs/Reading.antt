@@ -12,8 +12,11 @@ line_of line = record {
   out = option_map (λ t. t.now) line.out;
   info = option_map (λ t. t.now) line.info;
   script = option_map (λ t. t.now) line.script;
+  sources = option_map (λ t. t.now) line.sources;
+  sinks = option_map (λ t. t.now) line.sinks;
   hooks = line.hooks.now;
   reports = line.reports.now;
+  names = line.names.now;
   jobs = line.jobs;
   max_output = line.max_output;
 }

@@ -23,10 +23,16 @@ pub struct Line<'w> {
     pub info: Option<&'w str>,
     /// `--script`, the name of the script.
     pub script: Option<&'w str>,
+    /// `--sources`, a list of names of imports, separated by commas.
+    pub sources: Option<&'w str>,
+    /// `--sinks`, a list of names of imports, separated by commas.
+    pub sinks: Option<&'w str>,
     /// `--hooks`, a list of groups, `all` where it is not given.
     pub hooks: &'w str,
     /// `--reports`, a list of kinds of reports, `all` where it is not given.
     pub reports: &'w str,
+    /// `--names`, what becomes of names, `drop` where it is not given.
+    pub names: &'w str,
     /// `--jobs`, how many threads may work, 1 to 64, 1 where it is not given.
     pub jobs: u32,
     /// `--max-output`, how many bytes the output may have, 1 to 268,435,456, which it is where it is not given.
@@ -93,8 +99,11 @@ fn line_in<'w>(found: &ArgMatches<'w>) -> Option<Line<'w>>
         out: text_in(found, "out"),
         info: text_in(found, "info"),
         script: text_in(found, "script"),
+        sources: text_in(found, "sources"),
+        sinks: text_in(found, "sinks"),
         hooks: text_in(found, "hooks")?,
         reports: text_in(found, "reports")?,
+        names: text_in(found, "names")?,
         jobs: number_in(found, "jobs", MOST_JOBS)? as u32,
         max_output: number_in(found, "max-output", LONGEST_OUTPUT)?,
     })

@@ -13,7 +13,7 @@ mod section;
 mod written;
 
 pub use crate::output::{map_names, unmap_names};
-pub use crate::read::read_names;
+pub use crate::read::{no_names, read_names};
 pub use crate::written::put_section;
 use module_ast::name::Name;
 use module_ast::seq::Seq;

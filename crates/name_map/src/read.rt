@@ -14,8 +14,8 @@ use std::alloc::{AllocError, Global};
 // The length of a file's header (5.5.15).
 const HEADER: usize = 8;
 
-// No names.
-fn none(alloc: Global) -> Names
+/// No names at all.
+pub fn no_names(alloc: Global) -> Names
     ensures { result ≡ no_names }
 {
     Names {
@@ -51,11 +51,11 @@ pub fn read_names(alloc: Global, bytes: &[u8], functions: u32) -> Result<Names, 
     ensures locals { IfOk result (λ names. All (λ l. l.func < functions) names.locals) }
 {
     let Some(section) = find_section(&bytes[HEADER..]) else {
-        return Ok(none(alloc));
+        return Ok(no_names(alloc));
     };
     match read_subsections(alloc, section) {
         Ok(names) => Ok(known(names, functions)),
-        Err(Fault::Malformed) => Ok(none(alloc)),
+        Err(Fault::Malformed) => Ok(no_names(alloc)),
         Err(Fault::NoMemory) => Err(AllocError),
     }
 }

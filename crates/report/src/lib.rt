@@ -2,8 +2,10 @@
 #![tactic(auto)]
 
 mod lines;
+mod names;
 mod words;
 mod write;
 
 pub use lines::events_line;
+pub use names::write_names;
 pub use write::{ReportFault, write_report};

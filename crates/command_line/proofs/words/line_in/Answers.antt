@@ -13,8 +13,11 @@ returns-clause-line c =
       out = c.text_in-3.result;
       info = c.text_in-4.result;
       script = c.text_in-5.result;
+      sources = c.text_in-6.result;
+      sinks = c.text_in-7.result;
       hooks = c.in_ok-text_in-3.field-0;
       reports = c.in_ok-text_in-4.field-0;
+      names = c.in_ok-text_in-5.field-0;
       jobs = c.in_ok-number_in.field-0;
       max_output = c.in_ok-number_in-2.field-0;
     }) in
@@ -24,8 +27,11 @@ returns-clause-line c =
       out = sym c.text_in-3.ensures;
       info = sym c.text_in-4.ensures;
       script = sym c.text_in-5.ensures;
+      sources = sym c.text_in-6.ensures;
+      sinks = sym c.text_in-7.ensures;
       hooks = sym c.in_ok-text_in-3.ensures;
       reports = sym c.in_ok-text_in-4.ensures;
+      names = sym c.in_ok-text_in-5.ensures;
       jobs = sym c.in_ok-number_in.ensures.number;
       max_output = sym c.in_ok-number_in-2.ensures.number;
     }))

@@ -19,7 +19,7 @@ returns-in-Err-Malformed-clause-names c =
       file.2,
       subst (λ l. AreItems IsChunk l r.0) behind r.1,
       r.2,
-      inr (λ all q. c.in-Err-Malformed.ensures.malformed (search rules) all q, c.none-in-Err-Malformed.ensures),
+      inr (λ all q. c.in-Err-Malformed.ensures.malformed (search rules) all q, c.no_names-in-Err-Malformed.ensures),
     )
 
 pub returns-in-Ok-clause-functions : goal.returns-in-Ok-clause-functions

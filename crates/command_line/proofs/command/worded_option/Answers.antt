@@ -1,5 +1,5 @@
 use Rattle.std.proofs.Common.{rules}
-use Rattle.command_line.proofs.command.list_option.Goals as goal
+use Rattle.command_line.proofs.command.worded_option.Goals as goal
 
 pub returns-clause-rule : goal.returns-clause-rule
 returns-clause-rule c = search rules

@@ -1,0 +1,108 @@
+-- Names of custom sections change nothing of what a module is and does.
+use Rattle.std.proofs.Common.{◌≡◌, ◌<◌, ℕ, suc, nat_le, List, [], ◌∷◌, Option, Some, None, refl, sym, ap, subst, ◌∙◌, All, IfSome, slice_get}
+use Rattle.std.specs.List.{AllZip}
+use Rattle.std.proofs.lemmas.List.Elements.{All-weaker}
+use Rattle.module_ast.specs.declared.module.Export.{Export}
+use Rattle.module_ast.specs.declared.module.ExportKind.{ExportKind}
+use Rattle.module_ast.specs.declared.module.ExportKind.TheVariants.{Func, Table, Memory, Global}
+use Rattle.module_ast.specs.declared.module.FuncType.{FuncType}
+use Rattle.module_ast.specs.declared.module.Limits.{Limits}
+use Rattle.module_ast.specs.declared.module.Module.{Module}
+use Rattle.module_ast.specs.declared.module.Which.{Which}
+use Rattle.module_ast.specs.declared.module.Which.TheVariants.{Functions, Types, Parameters, Locals, Nesting}
+use Rattle.module_ast.specs.Limits.{wide}
+use Rattle.module_ast.specs.Profile.{IsWithin}
+use Rattle.module_ast.specs.Spaces.{funcs_of, memories_of, tables_of}
+use Rattle.module_ast.specs.Texts.{Text}
+use Rattle.module_ast.specs.Validity.{Rule, export_indices, start_type, func_type, count_of, Keeps, KeepsRules, IsValid}
+use Rattle.hook_select.specs.declared.Hooks.{Hooks}
+use Rattle.hook_mono.specs.declared.HookKey.{HookKey}
+use Rattle.wasm_sem.specs.declared.Call.{Call}
+use Rattle.wasm_sem.specs.declared.Script.{Script}
+use Rattle.wasm_sem.specs.Link.{Refusal, call_refusal, calls_refusal, callees_of, exported_func, first_refusal, fit_all, func_at, least_size, link, memory_cap, refusal_unless, segment_range, table_cap}
+use Rattle.static_info.specs.Belongs.{FuncImport, IsHook}
+use Rattle.instrument.specs.Laws.{CustomsChangeNothing}
+use Rattle.instrument.specs.Same.{Same, SameRuns}
+use Rattle.instrument.specs.Shell.{with_customs}
+
+-- ---- validity
+
+count_same : (customs : List Text) (m : Module) (kind : ExportKind) → count_of (with_customs customs m) kind ≡ count_of m kind
+count_same customs m Func = refl
+count_same customs m Table = refl
+count_same customs m Memory = refl
+count_same customs m Global = refl
+
+type_same : (customs : List Text) (m : Module) (f : ℕ) → func_type (with_customs customs m) f ≡ func_type m f
+type_same customs m f = by (slice_get (funcs_of m) f) refl
+  where
+    by : (o : Option ℕ) → slice_get (funcs_of m) f ≡ o → func_type (with_customs customs m) f ≡ func_type m f
+    by None e = rw e refl
+    by (Some x) e = rw e refl
+
+start_same : (customs : List Text) (m : Module) (t : FuncType) (start : Option ℕ) → IfSome start (λ f. func_type m f ≡ Some t)
+    → IfSome start (λ f. func_type (with_customs customs m) f ≡ Some t)
+start_same customs m t None k = tt
+start_same customs m t (Some f) k = type_same customs m f ∙ k
+
+rules_same : (customs : List Text) (m : Module) → KeepsRules m → KeepsRules (with_customs customs m)
+rules_same customs m rules rule = by rule (rules rule)
+  where
+    by : (r : Rule) → Keeps m r → Keeps (with_customs customs m) r
+    by export_indices k =
+        All-weaker (λ (e : Export). e.index < count_of m e.kind) (λ (e : Export). e.index < count_of (with_customs customs m) e.kind)
+        (λ e l. subst (λ n. e.index < n) (sym (count_same customs m e.kind)) l) m.exports k
+    by start_type k = start_same customs m (record { params = []; results = [] }) m.start k
+    by r k = k
+
+pub valid_same : (customs : List Text) (m : Module) → IsValid m → IsValid (with_customs customs m)
+valid_same customs m valid = record { rules = rules_same customs m valid.rules; bodies = valid.bodies }
+
+pub within_same : (limits : Limits) (customs : List Text) (m : Module) → IsWithin limits m → IsWithin limits (with_customs customs m)
+within_same limits customs m within Functions = within Functions
+within_same limits customs m within Types = within Types
+within_same limits customs m within Parameters = within Parameters
+within_same limits customs m within Locals = within Locals
+within_same limits customs m within Nesting = within Nesting
+
+-- ---- hooks
+
+hook_same : (customs : List Text) (m : Module) (f : FuncImport) (key : HookKey) → IsHook m f key → IsHook (with_customs customs m) f key
+hook_same customs m f key is = record { from = is.from; name = is.name; ty = is.ty }
+
+pub hooks_same : (customs : List Text) (m : Module) (fs : List FuncImport) (keys : List HookKey) → AllZip (IsHook m) fs keys
+    → AllZip (IsHook (with_customs customs m)) fs keys
+hooks_same customs m [] [] h = tt
+hooks_same customs m [] (k ∷ ks) h = absurd h
+hooks_same customs m (f ∷ fs) [] h = absurd h
+hooks_same customs m (f ∷ fs) (k ∷ ks) h = (hook_same customs m f k h.0, hooks_same customs m fs ks h.1)
+
+-- ---- runs
+
+calls_same : (customs : List Text) (m : Module) (n : ℕ) (cs : List Call) → calls_refusal (with_customs customs m) n cs ≡ calls_refusal m n cs
+calls_same customs m n [] = refl
+calls_same customs m n (c ∷ cs) =
+    ap (first_refusal (call_refusal n c.args (func_at (callees_of m) (exported_func c.export.bytes m.exports)))) (calls_same customs m (suc n) cs)
+
+pub link_same : (customs : List Text) (m : Module) (s : Script) → link (with_customs customs m) s ≡ link m s
+link_same customs m s = ap (λ (first : Option Refusal). first_refusal first later) (calls_same customs m 0 s.calls)
+  where
+    later : Option Refusal
+    later =
+        first_refusal (refusal_unless (nat_le (least_size (memories_of m)) s.pages) (memory_cap (least_size (memories_of m))))
+        (first_refusal (refusal_unless (nat_le (least_size (tables_of m)) 1000000) (table_cap (least_size (tables_of m))))
+        (refusal_unless (fit_all m s) segment_range))
+
+pub runs_same : (customs : List Text) (m : Module) (hooks : Hooks) (o : Module) (s : Script) → SameRuns m hooks o s
+    → SameRuns m hooks (with_customs customs o) s
+runs_same customs m hooks o s same = record { each = same.each; ends = same.ends; prefix = same.prefix }
+
+pub customs_same : (customs : List Text) (m : Module) (hooks : Hooks) (o : Module) → Same m hooks o → Same m hooks (with_customs customs o)
+customs_same customs m hooks o same = record {
+  links = λ s range. link_same customs o s ∙ same.links s range;
+  runs = λ s range linked. runs_same customs m hooks o s (same.runs s range linked);
+}
+
+pub customs_change_nothing : CustomsChangeNothing
+customs_change_nothing customs m hooks o valid within same =
+    (valid_same customs o valid, within_same wide customs o within, customs_same customs m hooks o same)
