@@ -15,22 +15,22 @@ use Rattle.wasm_sem.specs.Events.{TraceItem, entry, host_call, event, hook_call}
 use Rattle.wasm_sem.specs.Nests.{Bracket}
 use Rattle.call_tree.specs.Counts.{PathCounts, with_path, count_in}
 use Rattle.call_tree.specs.Paths.{open_after, open_after_all, path_begun, paths, paths_from}
-use Rattle.call_tree.specs.State.{TreeState, entered, counted_from, taken_by, state_after, counts_in, event_count, state_with, state_of, state_behind, TakesMakeTree}
+use Rattle.call_tree.specs.State.{TreeState, entered, counted_from, taken_by, tree_after, path_counts_in, event_count, state_with, state_of, state_behind, TakesMakeTree}
 use Rattle.call_tree.proofs.PathOrder.{same_path}
 use Rattle.call_tree.proofs.Nested.{open_append, stays_bad}
 
 -- ---- counts of a list of paths
 
-abbrev same : List ℕ → List ℕ → Bool
+abbrev pub same : List ℕ → List ℕ → Bool
 same p q = eq_by_cmp (slice_cmp nat_cmp) p q
 
-abbrev times : List ℕ → List (List ℕ) → ℕ
+abbrev pub times : List ℕ → List (List ℕ) → ℕ
 times p ps = count_by (same p) ps
 
 times_push : (p q : List ℕ) (ps : List (List ℕ)) → times p (ps ++ q ∷ []) ≡ times p ps + cond (same p q) 1 0
 times_push p q ps = sum_by-append (λ x. cond (same p x) 1 0) ps (q ∷ []) ∙ omega arith
 
-abbrev comes : List ℕ → List (List ℕ) → Bool
+abbrev pub comes : List ℕ → List (List ℕ) → Bool
 comes p ps = list_any (same p) ps
 
 -- the counts by one list of the paths of another
@@ -54,10 +54,10 @@ no_times p (q ∷ ps) h =
     neither true b h = absurd (true≢false h)
     neither false b h = (refl, h)
 
-got : (p : List ℕ) (ps : List (List ℕ)) → get (counts_in ps) p ≡ cond (comes p ps) (Some (times p ps)) None
+pub got : (p : List ℕ) (ps : List (List ℕ)) → get (path_counts_in ps) p ≡ cond (comes p ps) (Some (times p ps)) None
 got p ps = get-from_entries nat_list_cmp_total (map (λ (r : List ℕ). (r, times r ps)) ps) p ∙ found_times p ps ps
 
-counted_times : (p : List ℕ) (ps : List (List ℕ)) → count_in (counts_in ps) p ≡ times p ps
+counted_times : (p : List ℕ) (ps : List (List ℕ)) → count_in (path_counts_in ps) p ≡ times p ps
 counted_times p ps = ap (λ (o : Option ℕ). unwrap_or o 0) (got p ps) ∙ go (comes p ps) refl
   where
     go : (b : Bool) → comes p ps ≡ b → unwrap_or (cond b (Some (times p ps)) None) 0 ≡ times p ps
@@ -68,12 +68,12 @@ came : (p q : List ℕ) (ps : List (List ℕ)) → comes p (ps ++ q ∷ []) ≡ 
 came p q ps = list_any-append (same p) ps (q ∷ [])
 
 -- with a path more
-counts_push : (ps : List (List ℕ)) (q : List ℕ) → counts_in (ps ++ q ∷ []) ≡ with_path (counts_in ps) q
+counts_push : (ps : List (List ℕ)) (q : List ℕ) → path_counts_in (ps ++ q ∷ []) ≡ with_path (path_counts_in ps) q
 counts_push ps q =
-    same_map nat_list_cmp_total exact_bytes (counts_in (ps ++ q ∷ [])) (with_path (counts_in ps) q)
+    same_map nat_list_cmp_total exact_bytes (path_counts_in (ps ++ q ∷ [])) (with_path (path_counts_in ps) q)
     (λ p. got p (ps ++ q ∷ [])
     ∙ (at p (same p q) refl
-    ∙ sym (get-insert nat_list_cmp_total (counts_in ps) q (count_in (counts_in ps) q + 1) p
+    ∙ sym (get-insert nat_list_cmp_total (path_counts_in ps) q (count_in (path_counts_in ps) q + 1) p
     ∙ ap₂ (λ (n : ℕ) (o : Option ℕ). cond (same p q) (Some (n + 1)) o) (counted_times q ps) (got p ps))))
   where
     or_true : (b : Bool) → (b || (true || false)) ≡ true
@@ -98,10 +98,10 @@ counts_push ps q =
         (times_push p q ps ∙ (ap (λ c. times p ps + cond c 1 0) is ∙ none))
         ∙ ap (λ c. cond c (Some (times q ps + 1)) (cond (comes p ps) (Some (times p ps)) None)) (sym is)
 
-counts_further : (ps qs : List (List ℕ)) → counts_in (ps ++ qs) ≡ counted_from (counts_in ps) qs
-counts_further ps [] = ap counts_in (append-nil ps)
+counts_further : (ps qs : List (List ℕ)) → path_counts_in (ps ++ qs) ≡ counted_from (path_counts_in ps) qs
+counts_further ps [] = ap path_counts_in (append-nil ps)
 counts_further ps (q ∷ qs) =
-    ap counts_in (sym (append_assoc ps (q ∷ []) qs)) ∙ (counts_further (ps ++ q ∷ []) qs ∙ ap (λ m. counted_from m qs) (counts_push ps q))
+    ap path_counts_in (sym (append_assoc ps (q ∷ []) qs)) ∙ (counts_further (ps ++ q ∷ []) qs ∙ ap (λ m. counted_from m qs) (counts_push ps q))
 
 -- ---- an item more
 
@@ -143,15 +143,15 @@ entry_at_state : (is : List TraceItem) (c : Entry) (o : Option (List Bracket)) �
 entry_at_state is c None is-open = refl
 entry_at_state is c (Some brackets) is-open =
     let ps : paths (is ++ entry c ∷ []) ≡ paths is = paths_push (Some []) is (entry c) ∙ (ap (λ o. paths is ++ last_paths o (entry c)) is-open ∙ append-nil (paths is)) in
-    ap₂ (λ (l : List (List ℕ)) (n : ℕ). Some (record { brackets = []; counts = counts_in l; taken = n })) ps (no_event is (entry c) refl)
+    ap₂ (λ (l : List (List ℕ)) (n : ℕ). Some (record { brackets = []; counts = path_counts_in l; taken = n })) ps (no_event is (entry c) refl)
 
 event_at_state : (is : List TraceItem) (e : Event) (o : Option (List Bracket)) → opened is ≡ o
-    → option_map (state_with (is ++ event e ∷ [])) (open_after_all o (event e ∷ [])) ≡ option_and_then (λ (s : TreeState). state_after s e) (option_map (state_with is) o)
+    → option_map (state_with (is ++ event e ∷ [])) (open_after_all o (event e ∷ [])) ≡ option_and_then (λ (s : TreeState). tree_after s e) (option_map (state_with is) o)
 event_at_state is e None is-open = refl
 event_at_state is e (Some brackets) is-open = go (open_after brackets (event e))
   where
-    counts : counts_in (paths (is ++ event e ∷ [])) ≡ counted_from (counts_in (paths is)) (path_begun brackets (event e))
-    counts = ap counts_in (paths_push (Some []) is (event e) ∙ ap (λ o. paths is ++ last_paths o (event e)) is-open) ∙ counts_further (paths is) (path_begun brackets (event e))
+    counts : path_counts_in (paths (is ++ event e ∷ [])) ≡ counted_from (path_counts_in (paths is)) (path_begun brackets (event e))
+    counts = ap path_counts_in (paths_push (Some []) is (event e) ∙ ap (λ o. paths is ++ last_paths o (event e)) is-open) ∙ counts_further (paths is) (path_begun brackets (event e))
 
     go : (o : Option (List Bracket)) → option_map (state_with (is ++ event e ∷ [])) o ≡ option_map (taken_by (state_with is brackets) e) o
     go None = refl
@@ -166,7 +166,7 @@ other_at_state is i (Some brackets) is-open stays none same =
     let ps : paths (is ++ i ∷ []) ≡ paths is =
     paths_push (Some []) is i ∙ (ap (λ o. paths is ++ last_paths o i) is-open ∙ (ap (λ l. paths is ++ l) (none brackets) ∙ append-nil (paths is))) in
     ap (option_map (state_with (is ++ i ∷ []))) (stays brackets)
-    ∙ ap₂ (λ (l : List (List ℕ)) (n : ℕ). Some (record { brackets = brackets; counts = counts_in l; taken = n })) ps same
+    ∙ ap₂ (λ (l : List (List ℕ)) (n : ℕ). Some (record { brackets = brackets; counts = path_counts_in l; taken = n })) ps same
 
 behind_state : (is : List TraceItem) (i : TraceItem) → option_map (state_with (is ++ i ∷ [])) (open_after_all (opened is) (i ∷ [])) ≡ option_and_then (state_behind i) (state_of is)
 behind_state is (entry c) = entry_at_state is c (opened is) refl

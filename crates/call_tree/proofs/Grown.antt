@@ -5,7 +5,7 @@
 use Rattle.std.proofs.Common.{◌≡◌, ℕ, zero, suc, ◌+◌, ◌<◌, ◌≤◌, List, [], ◌∷◌, ◌++◌, length, refl, ap, ap₂, sym, ◌∙◌, arith}
 use Rattle.std.proofs.lemmas.List.{length-append, get_or_append_left, get_or_at, same_from_push}
 use Rattle.std.proofs.lemmas.Option.{same_Some}
-use Rattle.call_tree.specs.Table.{Link, link, link_at, place_by, listed, grown, paths_of, IsTable}
+use Rattle.call_tree.specs.Table.{Link, link, link_at, place_by, listed, grown, paths_of, IsNodeTable}
 
 -- ---- the list of paths
 
@@ -52,7 +52,7 @@ grown_push paths (k ∷ ks) l = grown_push (paths ++ (listed paths k.from ++ k.f
 
 -- ---- in a table
 
-module _ (links : List Link) (depths : List ℕ) (next : ℕ → List (ℕ × ℕ)) (table : IsTable links depths next) where
+module _ (links : List Link) (depths : List ℕ) (next : ℕ → List (ℕ × ℕ)) (table : IsNodeTable links depths next) where
   pub listed_step : (i : ℕ) → i < length links → listed (paths_of links) (suc i) ≡ listed (paths_of links) (link_at links i).from ++ (link_at links i).func ∷ []
   listed_step i h =
       let e : i ≡ length {A = List ℕ} [] + i = omega arith in

@@ -10,7 +10,7 @@ use Rattle.std.proofs.lemmas.Bool.{cases_eq, eq-eqb}
 use Rattle.std.proofs.lemmas.Bool.Decides.{nat_tests}
 use Rattle.std.proofs.lemmas.List.{get_or-map, map-set, map-append, get_or-set_same, get_or-set_other, length-map}
 use Rattle.call_tree.specs.declared.table.Place.{Place}
-use Rattle.call_tree.specs.Table.{Link, link, is_link, links_of, link_at, depths_of, counts_at, nexts, nexts_of, place_by, depth_from, paths_of, tallied, IsTable}
+use Rattle.call_tree.specs.Table.{Link, link, is_link, links_of, link_at, depths_of, counts_at, nexts, nexts_of, place_by, depth_from, paths_of, tallied, IsNodeTable}
 use Rattle.call_tree.proofs.Tallies.{as_many, length_tallied, node_at}
 
 pub on_err : {T E P : Type 0} (r : Result T E) → P → OnErr r P
@@ -77,13 +77,13 @@ pub counted_view : (places : List Place) (i : ℕ) (now : Place) → now ≡ sli
 counted_view places i now read =
     ap₂ (λ l n. tallied (paths_of l) n) (links_stay places i now _ (ap (λ (p : Place). link p.from p.func) read)) (map-set (λ (p : Place). p.count) places i _)
 
-pub same_table : (ls ks : List Link) (ds es : List ℕ) (next more : ℕ → List (ℕ × ℕ)) → ks ≡ ls → es ≡ ds → more ≡ next → IsTable ls ds next → IsTable ks es more
+pub same_table : (ls ks : List Link) (ds es : List ℕ) (next more : ℕ → List (ℕ × ℕ)) → ks ≡ ls → es ≡ ds → more ≡ next → IsNodeTable ls ds next → IsNodeTable ks es more
 same_table ls ks ds es next more link_same depth_same next_same table =
-    subst (λ l. IsTable l es more) (sym link_same) (subst (λ d. IsTable ls d more) (sym depth_same) (subst (IsTable ls ds) (sym next_same) table))
+    subst (λ l. IsNodeTable l es more) (sym link_same) (subst (λ d. IsNodeTable ls d more) (sym depth_same) (subst (IsNodeTable ls ds) (sym next_same) table))
 
 -- ---- as many paths as places
 
-module _ (roots : List (ℕ × ℕ)) (places : List Place) (table : IsTable (links_of places) (depths_of places) (nexts_of roots places)) where
+module _ (roots : List (ℕ × ℕ)) (places : List Place) (table : IsNodeTable (links_of places) (depths_of places) (nexts_of roots places)) where
   pub counts_sized : length (counts_at places) ≡ length (links_of places)
   counts_sized = length-map places (λ (p : Place). p.count) ∙ sym (length-map places (λ (p : Place). link p.from p.func))
 

@@ -13,14 +13,14 @@ use Rattle.wasm_num.specs.declared.BlockKind.{BlockKind}
 use Rattle.wasm_num.specs.declared.BlockKind.TheVariants as kinds
 use Rattle.module_ast.specs.declared.module.Loc.{Loc}
 use Rattle.wasm_sem.specs.Nests.{Bracket}
-use Rattle.call_tree.specs.Counts.{with_entry, entry_at, path_at, with_path, counts_of, CountsUpTo}
+use Rattle.call_tree.specs.Counts.{with_entry, entry_at, path_at, with_path, path_counts, CountsPathsUpTo}
 use Rattle.call_tree.specs.Paths.{path_to, is_function, same_bracket}
 use Rattle.call_tree.specs.State.{begun, kind_with, kind_again}
 use Rattle.call_tree.proofs.PathOrder.{same_path}
 
 -- ---- counts
 
-pub counts_rise : (n : ℕ) (path : List ℕ) (es : List (List ℕ × ℕ)) → CountsUpTo n es → CountsUpTo (n + 1) (with_entry path es)
+pub counts_rise : (n : ℕ) (path : List ℕ) (es : List (List ℕ × ℕ)) → CountsPathsUpTo n es → CountsPathsUpTo (n + 1) (with_entry path es)
 counts_rise n path [] bound zero = omega arith
 counts_rise n path [] bound (suc i) = omega arith
 counts_rise n path (e ∷ es) bound i =
@@ -33,11 +33,11 @@ counts_rise n path (e ∷ es) bound i =
     counted zero = omega (arith, bound 0)
     counted (suc k) = omega (arith, bound (suc k))
 
-    other : CountsUpTo (n + 1) (with_entry path es) → (k : ℕ) → (entry_at (e ∷ with_entry path es) k).1 ≤ n + 1
+    other : CountsPathsUpTo (n + 1) (with_entry path es) → (k : ℕ) → (entry_at (e ∷ with_entry path es) k).1 ≤ n + 1
     other rest zero = omega (arith, bound 0)
     other rest (suc k) = rest k
 
-pub counts_stay : (n : ℕ) (es : List (List ℕ × ℕ)) → CountsUpTo n es → CountsUpTo (n + 1) es
+pub counts_stay : (n : ℕ) (es : List (List ℕ × ℕ)) → CountsPathsUpTo n es → CountsPathsUpTo (n + 1) es
 counts_stay n es bound i = omega (arith, bound i)
 
 abbrev same : List ℕ → List ℕ → Bool
@@ -79,12 +79,12 @@ found_with q path (e ∷ es) = go (same path e.0) refl (found_with q path es)
         ∙ found_apart q path e (next (find (slice_cmp nat_cmp) path es)) (find (slice_cmp nat_cmp) q es) is
 
 -- one more in the list is one more in the map
-pub counts_with : (path : List ℕ) (es : List (List ℕ × ℕ)) → counts_of (with_entry path es) ≡ with_path (counts_of es) path
+pub counts_with : (path : List ℕ) (es : List (List ℕ × ℕ)) → path_counts (with_entry path es) ≡ with_path (path_counts es) path
 counts_with path es =
-    same_map nat_list_cmp_total exact_bytes (counts_of (with_entry path es)) (with_path (counts_of es) path)
+    same_map nat_list_cmp_total exact_bytes (path_counts (with_entry path es)) (with_path (path_counts es) path)
     (λ q. get-from_entries nat_list_cmp_total (with_entry path es) q
     ∙ (found_with q path es
-    ∙ sym (get-insert nat_list_cmp_total (counts_of es) path (next (get (counts_of es) path)) q
+    ∙ sym (get-insert nat_list_cmp_total (path_counts es) path (next (get (path_counts es) path)) q
     ∙ ap₂ (λ (a b : Option ℕ). cond (same q path) (Some (next a)) b) (get-from_entries nat_list_cmp_total es path) (get-from_entries nat_list_cmp_total es q))))
 
 -- ---- begins

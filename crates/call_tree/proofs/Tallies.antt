@@ -12,8 +12,8 @@ use Rattle.std.proofs.lemmas.Map.Lookups.{exact_bytes}
 use Rattle.std.proofs.lemmas.Option.{same_Some, none-some}
 use Rattle.std.proofs.lemmas.List.{length-append, get_or_at}
 use Rattle.call_tree.specs.declared.Node.{Node}
-use Rattle.call_tree.specs.Counts.{with_entry, entry_at, path_at, node_of, nodes_of, counts_of}
-use Rattle.call_tree.specs.Table.{Link, link_at, listed, paths_of, tallied, kids, IsTable}
+use Rattle.call_tree.specs.Counts.{with_entry, entry_at, path_at, node_of, nodes_of, path_counts}
+use Rattle.call_tree.specs.Table.{Link, link_at, listed, paths_of, tallied, kids, IsNodeTable}
 use Rattle.call_tree.proofs.PathOrder.{same_path, path_itself}
 use Rattle.call_tree.proofs.Preorder.{Among, Rises, behind, behind_rises, behind_within, complete, all_at, IsTree}
 use Rattle.call_tree.proofs.Grown.{listed_step, paths_differ, length_grown}
@@ -149,7 +149,7 @@ abbrev pub node_at : List Link → (depths counts : List ℕ) → (place : ℕ) 
 node_at links depths counts zero = record { depth = 0; func = 0; count = 0 }
 node_at links depths counts (suc i) = record { depth = slice_index depths i; func = (link_at links i).func; count = slice_index counts i }
 
-module _ (links : List Link) (depths : List ℕ) (next : ℕ → List (ℕ × ℕ)) (table : IsTable links depths next) (counts : List ℕ) (sized : length counts ≡ length links) where
+module _ (links : List Link) (depths : List ℕ) (next : ℕ → List (ℕ × ℕ)) (table : IsNodeTable links depths next) (counts : List ℕ) (sized : length counts ≡ length links) where
   tree : IsTree (length links) (listed (paths_of links)) (kids next)
   tree = table_tree links depths next table
 
@@ -179,9 +179,9 @@ module _ (links : List Link) (depths : List ℕ) (next : ℕ → List (ℕ × �
       let e : w.0 ≡ suc v.0 = paths_differ links depths next table w.0 (suc v.0) u.1 (omega (arith, v.1, as_many)) (w.2 ∙ sym v.2) in
       ap Some (sym v.3 ∙ (ap (number_at counts) (sym e) ∙ w.3))
 
-  in_order : entries (counts_of (tallied (paths_of links) counts)) ≡ map (pair_at (paths_of links) counts) (behind (kids next) (length links))
+  in_order : entries (path_counts (tallied (paths_of links) counts)) ≡ map (pair_at (paths_of links) counts) (behind (kids next) (length links))
   in_order =
-      let m = counts_of (tallied (paths_of links) counts) in
+      let m = path_counts (tallied (paths_of links) counts) in
       same_entries (slice_cmp nat_cmp) nat_list_cmp_total exact_bytes (entries m) (map (pair_at (paths_of links) counts) (behind (kids next) (length links)))
       (entries_sorted m) (pairs_sorted (paths_of links) counts (behind (kids next) (length links)) (behind_rises (length links) (listed (paths_of links)) (kids next) tree))
       (λ q. sym (get-entries m q) ∙ (get-from_entries nat_list_cmp_total (tallied (paths_of links) counts) q ∙ found_same q _ _ refl refl))
@@ -205,7 +205,7 @@ module _ (links : List Link) (depths : List ℕ) (next : ℕ → List (ℕ × �
   nodes_there (i ∷ is) all = ap₂ (λ n ns. n ∷ ns) (node_there i all.0.0 all.0.1) (nodes_there is all.1)
 
   -- the nodes of all places, a place before those behind it, are those of the paths in order
-  pub nodes_in_order : map (node_at links depths counts) (behind (kids next) (length links)) ≡ nodes_of (counts_of (tallied (paths_of links) counts))
+  pub nodes_in_order : map (node_at links depths counts) (behind (kids next) (length links)) ≡ nodes_of (path_counts (tallied (paths_of links) counts))
   nodes_in_order =
       sym (ap (map node_of) in_order
       ∙ nodes_there (behind (kids next) (length links)) (behind_within (length links) (listed (paths_of links)) (kids next) tree))

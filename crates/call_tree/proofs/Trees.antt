@@ -11,7 +11,7 @@ use Rattle.std.proofs.lemmas.Cmp.{nat_cmp_total, tied_itself}
 use Rattle.std.proofs.lemmas.Map.Lookups.{exact_unsigned}
 use Rattle.std.proofs.lemmas.Option.{same_Some}
 use Rattle.std.proofs.lemmas.Bool.Decides.{nat_tests}
-use Rattle.call_tree.specs.Table.{Link, link, link_at, listed, paths_of, kids, IsTable, LeadsTo}
+use Rattle.call_tree.specs.Table.{Link, link, link_at, listed, paths_of, kids, IsNodeTable, IsChildBy}
 use Rattle.call_tree.proofs.PathOrder.{StandsApart, forks_apart}
 use Rattle.call_tree.proofs.Preorder.{Among, all_from, AreApart, IsTree}
 use Rattle.call_tree.proofs.Grown.{listed_step}
@@ -80,8 +80,8 @@ values_apart path from (e ∷ es) sorted known = (
 
 -- ---- the tree
 
-module _ (links : List Link) (depths : List ℕ) (next : ℕ → List (ℕ × ℕ)) (table : IsTable links depths next) where
-  leads : (p f c : ℕ) → Lists f c (next p) → LeadsTo links (link p f) c
+module _ (links : List Link) (depths : List ℕ) (next : ℕ → List (ℕ × ℕ)) (table : IsNodeTable links depths next) where
+  leads : (p f c : ℕ) → Lists f c (next p) → IsChildBy links (link p f) c
   leads p f c h = table.led (link p f) c (lists_lookup f c (next p) (table.ordered p) h)
 
   led_path : (p f c : ℕ) → Lists f c (next p) → listed (paths_of links) c ≡ listed (paths_of links) p ++ f ∷ []

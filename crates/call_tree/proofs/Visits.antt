@@ -7,7 +7,7 @@ use Rattle.std.proofs.lemmas.Option.{same_Some}
 use Rattle.std.proofs.lemmas.Bool.{cases_eq, and_parts, eqb-true, eq-eqb}
 use Rattle.std.proofs.lemmas.List.{length-append, get_or_append_left, get_or_at, same_from_push}
 use Rattle.call_tree.specs.Counts.{path_at, with_entry}
-use Rattle.call_tree.specs.Table.{Link, link, is_link, link_at, place_by, depth_from, listed, paths_of, tallied, IsTable, LeadsTo}
+use Rattle.call_tree.specs.Table.{Link, link, is_link, link_at, place_by, depth_from, listed, paths_of, tallied, IsNodeTable, IsChildBy}
 use Rattle.call_tree.proofs.Grown.{listed_step, paths_differ, grown_push, listed_left, listed_next}
 use Rattle.call_tree.proofs.Tallies.{as_many, same_length, length_tallied, path_tallied, counted_again, counted_first}
 
@@ -21,7 +21,7 @@ link_itself : (l : Link) → is_link l l ≡ true
 link_itself l = ap (λ b. b && (l.func == l.func)) (eq-eqb l.from l.from refl) ∙ eq-eqb l.func l.func refl
 
 -- the path at a place goes on from that of the place that its link names
-pub path_behind : (links : List Link) (depths : List ℕ) (next : ℕ → List (ℕ × ℕ)) (table : IsTable links depths next) (counts : List ℕ) (sized : length counts ≡ length links)
+pub path_behind : (links : List Link) (depths : List ℕ) (next : ℕ → List (ℕ × ℕ)) (table : IsNodeTable links depths next) (counts : List ℕ) (sized : length counts ≡ length links)
     (place : ℕ) → 0 < place → place ≤ length links
     → path_at (tallied (paths_of links) counts) place ≡ path_at (tallied (paths_of links) counts) (link_at links (place - 1)).from ++ (link_at links (place - 1)).func ∷ []
 path_behind links depths next table counts sized zero some within = absurd (omega arith)
@@ -33,17 +33,17 @@ path_behind links depths next table counts sized (suc i) some within =
     ∙ (ap (λ p. p ++ (link_at links i).func ∷ []) (sym (path_tallied (paths_of links) counts (link_at links i).from same))
     ∙ ap (λ k. path_at (tallied (paths_of links) counts) (link_at links k).from ++ (link_at links k).func ∷ []) e))
 
-module _ (links : List Link) (depths : List ℕ) (next : ℕ → List (ℕ × ℕ)) (table : IsTable links depths next) (counts : List ℕ) (sized : length counts ≡ length links) (place func : ℕ) where
+module _ (links : List Link) (depths : List ℕ) (next : ℕ → List (ℕ × ℕ)) (table : IsNodeTable links depths next) (counts : List ℕ) (sized : length counts ≡ length links) (place func : ℕ) where
   path_from : path_at (tallied (paths_of links) counts) place ++ func ∷ [] ≡ listed (paths_of links) place ++ func ∷ []
   path_from = ap (λ p. p ++ func ∷ []) (path_tallied (paths_of links) counts place (same_length links depths next table counts sized))
 
   -- ---- once more
 
-  path_led : (found : ℕ) → LeadsTo links (link place func) found → listed (paths_of links) found ≡ listed (paths_of links) place ++ func ∷ []
+  path_led : (found : ℕ) → IsChildBy links (link place func) found → listed (paths_of links) found ≡ listed (paths_of links) place ++ func ∷ []
   path_led found w =
       ap (listed (paths_of links)) w.1 ∙ (listed_step links depths next table w.0 w.2 ∙ ap (λ (l : Link). listed (paths_of links) l.from ++ l.func ∷ []) w.3)
 
-  pub once_more : (found x : ℕ) → LeadsTo links (link place func) found → slice_index counts (found - 1) ≡ x
+  pub once_more : (found x : ℕ) → IsChildBy links (link place func) found → slice_index counts (found - 1) ≡ x
       → tallied (paths_of links) (set counts (found - 1) (x + 1)) ≡ with_entry (path_at (tallied (paths_of links) counts) place ++ func ∷ []) (tallied (paths_of links) counts)
   once_more found x w read =
       let many : length (paths_of links) ≡ length links = as_many links depths next table counts sized in
@@ -53,7 +53,7 @@ module _ (links : List Link) (depths : List ℕ) (next : ℕ → List (ℕ × �
       (λ k less same. absurd (omega (arith, less, paths_differ links depths next table (suc k) (suc (found - 1)) (omega (arith, less, w.1, w.2)) (omega (arith, w.1, w.2)) (same ∙ sym here))))
       ∙ ap (λ p. with_entry p (tallied (paths_of links) counts)) (sym path_from)
 
-  pub stands_there : (found : ℕ) (more : List ℕ) → LeadsTo links (link place func) found → length more ≡ length counts
+  pub stands_there : (found : ℕ) (more : List ℕ) → IsChildBy links (link place func) found → length more ≡ length counts
       → (found ≤ length (tallied (paths_of links) more)) × (path_at (tallied (paths_of links) more) found ≡ path_at (tallied (paths_of links) counts) place ++ func ∷ [])
   stands_there found more w same =
       let long : length more ≡ length (paths_of links) = same ∙ same_length links depths next table counts sized in (
@@ -133,10 +133,10 @@ module _ (links : List Link) (depths : List ℕ) (next : ℕ → List (ℕ × �
         sym (ap (λ ps. listed ps p) grown_paths ∙ listed_left (paths_of links) ((listed (paths_of links) place ++ func ∷ []) ∷ []) p (omega (arith, h, as_many links depths next table counts sized)))
 
     module _ (fresh : ℕ → List (ℕ × ℕ)) (put : (l : Link) → place_by fresh l ≡ cond (is_link (link place func) l) (Some (suc (length links))) (place_by next l)) where
-      led_here : (q : Link) (c : ℕ) → place_by fresh q ≡ Some c → LeadsTo (links ++ link place func ∷ []) q c
+      led_here : (q : Link) (c : ℕ) → place_by fresh q ≡ Some c → IsChildBy (links ++ link place func ∷ []) q c
       led_here q c h = go (is_link (link place func) q) refl (sym (put q) ∙ h)
         where
-          go : (b : Bool) → is_link (link place func) q ≡ b → cond b (Some (suc (length links))) (place_by next q) ≡ Some c → LeadsTo (links ++ link place func ∷ []) q c
+          go : (b : Bool) → is_link (link place func) q ≡ b → cond b (Some (suc (length links))) (place_by next q) ≡ Some c → IsChildBy (links ++ link place func ∷ []) q c
           go true same h = (
             length links,
             sym (same_Some (suc (length links)) c h),
@@ -164,7 +164,7 @@ module _ (links : List Link) (depths : List ℕ) (next : ℕ → List (ℕ × �
           ∙ ap (λ k. Some (suc k)) (sym h))))
 
       -- with a new place
-      pub with_place : ((p : ℕ) → IsStrictlySortedBy nat_cmp (keys_of (fresh p))) → IsTable (links ++ link place func ∷ []) (depths ++ depth_from depths place ∷ []) fresh
+      pub with_place : ((p : ℕ) → IsStrictlySortedBy nat_cmp (keys_of (fresh p))) → IsNodeTable (links ++ link place func ∷ []) (depths ++ depth_from depths place ∷ []) fresh
       with_place sorted =
           let d = depth_from depths place in
           let longer : List Link = links ++ link place func ∷ [] in

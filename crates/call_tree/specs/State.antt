@@ -16,8 +16,8 @@ use Rattle.wasm_sem.specs.Nests.{Bracket, bracket}
 use Rattle.call_tree.specs.declared.tree.Open.{Open}
 use Rattle.call_tree.specs.declared.tree.TreeFault.{TreeFault}
 use Rattle.call_tree.specs.declared.tree.TreeFault.TheVariants as faults
-use Rattle.call_tree.specs.Counts.{PathCounts, with_path, path_at, CountsUpTo}
-use Rattle.call_tree.specs.Paths.{closed_by, open_after, open_after_all, path_to, path_begun, paths, IsBad}
+use Rattle.call_tree.specs.Counts.{PathCounts, with_path, path_at, CountsPathsUpTo}
+use Rattle.call_tree.specs.Paths.{closed_by, open_after, open_after_all, path_to, path_begun, paths, HasBadEnd}
 
 pub record TreeState : Type 0 where
   pub brackets : List Bracket
@@ -65,20 +65,20 @@ abbrev pub taken_by : TreeState → Event → List Bracket → TreeState
 taken_by s e brackets = record { brackets = brackets; counts = counted_from s.counts (path_begun s.brackets (event e)); taken = s.taken + 1 }
 
 -- none where the event is an end that does not close the latest begin
-abbrev pub state_after : TreeState → Event → Option TreeState
-state_after s e = option_map (taken_by s e) (open_after s.brackets (event e))
+abbrev pub tree_after : TreeState → Event → Option TreeState
+tree_after s e = option_map (taken_by s e) (open_after s.brackets (event e))
 
 -- only such an end is not nested, at its location, and only at a begin memory may run out
-abbrev pub IsRefusal : TreeState → Event → TreeFault → Type 0
-IsRefusal s (events.End p kind begin) (faults.NotNested loc) = (closed_by (bracket p.func kind begin) s.brackets ≡ None) × (loc ≡ p)
-IsRefusal s (events.Begin p kind) faults.NoMemory = Unit {0}
-IsRefusal s e fault = ⊥
+abbrev pub IsTreeRefusal : TreeState → Event → TreeFault → Type 0
+IsTreeRefusal s (events.End p kind begin) (faults.NotNested loc) = (closed_by (bracket p.func kind begin) s.brackets ≡ None) × (loc ≡ p)
+IsTreeRefusal s (events.Begin p kind) faults.NoMemory = Unit {0}
+IsTreeRefusal s e fault = ⊥
 
 -- ---- of a list of items
 
 -- how often each path comes
-abbrev pub counts_in : List (List ℕ) → PathCounts
-counts_in ps = from_entries (map (λ p. (p, count_by (eq_by_cmp (slice_cmp nat_cmp) p) ps)) ps)
+abbrev pub path_counts_in : List (List ℕ) → PathCounts
+path_counts_in ps = from_entries (map (λ p. (p, count_by (eq_by_cmp (slice_cmp nat_cmp) p) ps)) ps)
 
 abbrev pub event_count : List TraceItem → ℕ
 event_count [] = 0
@@ -88,7 +88,7 @@ event_count (host_call f vs rs ws ∷ is) = event_count is
 event_count (hook_call h ∷ is) = event_count is
 
 abbrev pub state_with : List TraceItem → List Bracket → TreeState
-state_with is brackets = record { brackets = brackets; counts = counts_in (paths is); taken = event_count is }
+state_with is brackets = record { brackets = brackets; counts = path_counts_in (paths is); taken = event_count is }
 
 -- none for a bad list
 abbrev pub state_of : List TraceItem → Option TreeState
@@ -97,7 +97,7 @@ state_of is = option_map (state_with is) (open_after_all (Some []) is)
 -- a call of the host or of a hook changes nothing
 abbrev pub state_behind : TraceItem → TreeState → Option TreeState
 state_behind (entry c) s = Some (entered s)
-state_behind (event e) s = state_after s e
+state_behind (event e) s = tree_after s e
 state_behind (host_call f vs rs ws) s = Some s
 state_behind (hook_call h) s = Some s
 
@@ -105,7 +105,7 @@ state_behind (hook_call h) s = Some s
 pub record TakesMakeTree : Type 0 where
   pub fresh : state_of [] ≡ Some fresh_tree
   pub behind : (is : List TraceItem) (i : TraceItem) → state_of (is ++ i ∷ []) ≡ option_and_then (state_behind i) (state_of is)
-  pub bad : (is js : List TraceItem) → state_of is ≡ None → IsBad (is ++ js)
+  pub bad : (is js : List TraceItem) → state_of is ≡ None → HasBadEnd (is ++ js)
 
 -- ---- how a tree holds it
 
@@ -117,12 +117,12 @@ abbrev pub brackets_of : List Open → List Bracket
 brackets_of opens = map bracket_of (reverse opens)
 
 -- the functions that are open are at this place
-abbrev pub IsPlaceOf : List (List ℕ × ℕ) → List Bracket → (place : ℕ) → Type 0
-IsPlaceOf es brackets place = (place ≤ length es) × (path_at es place ≡ path_to brackets [])
+abbrev pub IsNodePlace : List (List ℕ × ℕ) → List Bracket → (place : ℕ) → Type 0
+IsNodePlace es brackets place = (place ≤ length es) × (path_at es place ≡ path_to brackets [])
 
 pub record IsTree (es : List (List ℕ × ℕ)) (brackets : List Bracket) (place taken : ℕ) : Type 0 where
-  pub there : IsPlaceOf es brackets place
-  pub bound : CountsUpTo taken es
+  pub there : IsNodePlace es brackets place
+  pub bound : CountsPathsUpTo taken es
 
 -- the path that a begin counts
 abbrev pub begun : List Bracket → Loc → BlockKind → List (List ℕ)

@@ -76,15 +76,15 @@ tallied ps ns = []
 -- ---- what holds of a table
 
 -- a link leads to this place
-abbrev pub LeadsTo : List Link → Link → (place : ℕ) → Type 0
-LeadsTo links l place = (i : ℕ) × (place ≡ suc i) × (i < length links) × (link_at links i ≡ l)
+abbrev pub IsChildBy : List Link → Link → (place : ℕ) → Type 0
+IsChildBy links l place = (i : ℕ) × (place ≡ suc i) × (i < length links) × (link_at links i ≡ l)
 
 -- each place goes on from one before its own, and from that its function leads to it
-pub record IsTable (links : List Link) (depths : List ℕ) (next : ℕ → List (ℕ × ℕ)) : Type 0 where
+pub record IsNodeTable (links : List Link) (depths : List ℕ) (next : ℕ → List (ℕ × ℕ)) : Type 0 where
   pub sized : length depths ≡ length links
   pub back : (i : ℕ) → i < length links → (link_at links i).from ≤ i
   pub deep : (i : ℕ) → i < length links → slice_index depths i ≤ i
   pub depth : (i : ℕ) → i < length links → slice_index depths i ≡ length (listed (paths_of links) (link_at links i).from)
-  pub led : (l : Link) (place : ℕ) → place_by next l ≡ Some place → LeadsTo links l place
+  pub led : (l : Link) (place : ℕ) → place_by next l ≡ Some place → IsChildBy links l place
   pub found : (i : ℕ) → i < length links → place_by next (link_at links i) ≡ Some (suc i)
   pub ordered : (place : ℕ) → IsStrictlySortedBy nat_cmp (keys_of (next place))

@@ -4,7 +4,7 @@ ghost use Rattle.std.specs.Prelude.{◌≡◌, ◌+◌, ◌-◌, ◌^◌, ◌<�
 ghost use Rattle.std.specs.Ordering.{nat_cmp};
 ghost use Rattle.std.specs.List.Sorted.{IsStrictlySortedBy};
 ghost use Rattle.std.specs.Map.{keys_of, values_of};
-ghost use Rattle.call_tree.specs.Counts.{path_at, with_entry, counts_of, nodes_of, CountsUpTo};
+ghost use Rattle.call_tree.specs.Counts.{path_at, with_entry, path_counts, nodes_of, CountsPathsUpTo};
 ghost use Rattle.call_tree.specs.Table.{Link, link, links_of, depths_of, counts_at, nexts_of, place_by, depth_from, is_link};
 
 use crate::Node;
@@ -34,13 +34,13 @@ pub struct Table {
 
 impl Model for Table {
     ghost use Rattle.std.specs.Prelude.{List, ℕ};
-    ghost use Rattle.call_tree.specs.Table.{links_of, depths_of, counts_at, nexts_of, paths_of, tallied, IsTable};
+    ghost use Rattle.call_tree.specs.Table.{links_of, depths_of, counts_at, nexts_of, paths_of, tallied, IsNodeTable};
 
     ghost Value = { List (List ℕ × ℕ) };
 
     ghost view = { λ t. tallied (paths_of (links_of t.places.items)) (counts_at t.places.items) };
 
-    ghost invariant = { λ t. IsTable (links_of t.places.items) (depths_of t.places.items) (nexts_of t.roots.entries t.places.items) };
+    ghost invariant = { λ t. IsNodeTable (links_of t.places.items) (depths_of t.places.items) (nexts_of t.roots.entries t.places.items) };
 }
 
 // How many functions a path has that goes on from a place, before its last.
@@ -123,7 +123,7 @@ impl Table {
     // for a new path, and changes nothing.
     pub fn visit(&mut self, place: usize, func: u32) -> Result<usize, AllocError>
         requires known { place ≤ length self.old }
-        requires room { (n : ℕ) × (n + 1 < 2 ^ 64) × CountsUpTo n self.old }
+        requires room { (n : ℕ) × (n + 1 < 2 ^ 64) × CountsPathsUpTo n self.old }
         ensures counted { OnOk result (self.new ≡ with_entry (path_at self.old place ++ func ∷ []) self.old) }
         ensures there { IfOk result (λ p. (p ≤ length self.new) × (path_at self.new p ≡ path_at self.old place ++ func ∷ [])) }
         ensures kept { OnErr result (self.new ≡ self.old) }
@@ -165,7 +165,7 @@ impl Table {
 
     // A node for each path, in the order of paths.
     pub fn nodes(&self) -> Result<Vec<Node>, AllocError>
-        ensures { IfOk result (λ nodes. nodes.items ≡ nodes_of (counts_of self.now)) }
+        ensures { IfOk result (λ nodes. nodes.items ≡ nodes_of (path_counts self.now)) }
     {
         let mut nodes = Vec::with_capacity(self.alloc, self.places.len())?;
         let mut waiting = Vec::new(self.alloc);

@@ -2,9 +2,9 @@
 
 ghost use Rattle.std.specs.Prelude.{◌≡◌, ◌+◌, ◌^◌, ◌<◌, ℕ, ◌∷◌, Some, None, Option, option_map, IfSome, IfNone, IfOk, OnOk, OnErr, IfErr};
 ghost use Rattle.wasm_sem.specs.Nests.{bracket};
-ghost use Rattle.call_tree.specs.Counts.{counts_of, nodes_of, CountsUpTo};
+ghost use Rattle.call_tree.specs.Counts.{path_counts, nodes_of, CountsPathsUpTo};
 ghost use Rattle.call_tree.specs.Paths.{closed_by, same_bracket};
-ghost use Rattle.call_tree.specs.State.{TreeState, fresh_tree, entered, state_after, IsRefusal, brackets_of, bracket_of, IsPlaceOf, counted_from, begun};
+ghost use Rattle.call_tree.specs.State.{TreeState, fresh_tree, entered, tree_after, IsTreeRefusal, brackets_of, bracket_of, IsNodePlace, counted_from, begun};
 ghost use Rattle.call_tree.specs.declared.tree.TreeFault.TheVariants as faults;
 
 use crate::Node;
@@ -49,12 +49,12 @@ fn begin(
     loc: Loc,
     kind: BlockKind,
 ) -> Result<usize, NoMemory>
-    requires there { IsPlaceOf table.old (brackets_of opened.old.items) at }
-    requires room { (n : ℕ) × (n + 1 < 2 ^ 64) × CountsUpTo n table.old }
+    requires there { IsNodePlace table.old (brackets_of opened.old.items) at }
+    requires room { (n : ℕ) × (n + 1 < 2 ^ 64) × CountsPathsUpTo n table.old }
     ensures begun { OnOk result (brackets_of opened.new.items ≡ bracket loc.func kind loc.instr ∷ brackets_of opened.old.items) }
-    ensures counted { OnOk result (counts_of table.new ≡ counted_from (counts_of table.old) (begun (brackets_of opened.old.items) loc kind)) }
-    ensures there { IfOk result (IsPlaceOf table.new (brackets_of opened.new.items)) }
-    ensures bound { (n : ℕ) → CountsUpTo n table.old → CountsUpTo (n + 1) table.new }
+    ensures counted { OnOk result (path_counts table.new ≡ counted_from (path_counts table.old) (begun (brackets_of opened.old.items) loc kind)) }
+    ensures there { IfOk result (IsNodePlace table.new (brackets_of opened.new.items)) }
+    ensures bound { (n : ℕ) → CountsPathsUpTo n table.old → CountsPathsUpTo (n + 1) table.new }
     ensures kept { OnErr result ((table.new ≡ table.old) × (opened.new.items ≡ opened.old.items)) }
 {
     opened.reserve(1)?;
@@ -89,10 +89,10 @@ fn end(
     kind: BlockKind,
     begin: i32,
 ) -> Option<usize>
-    requires { IsPlaceOf table.now (brackets_of opened.old.items) at }
+    requires { IsNodePlace table.now (brackets_of opened.old.items) at }
     ensures closed { closed_by (bracket loc.func kind begin) (brackets_of opened.old.items)
         ≡ option_map (λ _. brackets_of opened.new.items) result }
-    ensures there { IfSome result (IsPlaceOf table.now (brackets_of opened.new.items)) }
+    ensures there { IfSome result (IsNodePlace table.now (brackets_of opened.new.items)) }
     ensures kept { IfNone result (opened.new.items ≡ opened.old.items) }
 {
     match opened.last() {
@@ -120,14 +120,14 @@ pub struct Tree {
 }
 
 impl Model for Tree {
-    ghost use Rattle.call_tree.specs.Counts.{counts_of};
+    ghost use Rattle.call_tree.specs.Counts.{path_counts};
     ghost use Rattle.call_tree.specs.State.{TreeState, state_code, brackets_of, IsTree};
 
     ghost Value = { TreeState };
 
     ghost coded = { state_code };
 
-    ghost view = { λ t. record { brackets = brackets_of t.opened.items; counts = counts_of t.table; taken = t.taken } };
+    ghost view = { λ t. record { brackets = brackets_of t.opened.items; counts = path_counts t.table; taken = t.taken } };
 
     ghost invariant = { λ t. IsTree t.table (brackets_of t.opened.items) t.at t.taken };
 }
@@ -157,9 +157,9 @@ impl Tree {
     /// none is open; `NoMemory` at a begin alone. After an `Err` the tree is as before.
     pub fn take(&mut self, event: &Event) -> Result<(), TreeFault>
         requires { self.old.taken < 2 ^ 63 }
-        ensures taken { OnOk result (state_after self.old event.now ≡ Some self.new) }
+        ensures taken { OnOk result (tree_after self.old event.now ≡ Some self.new) }
         ensures kept { OnErr result (self.new ≡ self.old) }
-        ensures refused { IfErr result (IsRefusal self.old event.now) }
+        ensures refused { IfErr result (IsTreeRefusal self.old event.now) }
     {
         match event {
             Event::Begin { loc, kind } => {

@@ -12,7 +12,7 @@ use Rattle.leb_binary.proofs.Spelled.{spelled_unsigned, spelled_signed}
 use Rattle.wasm_num.specs.declared.Value.{Value}
 use Rattle.wasm_num.specs.declared.Value.TheVariants.{I32, I64}
 use Rattle.trace_file.proofs.Apart.{AreApart, apart_item, same_front}
-use Rattle.trace_file.specs.Fields.{FitsNumber, FitsPlace, FitsValue, FitsCallee, FitValues, place_bytes, value_bytes, callee_bytes, values_bytes}
+use Rattle.trace_file.specs.Fields.{FitsNumber, FitsLocation, FitsValue, FitsCallee, FitValues, place_bytes, value_bytes, callee_bytes, values_bytes}
 
 pub apart_number : AreApart FitsNumber unsigned_bytes
 apart_number = apart_item (IsUnsigned 32) FitsNumber unsigned_bytes (one_unsigned 32) (λ n f. spelled_unsigned 32 n (omega arith) f)
@@ -20,7 +20,7 @@ apart_number = apart_item (IsUnsigned 32) FitsNumber unsigned_bytes (one_unsigne
 pub apart_signed : (size : ℕ) → AreApart (IsInSize size) signed_bytes
 apart_signed size = apart_item (IsSigned size) (IsInSize size) signed_bytes (one_signed size) (spelled_signed size)
 
-pub apart_place : AreApart FitsPlace place_bytes
+pub apart_place : AreApart FitsLocation place_bytes
 apart_place = record {
   apart = λ x y r s f g e.
       let e1 : unsigned_bytes x.func ++ (signed_bytes x.instr ++ r) ≡ unsigned_bytes y.func ++ (signed_bytes y.instr ++ s) =

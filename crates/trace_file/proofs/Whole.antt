@@ -9,7 +9,7 @@ use Rattle.leb_binary.proofs.Lengths.{longer_unsigned}
 use Rattle.hook_select.specs.declared.Event.{Event}
 use Rattle.trace_file.specs.Begins.{Begins, NoneBegins}
 use Rattle.trace_file.specs.Fields.{FitsNumber}
-use Rattle.trace_file.specs.Files.{header, events_bytes, ending, IsTrace, IsNoTrace, IsWithin, Reading, HasRead, writing_of, with_event}
+use Rattle.trace_file.specs.Files.{header, events_bytes, ending, IsTrace, IsNoTrace, IsWithinBound, Reading, HasRead, writing_of, with_event}
 use Rattle.trace_file.specs.Rows.{event_row, fields_bytes, event_bytes, FitsEvent}
 use Rattle.trace_file.proofs.Several.{behind, one_more, flat_more}
 use Rattle.trace_file.proofs.Tables.{apart_event, tag_least, tag_most}
@@ -114,7 +114,7 @@ writes_on max es e =
     λ i. record { max = max; events = bytes i; count = count i }
 
 -- where there is a file of events, there is one of the first of them
-pub first_fit : (max : ℕ) (es more : List Event) → IsWithin (writing_of max (es ++ more)) → IsWithin (writing_of max es)
+pub first_fit : (max : ℕ) (es more : List Event) → IsWithinBound (writing_of max (es ++ more)) → IsWithinBound (writing_of max es)
 first_fit max es more (few, short) =
     let count = length-append es more in
     let bytes = ap length (flat_map-append event_bytes es more) ∙ length-append (events_bytes es) (events_bytes more) in

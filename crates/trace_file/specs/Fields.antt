@@ -81,8 +81,8 @@ FitsNumber n = n < 2 ^ 32
 abbrev pub FitsSigned : ℤ → Type 0
 FitsSigned z = IsInSize 32 z
 
-abbrev pub FitsPlace : Loc → Type 0
-FitsPlace loc = FitsNumber loc.func × FitsSigned loc.instr
+abbrev pub FitsLocation : Loc → Type 0
+FitsLocation loc = FitsNumber loc.func × FitsSigned loc.instr
 
 abbrev pub FitsValue : Value → Type 0
 FitsValue (I32 n) = n < 2 ^ 32
@@ -96,7 +96,7 @@ abbrev pub FitValues : List Value → Type 0
 FitValues vs = FitsNumber (length vs) × AllByRecursion FitsValue vs
 
 abbrev pub FitsField : Field → Type 0
-FitsField (place loc) = FitsPlace loc
+FitsField (place loc) = FitsLocation loc
 FitsField (number n) = FitsNumber n
 FitsField (signed z) = FitsSigned z
 FitsField (value v) = FitsValue v

@@ -51,8 +51,8 @@ abbrev pub with_event : Event → Writing → Writing
 with_event e w = record { max = w.max; events = w.events ++ event_bytes e; count = w.count + 1 }
 
 -- there is a file of these events, no longer than it may be
-abbrev pub IsWithin : Writing → Type 0
-IsWithin w = FitsNumber w.count × (length (file_bytes w.events w.count) ≤ w.max)
+abbrev pub IsWithinBound : Writing → Type 0
+IsWithinBound w = FitsNumber w.count × (length (file_bytes w.events w.count) ≤ w.max)
 
 -- a file that begins with the header, and one that has not begun
 abbrev pub IsBegun : List ℕ → Type 0

@@ -3,7 +3,7 @@ use Rattle.std.specs.Prelude.{◌≡◌, ℕ, List, [], ◌∷◌, ◌++◌, len
 use Rattle.std.specs.List.{AllByRecursion}
 use Rattle.hook_select.specs.declared.Event.{Event}
 use Rattle.trace_file.specs.Fields.{FitsNumber}
-use Rattle.trace_file.specs.Files.{trace_bytes, file_bytes, IsTrace, IsWithin, writing_of, with_event}
+use Rattle.trace_file.specs.Files.{trace_bytes, file_bytes, IsTrace, IsWithinBound, writing_of, with_event}
 use Rattle.trace_file.specs.Rows.{FitsEvent}
 
 -- fewer than 2^32 events whose numbers are of their sizes have a trace file
@@ -24,4 +24,4 @@ WritersWriteTraces = (max : ℕ) (es : List Event) → file_bytes (writing_of ma
 
 -- where the trace file of events is no longer than it may be, that of the first of them is not either
 abbrev pub FirstEventsFit : Type 0
-FirstEventsFit = (max : ℕ) (es more : List Event) → IsWithin (writing_of max (es ++ more)) → IsWithin (writing_of max es)
+FirstEventsFit = (max : ℕ) (es more : List Event) → IsWithinBound (writing_of max (es ++ more)) → IsWithinBound (writing_of max es)

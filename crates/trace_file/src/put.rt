@@ -6,7 +6,7 @@ ghost use Rattle.wasm_num.specs.Opcodes.{num_opcode};
 ghost use Rattle.module_ast.specs.Opcodes.{load_opcode, store_opcode};
 ghost use Rattle.wasm_num.specs.Kinds.{kind_number};
 ghost use Rattle.trace_file.specs.declared.put.TraceFault.TheVariants.{NoMemory};
-ghost use Rattle.trace_file.specs.Fields.{FitsNumber, FitsSigned, FitsPlace, FitsValue, FitsCallee, FitValues, place_bytes, value_bytes, var_number, callee_bytes, values_bytes};
+ghost use Rattle.trace_file.specs.Fields.{FitsNumber, FitsSigned, FitsLocation, FitsValue, FitsCallee, FitValues, place_bytes, value_bytes, var_number, callee_bytes, values_bytes};
 
 use crate::codes::var_number;
 use leb_binary::{put_s32, put_s64, put_u32};
@@ -101,7 +101,7 @@ impl Put for i32 {
 impl Put for Loc {
     ghost spelling = { place_bytes };
 
-    ghost fits = { FitsPlace };
+    ghost fits = { FitsLocation };
 
     fn put(self, out: &mut Vec<u8>) -> Result<(), TraceFault> {
         self.func.put(out)?;

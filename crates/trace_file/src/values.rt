@@ -1,6 +1,6 @@
 // Places, values, lists of them and callees, from the front of bytes.
 
-ghost use Rattle.trace_file.specs.Fields.{FitsPlace, FitsValue, FitsCallee, FitValues, place_bytes, value_bytes, callee_bytes, values_bytes};
+ghost use Rattle.trace_file.specs.Fields.{FitsLocation, FitsValue, FitsCallee, FitValues, place_bytes, value_bytes, callee_bytes, values_bytes};
 
 use crate::field::{ReadTraceFault, Take};
 use leb_binary::Cursor;
@@ -11,7 +11,7 @@ use wasm_num::{Value, Values};
 impl Take for Loc {
     ghost spelling = { place_bytes };
 
-    ghost fits = { FitsPlace };
+    ghost fits = { FitsLocation };
 
     fn take(alloc: Global, cursor: &mut Cursor<'_>) -> Result<Loc, ReadTraceFault> {
         match <(u32, i32)>::take(alloc, cursor) {

@@ -1,7 +1,7 @@
 // A trace file as it grows.
 
 ghost use Rattle.std.specs.Prelude.{◌≡◌, ◌+◌, ◌≤◌, [], drop, length, IfOk, OnOk, OnErr, IfErr};
-ghost use Rattle.trace_file.specs.Files.{header, ending, file_bytes, Writing, IsWithin, IsBegun, IsEmptyOrBegun, with_event};
+ghost use Rattle.trace_file.specs.Files.{header, ending, file_bytes, Writing, IsWithinBound, IsBegun, IsEmptyOrBegun, with_event};
 ghost use Rattle.trace_file.specs.Rows.{FitsEvent};
 
 use crate::put::{TraceFault, put_byte};
@@ -66,8 +66,8 @@ impl TraceWriter {
     pub fn put(&mut self, event: &Event) -> Result<(), TraceFault>
         ensures added { OnOk result (self.new ≡ with_event event.now self.old) }
         ensures fits { OnOk result (FitsEvent event.now) }
-        ensures within { OnOk result (IsWithin self.new) }
-        ensures large { IfErr result (λ fault. fault ≡ TraceFault.TooLarge → IsWithin (with_event event.now self.old) → ⊥) }
+        ensures within { OnOk result (IsWithinBound self.new) }
+        ensures large { IfErr result (λ fault. fault ≡ TraceFault.TooLarge → IsWithinBound (with_event event.now self.old) → ⊥) }
         ensures kept { OnErr result (self.new ≡ self.old) }
     {
         self.next.clear();
@@ -89,8 +89,8 @@ impl TraceWriter {
     /// The file of the events. `TooLarge` exactly where it is longer than `max`.
     pub fn finish(self) -> Result<Vec<u8>, TraceFault>
         ensures file { IfOk result (λ file. file.items ≡ file_bytes self.events self.count) }
-        ensures within { OnOk result (IsWithin self) }
-        ensures large { IfErr result (λ fault. fault ≡ TraceFault.TooLarge → IsWithin self → ⊥) }
+        ensures within { OnOk result (IsWithinBound self) }
+        ensures large { IfErr result (λ fault. fault ≡ TraceFault.TooLarge → IsWithinBound self → ⊥) }
     {
         let mut file = self.file;
         begin(&mut file)?;

@@ -2,9 +2,9 @@ use Rattle.std.proofs.Common.{◌≡◌, ◌+◌, [], ◌∷◌, ◌++◌, map, 
 use Rattle.std.proofs.lemmas.List.{reverse-append}
 use Rattle.wasm_sem.specs.Nests.{Bracket, bracket}
 use Rattle.call_tree.specs.declared.tree.Open.{Open}
-use Rattle.call_tree.specs.Counts.{counts_of, with_path, CountsUpTo}
+use Rattle.call_tree.specs.Counts.{path_counts, with_path, CountsPathsUpTo}
 use Rattle.call_tree.specs.Paths.{is_function}
-use Rattle.call_tree.specs.State.{bracket_of, counted_from, brackets_of, IsPlaceOf}
+use Rattle.call_tree.specs.State.{bracket_of, counted_from, brackets_of, IsNodePlace}
 use Rattle.call_tree.proofs.States.{counts_rise, counts_stay, counts_with, path_split, path_with, path_same, other_begun, function_begun, not_function}
 use Rattle.call_tree.proofs.tree.begin.Goals as goal
 use Rattle.call_tree.proofs.tree.begin.Goals.{in-Function+in_ok-place-in-Function, in_default, After-unwrap}
@@ -16,13 +16,13 @@ returns-clause-counted c =
     let func = c.args.loc.func in
     elim c.match-kind.branch [
       | in-Function+in_ok-place-in-Function w ↦
-          ap counts_of (w.table-is ∙ w.in_ok-place-in-Function.ensures.counted)
+          ap path_counts (w.table-is ∙ w.in_ok-place-in-Function.ensures.counted)
           ∙ (counts_with _ es
-          ∙ (ap (with_path (counts_of es)) (ap (λ p. p ++ func ∷ []) c.requires.there.1 ∙ sym (path_split brackets (func ∷ [])))
-          ∙ sym (ap (counted_from (counts_of es)) (function_begun brackets c.args.loc c.args.kind w.in-Function.is))))
+          ∙ (ap (with_path (path_counts es)) (ap (λ p. p ++ func ∷ []) c.requires.there.1 ∙ sym (path_split brackets (func ∷ [])))
+          ∙ sym (ap (counted_from (path_counts es)) (function_begun brackets c.args.loc c.args.kind w.in-Function.is))))
       | in_default w ↦
-          ap counts_of w.table-is
-          ∙ sym (ap (counted_from (counts_of es)) (other_begun brackets c.args.loc c.args.kind (not_function c.args.kind w.in_default.not-Function)))
+          ap path_counts w.table-is
+          ∙ sym (ap (counted_from (path_counts es)) (other_begun brackets c.args.loc c.args.kind (not_function c.args.kind w.in_default.not-Function)))
     ]
 
 opened : (c : After-unwrap) → brackets_of c.push.new.self.items ≡ bracket c.args.loc.func c.args.kind c.args.loc.instr ∷ brackets_of c.args.opened.now.items
@@ -37,15 +37,15 @@ returns-clause-there c =
     let brackets = brackets_of c.args.opened.now.items in
     let func = c.args.loc.func in
     let b : Bracket = bracket func c.args.kind c.args.loc.instr in
-    subst (λ bs. IsPlaceOf c.match-kind.table bs c.match-kind.place) (sym (opened c)) (elim c.match-kind.branch [
+    subst (λ bs. IsNodePlace c.match-kind.table bs c.match-kind.place) (sym (opened c)) (elim c.match-kind.branch [
       | in-Function+in_ok-place-in-Function w ↦
           let there = w.in_ok-place-in-Function.ensures.there in
-          subst (λ v. IsPlaceOf v (b ∷ brackets) c.match-kind.place) (sym w.table-is) (subst (IsPlaceOf w.visit.new.self (b ∷ brackets)) (sym w.place-is) (
+          subst (λ v. IsNodePlace v (b ∷ brackets) c.match-kind.place) (sym w.table-is) (subst (IsNodePlace w.visit.new.self (b ∷ brackets)) (sym w.place-is) (
             there.0,
             there.1 ∙ (ap (λ p. p ++ func ∷ []) c.requires.there.1 ∙ sym (path_with brackets b (ap is_function w.in-Function.is))),
           ))
       | in_default w ↦
-          subst (λ v. IsPlaceOf v (b ∷ brackets) c.match-kind.place) (sym w.table-is) (subst (IsPlaceOf es (b ∷ brackets)) (sym w.place-is) (
+          subst (λ v. IsNodePlace v (b ∷ brackets) c.match-kind.place) (sym w.table-is) (subst (IsNodePlace es (b ∷ brackets)) (sym w.place-is) (
             c.requires.there.0,
             c.requires.there.1 ∙ sym (path_same brackets b (not_function c.args.kind w.in_default.not-Function)),
           ))
@@ -54,6 +54,6 @@ returns-clause-there c =
 pub returns-clause-bound : goal.returns-clause-bound
 returns-clause-bound c = λ n bound. elim c.match-kind.branch [
   | in-Function+in_ok-place-in-Function w ↦
-      subst (CountsUpTo (n + 1)) (sym (w.table-is ∙ w.in_ok-place-in-Function.ensures.counted)) (counts_rise n _ c.args.table.now bound)
-  | in_default w ↦ subst (CountsUpTo (n + 1)) (sym w.table-is) (counts_stay n c.args.table.now bound)
+      subst (CountsPathsUpTo (n + 1)) (sym (w.table-is ∙ w.in_ok-place-in-Function.ensures.counted)) (counts_rise n _ c.args.table.now bound)
+  | in_default w ↦ subst (CountsPathsUpTo (n + 1)) (sym w.table-is) (counts_stay n c.args.table.now bound)
 ]

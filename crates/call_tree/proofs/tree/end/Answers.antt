@@ -3,7 +3,7 @@ use Rattle.std.proofs.lemmas.List.{reverse-append, same_from_push}
 use Rattle.wasm_sem.specs.Nests.{bracket}
 use Rattle.call_tree.specs.Counts.{path_at}
 use Rattle.call_tree.specs.Paths.{path_to, is_function, same_bracket, closed_by}
-use Rattle.call_tree.specs.State.{bracket_of, brackets_of, IsPlaceOf}
+use Rattle.call_tree.specs.State.{bracket_of, brackets_of, IsNodePlace}
 use Rattle.call_tree.proofs.States.{path_with, path_same, same_kind, behind_none, not_function}
 use Rattle.call_tree.proofs.tree.end.Goals as goal
 use Rattle.call_tree.proofs.tree.end.Goals.{After-pop, In-Function}
@@ -14,8 +14,8 @@ open_before c =
     let popped : c.args.opened.now.items ≡ c.pop.new.self.items ++ c.in-Some.latest.now ∷ [] = search rules in
     ap brackets_of popped ∙ ap (map bracket_of) (reverse-append c.pop.new.self.items (c.in-Some.latest.now ∷ []))
 
-there_before : (c : After-pop) → IsPlaceOf c.args.table.now (bracket_of c.in-Some.latest.now ∷ brackets_of c.pop.new.self.items) c.args.at
-there_before c = subst (λ bs. IsPlaceOf c.args.table.now bs c.args.at) (open_before c) c.requires
+there_before : (c : After-pop) → IsNodePlace c.args.table.now (bracket_of c.in-Some.latest.now ∷ brackets_of c.pop.new.self.items) c.args.at
+there_before c = subst (λ bs. IsNodePlace c.args.table.now bs c.args.at) (open_before c) c.requires
 
 closes_it : (c : After-pop) → same_bracket (bracket_of c.in-Some.latest.now) (bracket c.args.loc.func c.args.kind c.args.begin) ≡ true
 closes_it c = search rules

@@ -4,8 +4,8 @@ use Rattle.std.specs.Map.{values_of}
 use Rattle.std.proofs.lemmas.List.{append-nil, length-map, length-append, nil_from_length}
 use Rattle.call_tree.specs.declared.Node.{Node}
 use Rattle.call_tree.specs.declared.table.Place.{Place}
-use Rattle.call_tree.specs.Counts.{nodes_of, counts_of}
-use Rattle.call_tree.specs.Table.{kids, links_of, depths_of, counts_at, nexts_of, listed, paths_of, IsTable}
+use Rattle.call_tree.specs.Counts.{nodes_of, path_counts}
+use Rattle.call_tree.specs.Table.{kids, links_of, depths_of, counts_at, nexts_of, listed, paths_of, IsNodeTable}
 use Rattle.call_tree.proofs.Preorder.{below, behind, step, IsTree, Among}
 use Rattle.call_tree.proofs.Trees.{table_tree}
 use Rattle.call_tree.proofs.Tallies.{node_at, nodes_in_order}
@@ -29,7 +29,7 @@ node places = node_at (links_of places) (depths_of places) (counts_at places)
 abbrev tree : List (ℕ × ℕ) → List Place → ℕ → List ℕ
 tree roots places = kids (nexts_of roots places)
 
-is_tree : (roots : List (ℕ × ℕ)) (places : List Place) → IsTable (links_of places) (depths_of places) (nexts_of roots places) → IsTree (many places) (listed (paths_of (links_of places))) (tree roots places)
+is_tree : (roots : List (ℕ × ℕ)) (places : List Place) → IsNodeTable (links_of places) (depths_of places) (nexts_of roots places) → IsTree (many places) (listed (paths_of (links_of places))) (tree roots places)
 is_tree roots places table = table_tree (links_of places) (depths_of places) (nexts_of roots places) table
 
 pub loop-place-init : goal.loop-place-init
@@ -114,4 +114,4 @@ returns c =
     ∙ (ap (λ l. c.loop-place.nodes.items ++ to_come (node places) (below (tree roots places) (many places)) l) (sym empty)
     ∙ (c.loop-place.invariant.walked
     ∙ (nodes_in_order (links_of places) (depths_of places) (nexts_of roots places) c.self.invariant (counts_at places) (counts_sized roots places c.self.invariant)
-    ∙ ap (λ v. nodes_of (counts_of v)) c.self.view_is)))
+    ∙ ap (λ v. nodes_of (path_counts v)) c.self.view_is)))

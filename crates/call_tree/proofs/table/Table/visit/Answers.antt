@@ -4,9 +4,9 @@ use Rattle.std.specs.List.Sorted.{IsStrictlySortedBy}
 use Rattle.std.specs.Map.{lookup, keys_of}
 use Rattle.std.specs.BTreeMap.{is_at}
 use Rattle.std.proofs.lemmas.List.{length-set, length-map, map-append}
-use Rattle.call_tree.specs.Counts.{path_at, with_entry, entry_at, CountsUpTo}
+use Rattle.call_tree.specs.Counts.{path_at, with_entry, entry_at, CountsPathsUpTo}
 use Rattle.call_tree.specs.declared.table.Place.{Place}
-use Rattle.call_tree.specs.Table.{link, links_of, depths_of, counts_at, nexts_of, place_by, is_link, depth_from, paths_of, tallied, LeadsTo, IsTable}
+use Rattle.call_tree.specs.Table.{link, links_of, depths_of, counts_at, nexts_of, place_by, is_link, depth_from, paths_of, tallied, IsChildBy, IsNodeTable}
 use Rattle.call_tree.proofs.Tallies.{entry_tallied, same_length}
 use Rattle.call_tree.proofs.Held.{count_held, links_stay, depths_stay, nexts_stay, counted_view, same_table, written, nexts_longer, counts_sized, links_sized, view_sized}
 use Rattle.call_tree.proofs.Visits.{once_more, stands_there, first_time, stands_last, with_place}
@@ -21,7 +21,7 @@ pub next_place-requires : goal.next_place-requires
 next_place-requires c = omega (arith, known (goal.at.next_place-requires c).After-self, ap length c.as_slice.ensures.value)
 
 -- the place that is found
-led : (c : In-Some) → LeadsTo (links_of c.self.inside.places.items) (link c.args.place c.args.func) c.in-Some.found
+led : (c : In-Some) → IsChildBy (links_of c.self.inside.places.items) (link c.args.place c.args.func) c.in-Some.found
 led c =
     c.self.invariant.led (link c.args.place c.args.func) c.in-Some.found
     (ap (λ l. place_by (nexts_of c.self.inside.roots.entries l) (link c.args.place c.args.func)) (sym c.as_slice.ensures.value) ∙ (sym c.next_place.ensures ∙ c.in-Some.is))
@@ -43,7 +43,7 @@ overflow_add-index_mut c =
     let read : c.index_mut.result.now.count ≡ slice_index (counts_at places) i =
     ap (λ (p : Place). p.count) c.index_mut.ensures.value ∙ count_held places c.index_mut.result.now i (found_within (goal.at.overflow_add-index_mut c).In-Some) in
     let room = c.requires.room in
-    let bound : (entry_at (tallied (paths_of (links_of places)) (counts_at places)) i).1 ≤ room.0 = subst (λ v. CountsUpTo room.0 v) (sym c.self.view_is) room.2 i in
+    let bound : (entry_at (tallied (paths_of (links_of places)) (counts_at places)) i).1 ≤ room.0 = subst (λ v. CountsPathsUpTo room.0 v) (sym c.self.view_is) room.2 i in
     let sized = counts_sized s.roots.entries places c.self.invariant in
     let entry = ap (λ (x : List ℕ × ℕ). x.1) (entry_tallied (paths_of (links_of places)) (counts_at places) i
     (same_length (links_of places) (depths_of places) (nexts_of s.roots.entries places) c.self.invariant (counts_at places) sized)) in
@@ -118,7 +118,7 @@ invariant_of-self-in_err-put_next c =
     let places = s.places.items in
     let begun : c.as_mut_slice.result.now ≡ places = c.as_mut_slice.ensures.value ∙ c.in_ok-reserve.ensures.items in
     let back = written c.reserve.new.self.len c.put_next.new.places c.reserve.new.self.items (same_many (goal.at.invariant_of-self-in_err-put_next c).After-put_next) in
-    subst (λ l. IsTable (links_of l) (depths_of l) (nexts_of c.put_next.new.roots.entries l)) (sym back)
+    subst (λ l. IsNodeTable (links_of l) (depths_of l) (nexts_of c.put_next.new.roots.entries l)) (sym back)
     (same_table (links_of places) _ (depths_of places) _ (nexts_of s.roots.entries places) _ (c.in_err-put_next.ensures.links ∙ ap links_of begun) (c.in_err-put_next.ensures.depths ∙ ap depths_of begun)
     (c.in_err-put_next.ensures.kept ∙ ap (nexts_of s.roots.entries) begun) c.self.invariant)
 
