@@ -6,7 +6,7 @@ use Rattle.app_plan.specs.Feeding.{fed, AreFedPart}
 use Rattle.app_plan.specs.Printing.{ShelfState, PrintState, said, said_part, said_no_memory}
 use Rattle.app_plan.specs.Texts.{no_memory_text}
 use Rattle.app_plan.specs.Wants.{Read, ReadCause, missing, too_long, unread, refuted, unread_no_memory}
-use Rattle.app_plan.specs.Plans.{Reason, no_output, no_call, out_of_range, long_trace, reason_status, Finish, done, trapped, unfinished, finish_status, Effect, refuses, does, Plan, Leads, Comes}
+use Rattle.app_plan.specs.Plans.{Reason, no_output, no_call, out_of_range, long_trace, no_import, few_groups, not_nested, reason_status, Finish, done, trapped, unfinished, finish_status, Effect, refuses, does, Plan, Leads, Comes}
 use Rattle.app_plan.specs.Ends as ends
 use Rattle.app_plan.specs.Ends.{TookSome, WrittenPart, Cause, no_command, refused, unwritten, memory_ended, Ends, answered, refused_with, class_of, Tells}
 use Rattle.app_plan.proofs.WantLaws.{refuted_wrong, wrong_class}
@@ -53,6 +53,9 @@ reason_tells plan old new was is before after no_output text l u s = ((no_output
 reason_tells plan old new was is before after no_call text l u s = (inr (no_call, text, l, refl), (u, s))
 reason_tells plan old new was is before after out_of_range text l u s = ((out_of_range, text, l, refl), (u, s))
 reason_tells plan old new was is before after long_trace text l u s = ((long_trace, text, l, refl), (u, s))
+reason_tells plan old new was is before after no_import text l u s = ((no_import, text, l, refl), (u, s))
+reason_tells plan old new was is before after few_groups text l u s = ((few_groups, text, l, refl), (u, s))
+reason_tells plan old new was is before after not_nested text l u s = ((not_nested, text, l, refl), (u, s))
 
 cause_tells : (plan : Option Plan) (old new : ShelfState) (was is : List ToolState) (before after : PrintState) (status : ℕ) (text : List ℕ)
     → Cause plan old new was is status text → Tells plan old new was is before after status (class_of status)

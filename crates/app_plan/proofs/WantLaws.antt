@@ -1,18 +1,33 @@
 -- Bytes are one thing alone: what they must be, or nothing of the kind, for one status.
-use Rattle.std.proofs.Common.{◌≡◌, ℕ, ◌⊎◌, inl, inr, List, refl, subst}
+use Rattle.std.proofs.Common.{◌≡◌, ◌∙◌, ℕ, ◌⊎◌, inl, inr, List, Bool, true, false, length, refl, sym, ap₂, subst}
 use Rattle.module_ast.specs.declared.module.Limits.{Limits}
 use Rattle.module_ast.specs.declared.module.Module.{Module}
+use Rattle.module_ast.specs.Spaces.{funcs_of}
+use Rattle.name_map.specs.declared.Names.{Names}
+use Rattle.name_map.specs.Sections.{AreNames}
+use Rattle.name_map.proofs.OneNames.{names_are_one}
 use Rattle.static_info.specs.declared.Info.{Info}
 use Rattle.static_info.specs.Belongs.{Belongs}
 use Rattle.app_plan.proofs.Files.{fault_no_module, one_module, fit_not_unfit, unfit_not_malformed, fit_not_malformed, valid_not_invalid, broken_invalid, body_invalid}
 use Rattle.app_plan.proofs.Scripts.{one_script, no_text_no_script, wrong_no_script}
 use Rattle.trace_file.proofs.Whole.{one_list}
 use Rattle.app_plan.proofs.Infos.{one_info, no_text_no_info, other_no_info}
-use Rattle.app_plan.specs.Wants.{Want, a_module, a_script, info_on, a_trace, Value, Spell, IsNoFile, malformed, unfit, invalid, IsUnscripted, unscripted, IsUninformed, no_json, no_info, of_another, IsUntraced, untraced, IsWrong, RefutesFile, is_malformed, has_floats, over_limit, broken_rule, invalid_body, RefutesScript, not_json, wrong_script, RefutesInfo, info_not_json, not_info, foreign, RefutesTrace, not_trace, Refutes}
+use Rattle.app_plan.specs.Wants.{Want, a_module, a_named_module, a_script, info_on, a_trace, Value, Spell, IsNoFile, malformed, unfit, invalid, IsUnscripted, unscripted, IsUninformed, no_json, no_info, of_another, IsUntraced, untraced, AreKept, IsWrong, RefutesFile, is_malformed, has_floats, over_limit, broken_rule, invalid_body, RefutesScript, not_json, wrong_script, RefutesInfo, info_not_json, not_info, foreign, RefutesTrace, not_trace, Refutes}
 use Rattle.app_plan.specs.Ends.{class_of, of_bytes, of_scripts}
+
+-- a file carries one value of names
+one_kept : (keeps : Bool) (bytes : List ℕ) (m : Module) (a b : Names) → AreKept keeps bytes m a → AreKept keeps bytes m b → a ≡ b
+one_kept false bytes m a b p q = p ∙ sym q
+one_kept true bytes m a b p q = names_are_one bytes (length (funcs_of m)) a b p q
+
+one_named : (keeps : Bool) (bytes : List ℕ) (a b : Module × Names) → a.0 ≡ b.0 → AreKept keeps bytes a.0 a.1 → AreKept keeps bytes b.0 b.1 → a ≡ b
+one_named keeps bytes a b same p q =
+    ap₂ (λ (m : Module) (names : Names). (m, names)) same (one_kept keeps bytes b.0 a.1 b.1 (subst (λ m. AreKept keeps bytes m a.1) same p) q)
 
 pub one_value : (want : Want) (bytes : List ℕ) (a b : Value want) → Spell want bytes a → Spell want bytes b → a ≡ b
 one_value (a_module limits) bytes a b p q = one_module bytes a b p.0.spelled q.0.spelled
+one_value (a_named_module limits keeps) bytes a b p q =
+    one_named keeps bytes a b (one_module bytes a.0 b.0 p.0.spelled q.0.spelled) p.2 q.2
 one_value a_script bytes a b p q = one_script bytes a b p q
 one_value (info_on m) bytes a b p q = one_info bytes a b p.0 q.0
 one_value a_trace bytes a b p q = one_list bytes a b p q
@@ -30,6 +45,7 @@ spelled_info m bytes info _ p (of_another other h n) = n (subst (λ (x : Info). 
 
 pub not_wrong : (want : Want) (bytes : List ℕ) (value : Value want) (status : ℕ) → Spell want bytes value → IsWrong want bytes status → ⊥
 not_wrong (a_module limits) bytes value status p w = spelled_file limits bytes value status p w
+not_wrong (a_named_module limits keeps) bytes value status p w = spelled_file limits bytes value.0 status (p.0, p.1) w
 not_wrong a_script bytes value _ p (unscripted none) = none value p
 not_wrong (info_on m) bytes value status p w = spelled_info m bytes value status p w
 not_wrong a_trace bytes value _ p (untraced none) = none value p
@@ -59,6 +75,7 @@ trace_status bytes _ (untraced p) = refl
 
 pub one_wrong : (want : Want) (bytes : List ℕ) (a b : ℕ) → IsWrong want bytes a → IsWrong want bytes b → a ≡ b
 one_wrong (a_module limits) bytes a b p q = one_fault limits bytes a b p q
+one_wrong (a_named_module limits keeps) bytes a b p q = one_fault limits bytes a b p q
 one_wrong a_script bytes a b p q = let e = script_status bytes a p in let f = script_status bytes b q in cc
 one_wrong (info_on m) bytes a b p q = let e = info_status m bytes a p in let f = info_status m bytes b q in cc
 one_wrong a_trace bytes a b p q = let e = trace_status bytes a p in let f = trace_status bytes b q in cc
@@ -87,6 +104,7 @@ refuted_trace name bytes _ _ (not_trace n) = untraced n
 pub refuted_wrong : (name : List ℕ) (want : Want) (bytes : List ℕ) (status : ℕ) (text : List ℕ) → Refutes name want bytes status text
     → IsWrong want bytes status
 refuted_wrong name (a_module limits) bytes status text r = refuted_file name limits bytes status text r
+refuted_wrong name (a_named_module limits keeps) bytes status text r = refuted_file name limits bytes status text r
 refuted_wrong name a_script bytes status text r = refuted_script bytes status text r
 refuted_wrong name (info_on m) bytes status text r = refuted_info m bytes status text r
 refuted_wrong name a_trace bytes status text r = refuted_trace name bytes status text r
@@ -111,6 +129,7 @@ trace_class bytes _ (untraced p) = refl
 pub wrong_class : (want : Want) (bytes : List ℕ) (status : ℕ) → IsWrong want bytes status
     → (class_of status ≡ of_bytes) ⊎ (class_of status ≡ of_scripts)
 wrong_class (a_module limits) bytes status w = inl (file_class limits bytes status w)
+wrong_class (a_named_module limits keeps) bytes status w = inl (file_class limits bytes status w)
 wrong_class a_script bytes status w = inr (script_class bytes status w)
 wrong_class (info_on m) bytes status w = inl (info_class m bytes status w)
 wrong_class a_trace bytes status w = inl (trace_class bytes status w)

@@ -7,7 +7,7 @@ use Rattle.app_plan.specs.Feeding.{AreFedPart}
 use Rattle.app_plan.specs.Kinds.{no_kinds}
 use Rattle.app_plan.specs.Printing.{ShelfState, PrintState}
 use Rattle.app_plan.specs.Wants.{Value}
-use Rattle.app_plan.specs.Plans.{Reason, no_output, no_call, out_of_range, long_trace, reason_status, Ending, refuses, does, Plan, reads, ends, LeadsTo, Leads}
+use Rattle.app_plan.specs.Plans.{Reason, no_output, no_call, out_of_range, long_trace, no_import, few_groups, not_nested, reason_status, Ending, refuses, does, Plan, reads, ends, LeadsTo, Leads}
 use Rattle.app_plan.specs.Writing.{WroteSome}
 use Rattle.app_plan.specs.Ends.{WrittenPart, TookSome, Ends, answered, refused_with, of_writes, of_reasons}
 use Rattle.app_plan.proofs.Shelves.{all_some, fed_part_none}
@@ -81,6 +81,9 @@ is_output no_output e = refl
 is_output no_call e = cc
 is_output out_of_range e = cc
 is_output long_trace e = cc
+is_output no_import e = cc
+is_output few_groups e = cc
+is_output not_nested e = cc
 
 -- and one that refuses no output never answers 9
 pub never_refused : {plan : Option Plan} {old new : ShelfState} {was is : List ToolState} {before after : PrintState} (status : ℕ)

@@ -72,7 +72,7 @@ class_of n =
     cond (one_of (4 ∷ []) n) of_reads (
     cond (one_of (5 ∷ []) n) of_writes (
     cond (one_of (6 ∷ 7 ∷ 8 ∷ 16 ∷ 19 ∷ []) n) of_bytes (
-    cond (one_of (9 ∷ 11 ∷ 18 ∷ []) n) of_reasons (
+    cond (one_of (9 ∷ 11 ∷ 18 ∷ 20 ∷ 21 ∷ 22 ∷ []) n) of_reasons (
     cond (one_of (10 ∷ []) n) of_scripts (
     cond (one_of (14 ∷ []) n) of_memory (
     cond (one_of (15 ∷ []) n) of_prints of_nothing)))))))))

@@ -12,12 +12,18 @@ pub data Reason : Type 0 where
   no_call : Reason
   out_of_range : Reason
   long_trace : Reason
+  no_import : Reason
+  few_groups : Reason
+  not_nested : Reason
 
 abbrev pub reason_status : Reason → ℕ
 reason_status no_output = 9
 reason_status no_call = 10
 reason_status out_of_range = 11
 reason_status long_trace = 18
+reason_status no_import = 20
+reason_status few_groups = 21
+reason_status not_nested = 22
 
 -- how a command ends that is not refused: what it runs has ended without a trap, or with one, or goes on
 pub data Finish : Type 0 where

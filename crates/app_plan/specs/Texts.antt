@@ -1,5 +1,7 @@
 -- The lines of the refusals of any command.
 use Rattle.std.specs.Prelude.{ℕ, List, [], ◌∷◌, ◌++◌, codes, decimal}
+use Rattle.std.specs.Fmt.{signed_decimal}
+use Rattle.module_ast.specs.declared.module.Loc.{Loc}
 use Rattle.module_ast.specs.declared.module.Which.{Which}
 use Rattle.module_ast.specs.declared.module.Which.TheVariants.{Functions, Types, Parameters, Locals, Nesting}
 
@@ -65,6 +67,12 @@ long_trace_text bound = concat_texts (codes "error 18: the trace is longer than 
 
 abbrev pub not_trace_text : (name : List ℕ) → List ℕ
 not_trace_text name = concat_texts (codes "error 19: " ∷ name ∷ codes " is not a trace\n" ∷ [])
+
+abbrev pub few_groups_text : List ℕ
+few_groups_text = codes "error 21: information lacks begin or end\n"
+
+abbrev pub not_nested_text : Loc → List ℕ
+not_nested_text p = concat_texts (codes "error 22: events do not nest at " ∷ decimal p.func ∷ codes ":" ∷ signed_decimal p.instr ∷ codes "\n" ∷ [])
 
 abbrev pub not_json_text : List ℕ
 not_json_text = codes "error 10: script is not JSON\n"

@@ -1,5 +1,5 @@
 -- What the bytes under a name must be, and why they are not.
-use Rattle.std.specs.Prelude.{◌≡◌, ℕ, ◌≤◌, List, length, Option, Err}
+use Rattle.std.specs.Prelude.{◌≡◌, ℕ, ◌≤◌, List, length, Bool, true, false, Option, Err}
 use Rattle.outside_io.specs.Outside.{Contents, Holds, Rose, IsMissing, IsTooLong}
 use Rattle.serde_json.specs.Data.{Data}
 use Rattle.module_ast.specs.declared.module.Limits.{Limits}
@@ -7,8 +7,12 @@ use Rattle.module_ast.specs.declared.module.Module.{Module}
 use Rattle.module_ast.specs.declared.module.Which.{Which}
 use Rattle.module_ast.specs.Grammar.{IsFault}
 use Rattle.module_ast.specs.Decoding.{FileFloats, FileExceeds}
+use Rattle.module_ast.specs.Spaces.{funcs_of}
 use Rattle.module_ast.specs.Validity.{Rule, number_of, IsValid, IsFirstBroken, IsFirstInvalid}
 use Rattle.hook_select.specs.declared.Event.{Event}
+use Rattle.name_map.specs.declared.Names.{Names}
+use Rattle.name_map.specs.Names.{no_names}
+use Rattle.name_map.specs.Sections.{AreNames}
 use Rattle.wasm_sem.specs.declared.Script.{Script}
 use Rattle.json_form.specs.Text.{IsText, IsNoText}
 use Rattle.run_session.specs.Script.{script_form}
@@ -20,9 +24,11 @@ use Rattle.app_plan.specs.Files.{IsFit, IsNoModule, IsUnfit, IsInvalid, IsScript
 use Rattle.app_plan.specs.Printing.{ShelfState}
 use Rattle.app_plan.specs.Texts.{missing_text, too_long_text, unread_text, malformed_text, floats_text, limit_text, rule_text, body_text, not_json_text, wrong_script_text, info_not_json_text, not_info_text, foreign_text, not_trace_text, no_memory_text}
 
--- a valid module within limits, a script, information that belongs to a module, or the trace of events
+-- a valid module within limits, so with the names that its file carries where they are kept, a script, information that belongs to a
+-- module, or the trace of events
 pub data Want : Type 0 where
   a_module : Limits → Want
+  a_named_module : Limits → (keeps : Bool) → Want
   a_script : Want
   info_on : Module → Want
   a_trace : Want
@@ -30,13 +36,20 @@ pub data Want : Type 0 where
 -- what is read
 abbrev pub Value : Want → Type 0
 Value (a_module limits) = Module
+Value (a_named_module limits keeps) = Module × Names
 Value a_script = Script
 Value (info_on m) = Info
 Value a_trace = List Event
 
+-- the names that the file of a module carries; none where they are not kept
+abbrev pub AreKept : (keeps : Bool) → (bytes : List ℕ) → Module → Names → Type 0
+AreKept false bytes m names = names ≡ no_names
+AreKept true bytes m names = AreNames bytes (length (funcs_of m)) names
+
 -- the bytes are this
 abbrev pub Spell : (want : Want) → (bytes : List ℕ) → Value want → Type 0
 Spell (a_module limits) bytes m = IsFit limits bytes m × IsValid m
+Spell (a_named_module limits keeps) bytes named = IsFit limits bytes named.0 × IsValid named.0 × AreKept keeps bytes named.0 named.1
 Spell a_script bytes s = IsScript bytes s
 Spell (info_on m) bytes info = HoldInfo bytes info × Belongs info m
 Spell a_trace bytes es = IsTrace bytes es
@@ -63,6 +76,7 @@ pub data IsUntraced (bytes : List ℕ) : ℕ → Type 0 where
 
 abbrev pub IsWrong : Want → (bytes : List ℕ) → (status : ℕ) → Type 0
 IsWrong (a_module limits) bytes status = IsNoFile limits bytes status
+IsWrong (a_named_module limits keeps) bytes status = IsNoFile limits bytes status
 IsWrong a_script bytes status = IsUnscripted bytes status
 IsWrong (info_on m) bytes status = IsUninformed m bytes status
 IsWrong a_trace bytes status = IsUntraced bytes status
@@ -90,6 +104,7 @@ pub data RefutesTrace (name bytes : List ℕ) : (status : ℕ) → (text : List 
 
 abbrev pub Refutes : (name : List ℕ) → Want → (bytes : List ℕ) → (status : ℕ) → (text : List ℕ) → Type 0
 Refutes name (a_module limits) bytes status text = RefutesFile name limits bytes status text
+Refutes name (a_named_module limits keeps) bytes status text = RefutesFile name limits bytes status text
 Refutes name a_script bytes status text = RefutesScript bytes status text
 Refutes name (info_on m) bytes status text = RefutesInfo m bytes status text
 Refutes name a_trace bytes status text = RefutesTrace name bytes status text
@@ -107,6 +122,9 @@ read_as name cap want = record { name = name; cap = cap; want = want }
 
 abbrev pub module_read : (name : List ℕ) → (cap : ℕ) → Limits → Read
 module_read name cap limits = read_as name cap (a_module limits)
+
+abbrev pub named_read : (name : List ℕ) → (cap : ℕ) → Limits → (keeps : Bool) → Read
+named_read name cap limits keeps = read_as name cap (a_named_module limits keeps)
 
 abbrev pub script_read : (name : List ℕ) → Read
 script_read name = read_as name script_file a_script

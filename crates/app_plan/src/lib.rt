@@ -9,7 +9,7 @@ mod told;
 mod writing;
 
 pub use kinds::{Kinds, read_kinds};
-pub use loading::{LONGEST_SUBJECT, load, load_info, load_script, load_trace};
+pub use loading::{LONGEST_SUBJECT, load, load_info, load_named, load_script, load_trace};
 pub use sheet::Sheet;
 pub use told::{Printed, Refusal, bad_words, refused, tell};
 pub use writing::put;

@@ -1,7 +1,9 @@
 // Valid modules, scripts, information and traces, read from a shelf.
 
-ghost use Rattle.std.specs.Prelude.{◌≡◌, ◌≤◌, List, IfOk, IfErr, OnOk, length, string_bytes};
+ghost use Rattle.std.specs.Prelude.{◌≡◌, ◌^◌, ◌<◌, ◌≤◌, List, IfOk, IfErr, OnOk, length, string_bytes};
 ghost use Rattle.outside_io.specs.Outside.{Unchanged};
+ghost use Rattle.module_ast.specs.Decoding.{Gram};
+ghost use Rattle.module_ast.specs.Spaces.{funcs_of};
 ghost use Rattle.module_ast.specs.Validity.{IsValid};
 ghost use Rattle.static_info.specs.Belongs.{Belongs};
 ghost use Rattle.static_info.specs.Form.{IsWellFormed};
@@ -13,10 +15,12 @@ ghost use Rattle.app_plan.specs.Files.{IsFit, IsScript, wide_file};
 ghost use Rattle.app_plan.specs.Printing.{shelf_state};
 ghost use Rattle.app_plan.specs.Texts.{body_text, floats_text, limit_text, malformed_text, missing_text, not_json_text, not_trace_text, rule_text, too_long_text, unread_text, which_name, wrong_script_text};
 ghost use Rattle.app_plan.specs.Outcomes.{IsRefusal, RefusedBy, RefutedFile, RefutedInfo, RefutedScript, RefutedTrace};
-ghost use Rattle.app_plan.specs.Wants.{Gives, IsRead, Want, read_as, info_read, module_read, script_read, trace_read};
+ghost use Rattle.app_plan.specs.Wants.{AreKept, Gives, IsRead, Want, read_as, info_read, module_read, named_read, script_read, trace_read};
 
 use crate::told::{Refusal, refused};
 use module_ast::module::{Limits, Module, Which};
+use module_ast::spaces::Counts;
+use name_map::{Names, no_names, read_names};
 use outside_io::{ReadFault, Shelf};
 use run_session::{ScriptFault, read_script};
 use static_info::{Info, InfoFault, belongs, from_json};
@@ -64,6 +68,51 @@ pub fn load<R: Threads + Sync, S: Shelf>(
 {
     let bytes = read(alloc, name, cap, shelf)?;
     valid_module(rt, alloc, name, bytes.as_slice(), limits, jobs)
+}
+
+/// So with the names that the module's file carries, where they are kept, and with none else.
+pub fn load_named<R: Threads + Sync, S: Shelf>(
+    rt: &R,
+    alloc: Global,
+    name: &str,
+    cap: u64,
+    limits: &Limits,
+    keeps: bool,
+    jobs: u32,
+    shelf: &mut S,
+) -> Result<(ValidModule, Names), Refusal>
+    requires short { cap ≤ wide_file }
+    requires some { 1 ≤ jobs }
+    requires few { jobs ≤ 64 }
+    requires nesting { limits.now.nesting ≤ 1002 }
+    ensures ok { IfOk result (λ v. Gives (S.contents shelf.old) (named_read name.now cap limits.now keeps) (v.0, v.1)) }
+    ensures refused { IfErr result (λ r. RefusedBy (named_read name.now cap limits.now keeps)
+        (shelf_state (S.contents shelf.old) (S.read_faults shelf.old) (S.write_faults shelf.old))
+        (shelf_state (S.contents shelf.new) (S.read_faults shelf.new) (S.write_faults shelf.new)) r) }
+    ensures kept { Unchanged (S.contents shelf.old) (S.contents shelf.new) }
+    ensures read_count { S.read_faults shelf.old ≤ S.read_faults shelf.new }
+    ensures write_count { S.write_faults shelf.new ≡ S.write_faults shelf.old }
+{
+    // As many functions as a number of 32 bits allows.
+    let _functions = limits.functions;
+    let bytes = read(alloc, name, cap, shelf)?;
+    let module = valid_module(rt, alloc, name, bytes.as_slice(), limits, jobs)?;
+    match kept_names(alloc, bytes.as_slice(), module.module(), keeps) {
+        Ok(names) => Ok((module, names)),
+        Err(_) => Err(Refusal::NoMemory),
+    }
+}
+
+// The names that the file of a module carries, where they are kept.
+fn kept_names(alloc: Global, bytes: &[u8], m: &Module, keeps: bool) -> Result<Names, AllocError>
+    requires file { Gram bytes.now m.now }
+    requires few { length (funcs_of m.now) < 2 ^ 32 }
+    ensures { IfOk result (AreKept keeps bytes.now m.now) }
+{
+    if !keeps {
+        return Ok(no_names(alloc));
+    }
+    read_names(alloc, bytes, Counts::of(m).funcs as u32)
 }
 
 /// The script that stands under a name, of at most 16,777,216 bytes. No name is changed.

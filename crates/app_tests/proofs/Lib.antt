@@ -1,1 +1,3 @@
 mod Quiet
+mod Stored
+mod Told

@@ -8,4 +8,6 @@ mod faults;
 #[cfg(test)]
 mod feeding;
 #[cfg(test)]
+mod following;
+#[cfg(test)]
 mod reports;

@@ -5,73 +5,83 @@ use std::alloc::{AllocError, Global};
 use std::test::Fail;
 
 // Words behind the program's name, with single spaces between them, and what they ask for, `-` where an option is not given.
-static TAKEN: [(&str, &str); 21] = [
-    ("check a.wasm", "check a.wasm - - - all all 1 268435456"),
+static TAKEN: [(&str, &str); 22] = [
+    (
+        "check a.wasm",
+        "check a.wasm - - - all all 1 268435456 drop - -",
+    ),
     (
         "instrument a.wasm --out b.wasm --info b.json --hooks nop,if --jobs 64 --max-output 7",
-        "instrument a.wasm b.wasm b.json - nop,if all 64 7",
+        "instrument a.wasm b.wasm b.json - nop,if all 64 7 drop - -",
+    ),
+    (
+        "report a.wasm --names keep --sources env.a,env.b --sinks=env.c",
+        "report a.wasm - - - all all 1 268435456 keep env.a,env.b env.c",
     ),
     // options before, between and behind, in both spellings
     (
         "--script s.json report --reports calls a.wasm --info=b.json",
-        "report a.wasm - b.json s.json all calls 1 268435456",
+        "report a.wasm - b.json s.json all calls 1 268435456 drop - -",
     ),
     (
         "check a.wasm --out=",
-        "check a.wasm  - - all all 1 268435456",
+        "check a.wasm  - - all all 1 268435456 drop - -",
     ),
     (
         "check a.wasm --out=a=b",
-        "check a.wasm a=b - - all all 1 268435456",
+        "check a.wasm a=b - - all all 1 268435456 drop - -",
     ),
     // a line alone is a value, and with `=` each text is
-    ("check -", "check - - - - all all 1 268435456"),
+    ("check -", "check - - - - all all 1 268435456 drop - -"),
     (
         "check a.wasm --out -",
-        "check a.wasm - - - all all 1 268435456",
+        "check a.wasm - - - all all 1 268435456 drop - -",
     ),
     (
         "check a.wasm --out=-b",
-        "check a.wasm -b - - all all 1 268435456",
+        "check a.wasm -b - - all all 1 268435456 drop - -",
     ),
     (
         "check a.wasm --out=--info",
-        "check a.wasm --info - - all all 1 268435456",
+        "check a.wasm --info - - all all 1 268435456 drop - -",
     ),
     // empty words
-    ("check ", "check  - - - all all 1 268435456"),
-    (" a.wasm", " a.wasm - - - all all 1 268435456"),
+    ("check ", "check  - - - all all 1 268435456 drop - -"),
+    (" a.wasm", " a.wasm - - - all all 1 268435456 drop - -"),
     (
         "check a.wasm --out ",
-        "check a.wasm  - - all all 1 268435456",
+        "check a.wasm  - - all all 1 268435456 drop - -",
     ),
     // behind `--` no word is an option
-    ("check -- --out", "check --out - - - all all 1 268435456"),
-    ("-- check -a", "check -a - - - all all 1 268435456"),
+    (
+        "check -- --out",
+        "check --out - - - all all 1 268435456 drop - -",
+    ),
+    ("-- check -a", "check -a - - - all all 1 268435456 drop - -"),
     (
         "--out b -- check a.wasm",
-        "check a.wasm b - - all all 1 268435456",
+        "check a.wasm b - - all all 1 268435456 drop - -",
     ),
     // numbers
     (
         "check a.wasm --jobs +07",
-        "check a.wasm - - - all all 7 268435456",
+        "check a.wasm - - - all all 7 268435456 drop - -",
     ),
     (
         "check a.wasm --jobs=000064",
-        "check a.wasm - - - all all 64 268435456",
+        "check a.wasm - - - all all 64 268435456 drop - -",
     ),
     (
         "check a.wasm --max-output 00268435456",
-        "check a.wasm - - - all all 1 268435456",
+        "check a.wasm - - - all all 1 268435456 drop - -",
     ),
     (
         "check a.wasm --max-output=+1",
-        "check a.wasm - - - all all 1 1",
+        "check a.wasm - - - all all 1 1 drop - -",
     ),
     // a mode is any word
-    ("help me", "help me - - - all all 1 268435456"),
-    ("trial 7", "trial 7 - - - all all 1 268435456"),
+    ("help me", "help me - - - all all 1 268435456 drop - -"),
+    ("trial 7", "trial 7 - - - all all 1 268435456 drop - -"),
 ];
 
 static REFUSED: [&str; 32] = [
@@ -138,11 +148,17 @@ fn text_of(alloc: Global, line: &Line<'_>) -> Result<String, AllocError> {
     let out = line.out.unwrap_or("-");
     let info = line.info.unwrap_or("-");
     let script = line.script.unwrap_or("-");
-    let names = format!(in alloc; "{} {} {out} {info} {script}", line.mode, line.subject)?;
-    format!(in alloc;
-        "{names} {} {} {} {}",
-        line.hooks, line.reports, line.jobs, line.max_output
-    )
+    let sources = line.sources.unwrap_or("-");
+    let sinks = line.sinks.unwrap_or("-");
+    let files = format!(in alloc; "{} {} {out} {info} {script}", line.mode, line.subject)?;
+    let lists = format!(in alloc; "{} {}", line.hooks, line.reports)?;
+    let Line {
+        jobs,
+        max_output,
+        names,
+        ..
+    } = *line;
+    format!(in alloc; "{files} {lists} {jobs} {max_output} {names} {sources} {sinks}")
 }
 
 #[test]

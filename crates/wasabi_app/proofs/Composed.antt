@@ -5,7 +5,7 @@ use Rattle.module_ast.specs.declared.module.Import.{Import}
 use Rattle.module_ast.specs.declared.module.Item.{Item}
 use Rattle.module_ast.specs.declared.module.Item.TheVariants.{Func, Table, Memory, Global}
 use Rattle.module_ast.specs.declared.module.Module.{Module}
-use Rattle.module_ast.specs.Spaces.{imported_funcs}
+use Rattle.module_ast.specs.Spaces.{funcs_of, imported_funcs}
 use Rattle.hook_select.specs.declared.Event.{Event}
 use Rattle.hook_select.specs.declared.Hooks.{Hooks}
 use Rattle.hook_select.specs.Events.{group_of}
@@ -16,18 +16,27 @@ use Rattle.wasm_sem.specs.Link.{IsFree, Links, hook_module}
 use Rattle.wasm_sem.specs.Machine.{Configuration, configuration, run_of}
 use Rattle.wasm_sem.specs.Trace.{trace_of}
 use Rattle.static_info.specs.Belongs.{func_import, func_imports, IsOwn, Belongs}
+use Rattle.static_info.specs.declared.Info.{Info}
 use Rattle.static_info.specs.Info.{info_of}
 use Rattle.static_info.specs.Items.{read}
+use Rattle.hook_mono.specs.Needed.{needed_keys}
+use Rattle.name_map.specs.declared.Names.{Names}
+use Rattle.name_map.specs.Sections.{AreNames}
+use Rattle.name_map.proofs.OneNames.{names_are_one, names_come_back}
+use Rattle.instrument.specs.Output.{hook_remap}
 use Rattle.instrument.specs.Same.{IsPrefix, env_in, told_so_far}
-use Rattle.instrument.specs.Shell.{Shell}
+use Rattle.instrument.specs.Shell.{Shell, with_customs}
+use Rattle.instrument.proofs.Customs.{hooks_same}
 use Rattle.instrument.proofs.Reports as runs
-use Rattle.wasabi_app.specs.Composing.{selected_events, ReportsOriginal, SameRunsReport, OutputsReport}
+use Rattle.wasabi_app.specs.Composing.{selected_events, ReportsOriginal, SameRunsReport, OutputsReport, KeptNamesComeBack}
+use Rattle.wasabi_app.specs.KeptNames.{output_names}
+use Rattle.wasabi_app.specs.ToldNames.{original_names}
 use Rattle.wasabi_app.specs.Reporting.{events_told, reports_text}
 use Rattle.app_plan.proofs.Files.{one_module}
 use Rattle.app_plan.proofs.Infos.{one_info}
 
 -- the table of a moment
-slots_of_env : (c : Configuration) → slots_in c ≡ (env_in c).store.slots
+pub slots_of_env : (c : Configuration) → slots_in c ≡ (env_in c).store.slots
 slots_of_env (configuration e frames) = refl
 
 pub same_events : (m : Module) (hooks : Hooks) (o : Module) (s : Script) (k : ℕ) → events_in (told_so_far m hooks o s k) ≡ events_told (info_of m hooks) o s k
@@ -86,17 +95,41 @@ shell_belongs m hooks o free shell = record {
   hooks_follow = shell.hooks.1;
 }
 
+-- whatever custom sections it has
+bare_belongs : (info : Info) (o : Module) → Belongs info (with_customs [] o) → Belongs info o
+bare_belongs info o b = record {
+  own = b.own;
+  rest = b.rest;
+  parts = b.parts;
+  count = b.count;
+  others = b.others;
+  hooks_follow = hooks_same o.customs (with_customs [] o) b.rest info.hooks b.hooks_follow;
+}
+
 -- ---- the output of an accepted file
 
 pub outputs_report : OutputsReport
-outputs_report file hooks written has o fit told info holds read s range links =
+outputs_report file hooks keeps written has o fit told info holds read s range links =
     let module_is : has.sound.result ≡ o = one_module written has.sound.result o has.sound.spelled fit.spelled in
     let info_is : info_of has.original hooks ≡ info = one_info told (info_of has.original hooks) info holds read in (
       subst (λ i. Belongs i o) info_is
-          (subst (Belongs (info_of has.original hooks)) module_is (shell_belongs has.original hooks has.sound.result has.accepted.free has.sound.shell)),
+          (subst (Belongs (info_of has.original hooks)) module_is (bare_belongs (info_of has.original hooks) has.sound.result
+          (shell_belongs has.original hooks (with_customs [] has.sound.result) has.accepted.free has.sound.shell))),
       subst (λ x. Links x s) module_is (has.sound.same.links s range ∙ links),
       λ steps.
           subst (λ i. ReportsOriginal has.original hooks i o s steps) info_is
           (subst (λ x. ReportsOriginal has.original hooks (info_of has.original hooks) x s steps) module_is
           (same_runs_report has.original hooks has.sound.result s (has.sound.same.runs s range links) steps)),
     )
+
+-- ---- names
+
+pub kept_names_come_back : KeptNamesComeBack
+kept_names_come_back file hooks written has o read carried kept =
+    let m = has.original in
+    let names = output_names m hooks has.names in
+    let same : has.sound.result ≡ o = one_module written has.sound.result o has.sound.spelled read in
+    let there : AreNames written (length (funcs_of o)) names =
+    subst (λ (x : Module). AreNames written (length (funcs_of x)) names) same has.sound.carries in
+    ap (original_names (info_of m hooks)) (names_are_one written (length (funcs_of o)) carried names kept there)
+    ∙ ap (λ (n : Names). n.functions) (names_come_back (hook_remap m (needed_keys m hooks)) has.names)

@@ -13,7 +13,8 @@ use Rattle.app_plan.specs.declared.kinds.Kinds.{Kinds}
 use Rattle.app_plan.specs.Kinds.{has_kind, every_kind}
 use Rattle.app_plan.specs.Feeding.{fed_tool, fed, AreFedPart, fresh_tools}
 use Rattle.wasabi_app.specs.Feeding.{tally_of}
-use Rattle.wasabi_app.specs.Reporting.{tool_report, tools_text, kind_report, reports_text}
+use Rattle.wasabi_app.specs.Reporting.{tools_text, reports_text}
+use Rattle.wasabi_app.specs.ToldNames.{functions_told, rows_functions, tools_functions}
 use Rattle.wasabi_app.proofs.Fed.{counts_after, book_after, so_many_after, fed_other, fed_takes, all_part, fewer}
 
 -- one that has taken events has their book
@@ -22,33 +23,37 @@ taken_book kind es = book_after (fresh_tool kind) es ∙ takes_make_book kind es
 
 -- ---- the reports
 
--- what one of a kind reports
-taken_report : (kind : Kind) (es : List Event) → tool_report (fold state_after (fresh_tool kind) es) ≡ kind_report es kind
-taken_report kind es = ap₂ report_text (counts_after (fresh_tool kind) es) (taken_book kind es)
-
--- those of the kinds that are picked, in order
-report_first : (kinds : Kinds) (es : List Event) (k : Kind) (rest : List ToolState) (later : List Kind)
-    → flat_map tool_report (filter (λ (t : ToolState). has_kind kinds t.counts) rest) ≡ flat_map (kind_report es) (filter (has_kind kinds) later)
+-- what is made of the kinds and the books of those that are picked, in order
+made_first : (f : Kind → List Row → List ℕ) (kinds : Kinds) (es : List Event) (k : Kind) (rest : List ToolState) (later : List Kind)
+    → flat_map (λ (t : ToolState). f t.counts t.book) (filter (λ (t : ToolState). has_kind kinds t.counts) rest)
+    ≡ flat_map (λ kind. f kind (book kind es)) (filter (has_kind kinds) later)
     → (b : Bool) → has_kind kinds k ≡ b
-    → flat_map tool_report (filter (λ (t : ToolState). has_kind kinds t.counts) (fed_tool kinds es (fresh_tool k) ∷ rest))
-    ≡ flat_map (kind_report es) (filter (has_kind kinds) (k ∷ later))
-report_first kinds es k rest later same false e =
-    ap (λ (t : ToolState). flat_map tool_report (filter (λ (u : ToolState). has_kind kinds u.counts) (t ∷ rest))) (sym (fed_other kinds es (fresh_tool k) e))
-    ∙ rw e same
-report_first kinds es k rest later same true e =
+    → flat_map (λ (t : ToolState). f t.counts t.book) (filter (λ (t : ToolState). has_kind kinds t.counts) (fed_tool kinds es (fresh_tool k) ∷ rest))
+    ≡ flat_map (λ kind. f kind (book kind es)) (filter (has_kind kinds) (k ∷ later))
+made_first f kinds es k rest later same false e =
+    ap (λ (t : ToolState). flat_map (λ (u : ToolState). f u.counts u.book) (filter (λ (u : ToolState). has_kind kinds u.counts) (t ∷ rest)))
+    (sym (fed_other kinds es (fresh_tool k) e)) ∙ rw e same
+made_first f kinds es k rest later same true e =
     let picked : has_kind kinds (fold state_after (fresh_tool k) es).counts ≡ true = ap (has_kind kinds) (counts_after (fresh_tool k) es) ∙ e in
-    ap (λ (t : ToolState). flat_map tool_report (filter (λ (u : ToolState). has_kind kinds u.counts) (t ∷ rest))) (fed_takes kinds es (fresh_tool k) e)
-    ∙ rw (picked, e) (ap₂ (λ (x y : List ℕ). x ++ y) (taken_report k es) same)
+    let made : f (fold state_after (fresh_tool k) es).counts (fold state_after (fresh_tool k) es).book ≡ f k (book k es) =
+    ap₂ f (counts_after (fresh_tool k) es) (taken_book k es) in
+    ap (λ (t : ToolState). flat_map (λ (u : ToolState). f u.counts u.book) (filter (λ (u : ToolState). has_kind kinds u.counts) (t ∷ rest)))
+    (fed_takes kinds es (fresh_tool k) e) ∙ rw (picked, e) (ap₂ (λ (x y : List ℕ). x ++ y) made same)
 
-picked_reports : (kinds : Kinds) (es : List Event) (ks : List Kind)
-    → flat_map tool_report (filter (λ (t : ToolState). has_kind kinds t.counts) (fed kinds es (map fresh_tool ks)))
-    ≡ flat_map (kind_report es) (filter (has_kind kinds) ks)
-picked_reports kinds es [] = refl
-picked_reports kinds es (k ∷ ks) = report_first kinds es k (fed kinds es (map fresh_tool ks)) ks (picked_reports kinds es ks) (has_kind kinds k) refl
+made_of_picked : (f : Kind → List Row → List ℕ) (kinds : Kinds) (es : List Event) (ks : List Kind)
+    → flat_map (λ (t : ToolState). f t.counts t.book) (filter (λ (t : ToolState). has_kind kinds t.counts) (fed kinds es (map fresh_tool ks)))
+    ≡ flat_map (λ kind. f kind (book kind es)) (filter (has_kind kinds) ks)
+made_of_picked f kinds es [] = refl
+made_of_picked f kinds es (k ∷ ks) =
+    made_first f kinds es k (fed kinds es (map fresh_tool ks)) ks (made_of_picked f kinds es ks) (has_kind kinds k) refl
 
 pub fed_reports : (kinds : Kinds) (es : List Event) → tools_text kinds (fed kinds es fresh_tools) (tally_of es) ≡ reports_text kinds es
 fed_reports kinds es =
-    ap (λ (x : List ℕ). x ++ events_text (tally_of es).events (tally_of es).strays) (picked_reports kinds es every_kind)
+    ap (λ (x : List ℕ). x ++ events_text (tally_of es).events (tally_of es).strays) (made_of_picked report_text kinds es every_kind)
+
+-- and the functions that they tell of
+pub fed_functions : (kinds : Kinds) (es : List Event) → tools_functions kinds (fed kinds es fresh_tools) ≡ functions_told kinds es
+fed_functions kinds es = made_of_picked rows_functions kinds es every_kind
 
 -- ---- the tags
 

@@ -1,5 +1,5 @@
 -- An output that is made and written, or is not.
-use Rattle.std.proofs.Common.{◌≡◌, ◌≢◌, ℕ, ◌≤◌, ◌<◌, List, [], ◌∷◌, length, refl, inl, inr, sym, ap, subst, ◌∙◌, arith, Bool, true, false, ◌||◌, nat_le, All, Option, Some, None, Result, Err}
+use Rattle.std.proofs.Common.{◌≡◌, ◌≢◌, ℕ, ◌≤◌, ◌<◌, List, [], ◌∷◌, length, refl, inl, inr, sym, ap, subst, ◌∙◌, arith, Bool, true, false, ◌||◌, nat_le, length-append, All, Option, Some, None, Result, Err}
 use Rattle.std.specs.List.{list_any}
 use Rattle.std.proofs.lemmas.Bool.Decides.{nat_tests}
 use Rattle.std.proofs.lemmas.List.Elements.{All-head, All-tail}
@@ -7,15 +7,18 @@ use Rattle.std.proofs.lemmas.Slice.Eq.{bytes_eq-Decides}
 use Rattle.outside_io.specs.Outside.{Contents, Unchanged, Wrote}
 use Rattle.module_ast.specs.declared.module.Import.{Import}
 use Rattle.module_ast.specs.declared.module.Module.{Module}
-use Rattle.module_ast.specs.Limits.{narrow}
 use Rattle.module_ast.specs.Canonical.{module_bytes}
 use Rattle.module_ast.specs.Decoding.{Gram}
 use Rattle.module_ast.proofs.LeastModules.{module_least}
 use Rattle.wasm_sem.specs.Link.{IsFree, is_hook, hook_module}
+use Rattle.hook_select.specs.declared.Hooks.{Hooks}
+use Rattle.name_map.specs.declared.Names.{Names}
+use Rattle.name_map.specs.Written.{name_section_bytes}
 use Rattle.instrument.specs.Made.{narrow_file}
 use Rattle.instrument.specs.Output.{output_bytes}
 use Rattle.analyses.specs.Tools.{ToolState}
-use Rattle.wasabi_app.specs.Making.{hook_count, output_length, information_text, Line}
+use Rattle.wasabi_app.specs.KeptNames.{named_output, output_names}
+use Rattle.wasabi_app.specs.Making.{hook_count, named_length, information_text, Line}
 use Rattle.app_plan.specs.Printing.{ShelfState}
 use Rattle.wasabi_app.specs.Texts.{taken_text, too_large_text, wrote_text}
 use Rattle.app_plan.specs.Writing.{PutCause, FilesCause, WroteAll}
@@ -24,10 +27,10 @@ use Rattle.app_plan.specs.declared.told.Refusal.{Refusal}
 use Rattle.app_plan.specs.declared.told.Refusal.TheVariants.{NoMemory}
 use Rattle.app_plan.specs.Ends.{IsMade, unread, unwritten}
 use Rattle.wasabi_app.specs.Hooking.{GoesOn, IsOutputMade, IsUnhooked}
-use Rattle.wasabi_app.specs.Modes.Instrument.{names_hooks, info_files, output_effect, hooked, output_plan, instrument_plan}
+use Rattle.wasabi_app.specs.Modes.Instrument.{names_hooks, info_files, output_effect, hooked, output_plan, subject_read, instrument_plan}
 use Rattle.app_plan.specs.Outcomes.{IsRefusal, RefusedBy, Yields, refusal_status, refusal_text}
 use Rattle.app_plan.specs.Plans.{no_output, finish_status, File, file, Effect, refuses, does, Plan, ends}
-use Rattle.app_plan.specs.Wants.{Gives, module_read}
+use Rattle.app_plan.specs.Wants.{Gives}
 use Rattle.app_plan.proofs.Contents.{unchanged_same}
 use Rattle.app_plan.proofs.Going.{no_memory, was_refused, went_on, leads_by}
 use Rattle.wasabi_app.proofs.Modes.Instrument.{names_none, hooked_taken, hooked_large, hooked_well}
@@ -46,10 +49,10 @@ free_imports (i ∷ imports) free =
     by true is other rest = absurd (other (is refl))
     by false is other rest = rest
 
-free_names : (m : Module) → IsFree m → names_hooks m ≡ false
+pub free_names : (m : Module) → IsFree m → names_hooks m ≡ false
 free_names m free = free_imports m.imports free
 
-taken_names : (m : Module) → ¬ IsFree m → names_hooks m ≡ true
+pub taken_names : (m : Module) → ¬ IsFree m → names_hooks m ≡ true
 taken_names m taken = by (names_hooks m) (names_none m)
   where
     by : (b : Bool) → (b ≡ false → IsFree m) → b ≡ true
@@ -62,29 +65,35 @@ test_of a b p = grind (arith, nat_tests)
 pub test_above : (a b : ℕ) → b < a → nat_le a b ≡ false
 test_above a b p = grind (arith, nat_tests)
 
-pub goes_on : (line : Line) (m : Module) → IsFree m → output_length m line.hooks ≤ line.bound → GoesOn line m
-goes_on line m free short = λ plan.
-    hooked_well line.subject m (output_length m line.hooks) line.bound plan (free_names m free) (test_of (output_length m line.hooks) line.bound short)
+pub goes_on : (line : Line) (m : Module) (names : Names) → IsFree m → named_length m line.hooks names ≤ line.bound → GoesOn line m names
+goes_on line m names free short = λ plan.
+    hooked_well line.subject m (named_length m line.hooks names) line.bound plan (free_names m free)
+    (test_of (named_length m line.hooks names) line.bound short)
 
 -- an import names the hooks' module
-pub unhooked_taken : (line : Line) (m : Module) (refusal : Refusal) → ¬ IsFree m → IsRefusal 9 (taken_text line.subject) refusal → IsUnhooked line m refusal
-unhooked_taken line m refusal taken is = λ plan at tools.
-    let long = output_length m line.hooks in
+pub unhooked_taken : (line : Line) (m : Module) (names : Names) (refusal : Refusal) → ¬ IsFree m → IsRefusal 9 (taken_text line.subject) refusal
+    → IsUnhooked line m names refusal
+unhooked_taken line m names refusal taken is = λ plan at tools.
+    let long = named_length m line.hooks names in
     was_refused (hooked line.subject m long line.bound plan) no_output (taken_text line.subject) at tools refusal
     (leads_by at.contents (refuses no_output (taken_text line.subject)) (hooked_taken line.subject m long line.bound plan (taken_names m taken)) refl) is
 
--- or the output is longer than the bound
-pub unhooked_large : (line : Line) (m : Module) (refusal : Refusal) → IsFree m → line.bound < output_length m line.hooks
-    → IsRefusal 9 (too_large_text (output_length m line.hooks)) refusal → IsUnhooked line m refusal
-unhooked_large line m refusal free over is = λ plan at tools.
-    let long = output_length m line.hooks in
+-- or the output with its names is longer than the bound
+pub unhooked_large : (line : Line) (m : Module) (names : Names) (refusal : Refusal) → IsFree m → line.bound < named_length m line.hooks names
+    → IsRefusal 9 (too_large_text (named_length m line.hooks names)) refusal → IsUnhooked line m names refusal
+unhooked_large line m names refusal free over is = λ plan at tools.
+    let long = named_length m line.hooks names in
     was_refused (hooked line.subject m long line.bound plan) no_output (too_large_text long) at tools refusal
     (leads_by at.contents (refuses no_output (too_large_text long))
     (hooked_large line.subject m long line.bound plan (free_names m free) (test_above long line.bound over)) refl) is
 
-pub unhooked_no_memory : (line : Line) (m : Module) → IsUnhooked line m NoMemory
-unhooked_no_memory line m = λ plan at tools.
-    no_memory (Some (hooked line.subject m (output_length m line.hooks) line.bound plan)) at at tools (unchanged_same at.contents)
+pub unhooked_no_memory : (line : Line) (m : Module) (names : Names) → IsUnhooked line m names NoMemory
+unhooked_no_memory line m names = λ plan at tools.
+    no_memory (Some (hooked line.subject m (named_length m line.hooks names) line.bound plan)) at at tools (unchanged_same at.contents)
+
+-- names make an output no shorter
+pub names_lengthen : (m : Module) (hooks : Hooks) (names : Names) → length (output_bytes m hooks) ≤ named_length m hooks names
+names_lengthen m hooks names = omega (arith, length-append (output_bytes m hooks) (name_section_bytes (output_names m hooks names)))
 
 -- ---- two files
 
@@ -116,19 +125,19 @@ same_files (Some name) a b same = ap (λ bytes. file name bytes ∷ []) (same (�
 abbrev pub IsAnswered : Option Plan → (old new : Option Contents) → List ToolState → (status : ℕ) → (told : List ℕ) → Type 0
 IsAnswered plan old new tools status told = (e : Effect) × IsMade plan old new tools tools e × (status ≡ finish_status e.finish) × (told ≡ e.text)
 
-module _ (line : Line) (m : Module) (output info text : List ℕ) (made : IsOutputMade m line output info text) where
-  files_are : (file line.target output ∷ info_files line.info info) ≡ (output_effect line m).files
+module _ (line : Line) (m : Module) (names : Names) (output info text : List ℕ) (made : IsOutputMade m names line output info text) where
+  files_are : (file line.target output ∷ info_files line.info info) ≡ (output_effect line m names).files
   files_are =
       ap (λ bytes. file line.target bytes ∷ info_files line.info info) made.written
-      ∙ ap (λ (fs : List File). file line.target (output_bytes m line.hooks) ∷ fs) (same_files line.info info (information_text m line.hooks) made.informs)
+      ∙ ap (λ (fs : List File). file line.target (named_output m line.hooks names) ∷ fs) (same_files line.info info (information_text m line.hooks) made.informs)
 
   -- it is written
   pub output_written : (old new : Option Contents) (tools : List ToolState) (status : ℕ) (told : List ℕ)
       → WroteAll (file line.target output ∷ info_files line.info info) old new → status ≡ 0 → told ≡ text
-      → IsAnswered (Some (output_plan line m)) old new tools status told
+      → IsAnswered (Some (output_plan line m names)) old new tools status told
   output_written old new tools given told wrote status is =
-      subst (λ p. IsAnswered (Some p) old new tools given told) (sym (made.goes_on (ends (does (output_effect line m))))) (
-        output_effect line m,
+      subst (λ p. IsAnswered (Some p) old new tools given told) (sym (made.goes_on (ends (does (output_effect line m names))))) (
+        output_effect line m names,
         record { leads = refl; files = subst (λ fs. WroteAll fs old new) files_are wrote; taken = sym (fed_none [] tools) },
         status,
         is ∙ made.says ∙ ap (λ (bytes : List ℕ). wrote_text (length bytes) (hook_count m line.hooks)) made.written,
@@ -137,26 +146,26 @@ module _ (line : Line) (m : Module) (output info text : List ℕ) (made : IsOutp
   -- or could not be
   pub output_unwritten : (old new : ShelfState) (tools : List ToolState) (refusal : Refusal)
       → FilesCause (file line.target output ∷ info_files line.info info) old new (refusal_status refusal) (refusal_text refusal)
-      → Yields (Some (output_plan line m)) old new tools tools (Err refusal)
+      → Yields (Some (output_plan line m names)) old new tools tools (Err refusal)
   output_unwritten old new tools refusal why =
-      subst (λ p. Yields (Some p) old new tools tools (Err refusal)) (sym (made.goes_on (ends (does (output_effect line m)))))
-      (unwritten (output_effect line m) (refusal_status refusal) (refusal_text refusal) refl
+      subst (λ p. Yields (Some p) old new tools tools (Err refusal)) (sym (made.goes_on (ends (does (output_effect line m names)))))
+      (unwritten (output_effect line m names) (refusal_status refusal) (refusal_text refusal) refl
       (subst (λ fs. FilesCause fs old new (refusal_status refusal) (refusal_text refusal)) files_are why) (sym (fed_none [] tools)))
 
 -- ---- the plan of the mode
 
 -- the subject is not read
 pub unloaded : (line : Line) (a b : ShelfState) (tools : List ToolState) (refusal : Refusal)
-    → RefusedBy (module_read line.subject narrow_file narrow) a b refusal → Unchanged a.contents b.contents
+    → RefusedBy (subject_read line) a b refusal → Unchanged a.contents b.contents
     → Yields (Some (instrument_plan line)) a b tools tools (Err refusal)
-unloaded line a b tools refusal r u = unread (module_read line.subject narrow_file narrow) (refusal_status refusal) (refusal_text refusal) (inl refl) r u refl
+unloaded line a b tools refusal r u = unread (subject_read line) (refusal_status refusal) (refusal_text refusal) (inl refl) r u refl
 
 -- it is, and this came of it
-pub loaded : (line : Line) (m : Module) (a b c : ShelfState) (tools : List ToolState) (result : Result Printed Refusal)
-    → Gives a.contents (module_read line.subject narrow_file narrow) m → Unchanged a.contents b.contents → a.reads ≤ b.reads → b.writes ≡ a.writes
-    → Yields (Some (output_plan line m)) b c tools tools result → Yields (Some (instrument_plan line)) a c tools tools result
-loaded line m a b c tools result g u few same y =
-    went_on (module_read line.subject narrow_file narrow) (output_plan line) m a b c tools tools result g u few same y
+pub loaded : (line : Line) (m : Module) (names : Names) (a b c : ShelfState) (tools : List ToolState) (result : Result Printed Refusal)
+    → Gives a.contents (subject_read line) (m, names) → Unchanged a.contents b.contents → a.reads ≤ b.reads → b.writes ≡ a.writes
+    → Yields (Some (output_plan line m names)) b c tools tools result → Yields (Some (instrument_plan line)) a c tools tools result
+loaded line m names a b c tools result g u few same y =
+    went_on (subject_read line) (λ named. output_plan line named.0 named.1) (m, names) a b c tools tools result g u few same y
 
 -- the canonical bytes of a file's module are as few as the narrow limits want
 pub canonical_short : (bytes : List ℕ) (m : Module) → length bytes ≤ narrow_file → Gram bytes m → length (module_bytes m) ≤ narrow_file

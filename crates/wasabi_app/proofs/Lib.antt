@@ -1,7 +1,12 @@
+pub mod KeptNames
+pub mod ToldNames
+mod Examples
 pub mod WordLines
 pub mod Linked
 pub mod Hooking
 pub mod Modes
+pub mod Nested
+pub mod Nesting
 pub mod Ranges
 pub mod Recorded
 pub mod Replayed
@@ -23,7 +28,15 @@ pub mod ToldRuns
 pub mod ToolTexts
 pub mod TurnEvents
 pub mod Traces
+pub mod Treed
 pub mod TrialLinks
 pub mod TrialNumbers
 pub mod TrialPairs
 pub mod TrialTold
+pub mod WatchedNames
+pub mod HostCounts
+pub mod Followed
+pub mod Warned
+pub mod FollowTurns
+pub mod Tagged
+pub mod TaintRuns

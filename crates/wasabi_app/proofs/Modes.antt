@@ -5,7 +5,9 @@ pub mod Run
 pub mod Report
 pub mod Record
 pub mod Replay
+pub mod Tree
 pub mod Trial
+pub mod Taint
 use Rattle.std.proofs.Common.{◌≡◌, ◌≢◌, ℕ, ◌⊎◌, inl, inr, List, [], ◌∷◌, refl, sym, ap, subst, ◌∙◌, bytes_eq, cond, find, Bool, true, false, true≢false, codes, IfSome, Option, Some, None, Result, Err, option_and_then}
 use Rattle.std.specs.Prelude.{⊤}
 use Rattle.std.specs.List.{list_any}
@@ -32,7 +34,9 @@ use Rattle.wasabi_app.proofs.Modes.Run.{run_within}
 use Rattle.wasabi_app.proofs.Modes.Report.{report_writes_none, report_makes_none}
 use Rattle.wasabi_app.proofs.Modes.Record.{record_feeds_none, record_makes_none}
 use Rattle.wasabi_app.proofs.Modes.Replay.{replay_writes_none, replay_makes_none}
+use Rattle.wasabi_app.proofs.Modes.Tree.{tree_writes_none, tree_feeds_none, tree_makes_none}
 use Rattle.wasabi_app.proofs.Modes.Trial.{trial_writes_none}
+use Rattle.wasabi_app.proofs.Modes.Taint.{taint_writes_none, taint_feeds_none}
 use Rattle.wasabi_app.proofs.Linked.{writes_plain, feeds_plain, makes_plain}
 
 -- the mode is among these, or this holds of every ending of its plans
@@ -124,19 +128,19 @@ no_mode g at tools refusal each r =
 write_each : Each (IsOrElse (codes "instrument" ∷ codes "record" ∷ []) WritesNone) modes
 write_each = (
   inr (λ g. check_within WritesNone writes_plain g),
-  (inl refl, (inr (λ g. run_within WritesNone writes_plain g), (inr report_writes_none, (inl refl, (inr replay_writes_none, (inr trial_writes_none, tt)))))),
+  (inl refl, (inr (λ g. run_within WritesNone writes_plain g), (inr report_writes_none, (inl refl, (inr replay_writes_none, (inr tree_writes_none, (inr trial_writes_none, (inr taint_writes_none, tt)))))))),
 )
 
 feed_each : Each (IsOrElse (codes "report" ∷ codes "replay" ∷ codes "trial" ∷ []) FeedsNone) modes
 feed_each = (
   inr (λ g. check_within FeedsNone feeds_plain g),
-  (inr instrument_feeds_none, (inr (λ g. run_within FeedsNone feeds_plain g), (inl refl, (inr record_feeds_none, (inl refl, (inl refl, tt)))))),
+  (inr instrument_feeds_none, (inr (λ g. run_within FeedsNone feeds_plain g), (inl refl, (inr record_feeds_none, (inl refl, (inr tree_feeds_none, (inl refl, (inr taint_feeds_none, tt)))))))),
 )
 
-make_each : Each (IsOrElse (codes "instrument" ∷ codes "trial" ∷ []) MakesNone) modes
+make_each : Each (IsOrElse (codes "instrument" ∷ codes "trial" ∷ codes "taint" ∷ []) MakesNone) modes
 make_each = (
   inr (λ g. check_within MakesNone makes_plain g),
-  (inl refl, (inr (λ g. run_within MakesNone makes_plain g), (inr report_makes_none, (inr record_makes_none, (inr replay_makes_none, (inl refl, tt)))))),
+  (inl refl, (inr (λ g. run_within MakesNone makes_plain g), (inr report_makes_none, (inr record_makes_none, (inr replay_makes_none, (inr tree_makes_none, (inl refl, (inl refl, tt)))))))),
 )
 
 pub some_write : SomeWrite
@@ -155,7 +159,7 @@ some_feed words old new was is before after status x =
 
 pub some_make : SomeMake
 some_make words old new was is before after status x =
-    elim (all_else (codes "instrument" ∷ codes "trial" ∷ []) MakesNone words old.contents make_each) [
+    elim (all_else (codes "instrument" ∷ codes "trial" ∷ codes "taint" ∷ []) MakesNone words old.contents make_each) [
       | inl of ↦ inl of
       | inr none ↦ inr (never_refused status none x)
     ]

@@ -49,12 +49,16 @@ steps_few info slots m s (suc n) formed =
     omega (arith, ap length more, length-append before next, one, all)
 
 -- of a session
-told_few : (info : Info) (old first : Run) → IsWellFormed info → IsScriptInRange first.script → old.script ≡ first.script → old.made ≤ old.script.steps
-    → length (told_by info old) ≤ 2 ^ 63
-told_few info old first formed range same few =
+pub told_fewer : (info : Info) (old first : Run) → IsWellFormed info → IsScriptInRange first.script → old.script ≡ first.script → old.made ≤ old.script.steps
+    → length (told_by info old) ≤ 2 ^ 62
+told_fewer info old first formed range same few =
     let all = steps_few info (slots_in (run_of old.module old.script old.made)) old.module old.script old.made formed in
     let steps : old.script.steps ≡ first.script.steps = ap (λ (s : Script). s.steps) same in
     omega (arith, all, steps, few, range.steps)
+
+told_few : (info : Info) (old first : Run) → IsWellFormed info → IsScriptInRange first.script → old.script ≡ first.script → old.made ≤ old.script.steps
+    → length (told_by info old) ≤ 2 ^ 63
+told_few info old first formed range same few = let all = told_fewer info old first formed range same few in omega (arith, all)
 
 -- so there is room for those of another turn
 pub room_left : (kinds : Kinds) (info : Info) (old first : Run) (before now : List ToolState) → IsWellFormed info → IsScriptInRange first.script

@@ -31,7 +31,7 @@ use Rattle.static_info.specs.declared.FuncInfo.{FuncInfo}
 use Rattle.static_info.specs.declared.Info.{Info}
 use Rattle.static_info.specs.Form.{IsPosition, AreBlocksAfter, AreBlocks, IsDefined, IsWellFormed}
 use Rattle.static_info.specs.Read.{value_number, numbers, values_from, value_at, number_at, info_remap, callee_in, plain_event, num_event, key_event, chosen_label, contains, within_block, table_at, end_event, jump_events, table_events, known_events, func_events, found_events, is_selected, loc_of, hook_events, read_hook}
-use Rattle.trace_file.specs.Fields.{FitsNumber, FitsSigned, FitsPlace, FitsValue, FitsCallee, FitValues}
+use Rattle.trace_file.specs.Fields.{FitsNumber, FitsSigned, FitsLocation, FitsValue, FitsCallee, FitValues}
 use Rattle.trace_file.specs.Rows.{FitsEvent}
 use Rattle.hook_events.specs.Words.{IsWord, AreWords}
 use Rattle.wasabi_app.proofs.FewEvents.{few_label, table_labels, formed_there}
@@ -76,7 +76,7 @@ rest_fit zero ws h = h
 rest_fit (suc n) [] h = h
 rest_fit (suc n) (w ∷ ws) h = rest_fit n ws (record { few = omega (arith, h.few); fit = h.fit.1 })
 
-place_fits : (ws : List ℕ) → FitWords ws → FitsPlace (loc_of ws)
+place_fits : (ws : List ℕ) → FitWords ws → FitsLocation (loc_of ws)
 place_fits ws h = (index_fits ws 0 h.fit, signed_fits (slice_index ws 1) (index_fits ws 1 h.fit))
 
 -- ---- values
@@ -185,7 +185,7 @@ callee_fits info slots slot fit = by (slice_get slots slot) refl
 abbrev pub Fit : List Event → Type 0
 Fit es = AllByRecursion FitsEvent es
 
-module _ (info : Info) (slots : List (Option ℕ)) (table : FitSlots slots) (loc : Loc) (there : FitsPlace loc) (vs : List Value) where
+module _ (info : Info) (slots : List (Option ℕ)) (table : FitSlots slots) (loc : Loc) (there : FitsLocation loc) (vs : List Value) where
   plain_fits : (g : GroupName) → AreFirst (plain_values g) vs → Fit (plain_event g loc vs)
   plain_fits groups.Start h = ((there, tt), tt)
   plain_fits groups.Nop h = ((there, tt), tt)
@@ -240,7 +240,7 @@ all_reverse P [] h = h
 all_reverse P (b ∷ bs) h =
     subst (All P) (sym (reverse-append (b ∷ []) bs)) (All-push P (reverse bs) b (all_reverse P bs (All-tail P b bs h)) (All-head P b bs h))
 
-module _ (hook : ℕ) (few : FitsNumber hook) (loc : Loc) (there : FitsPlace loc) (index : ℕ) (small : FitsNumber index) where
+module _ (hook : ℕ) (few : FitsNumber hook) (loc : Loc) (there : FitsLocation loc) (index : ℕ) (small : FitsNumber index) where
   jump_fits : (label : ℕ) (blocks : List Block) (o : Option Block) → label ≤ 1002 → All FitsBlock blocks → slice_get blocks label ≡ o
       → Fit (jump_events hook loc index label blocks o)
   jump_fits label blocks None low fit e = ((few, tt), tt)
@@ -263,7 +263,7 @@ module _ (hook : ℕ) (few : FitsNumber hook) (loc : Loc) (there : FitsPlace loc
 -- ---- the events of a hook call
 
 module _ (info : Info) (formed : IsWellFormed info) (slots : List (Option ℕ)) (table : FitSlots slots) (hook : ℕ) (few : FitsNumber hook) where
-  module _ (loc : Loc) (there : FitsPlace loc) (vs : List Value) where
+  module _ (loc : Loc) (there : FitsLocation loc) (vs : List Value) where
     known_fits : (f : FuncInfo) (key : HookKey) → IsDefined f → AreFirst (value_types key) vs → Fit (known_events info slots hook f key loc vs)
     known_fits f (keys.Plain groups.BrTable) is h =
         table_fits hook few loc there (number_at vs 0) (word h 0 refl) f.blocks (table_at loc.instr f.tables) (blocks_fit f.blocks is.1)

@@ -11,7 +11,7 @@ use Rattle.wasm_run.specs.Running.{Run, configuration_of}
 use Rattle.wasm_run.specs.Turns.{after_turn}
 use Rattle.run_session.specs.Sessions.{session_turn}
 use Rattle.static_info.specs.declared.Info.{Info}
-use Rattle.trace_file.specs.Files.{Writing, IsWithin, writing_of, with_event}
+use Rattle.trace_file.specs.Files.{Writing, IsWithinBound, writing_of, with_event}
 use Rattle.trace_file.proofs.Whole.{first_fit, writes_on}
 use Rattle.wasabi_app.specs.Feeding.{turn_events}
 use Rattle.wasabi_app.specs.Recording.{HasNoTrace}
@@ -24,14 +24,14 @@ none_longer max es rest none within = none (first_fit max es rest within)
 
 -- an event that is too much, among others
 pub none_among : (max : ℕ) (es xs : List Event) (i : ℕ) (d : Event) (w : Writing) → i < length xs → w ≡ writing_of max (es ++ take i xs)
-    → (IsWithin (with_event (get_or xs i d) w) → ⊥) → HasNoTrace max (es ++ xs)
+    → (IsWithinBound (with_event (get_or xs i d) w) → ⊥) → HasNoTrace max (es ++ xs)
 none_among max es xs i d w l is none =
     let front = es ++ take i xs in
     let e = get_or xs i d in
     let rest = drop (i + 1) xs in
     let parts : xs ≡ take i xs ++ e ∷ rest = sym (take-append-drop i xs) ∙ ap (λ r. take i xs ++ r) (drop_more xs i d l) in
     let joined : (front ++ e ∷ []) ++ rest ≡ es ++ xs = append_assoc front (e ∷ []) rest ∙ append_assoc es (take i xs) (e ∷ rest) ∙ ap (λ r. es ++ r) (sym parts) in
-    let next : HasNoTrace max (front ++ e ∷ []) = subst (λ v. IsWithin v → ⊥) (ap (with_event e) is ∙ writes_on max front e) none in
+    let next : HasNoTrace max (front ++ e ∷ []) = subst (λ v. IsWithinBound v → ⊥) (ap (with_event e) is ∙ writes_on max front e) none in
     subst (HasNoTrace max) joined (none_longer max (front ++ e ∷ []) rest next)
 
 -- one more of the first

@@ -40,7 +40,7 @@ same_slots m s a b = slots_always m s a ∙ sym (slots_always m s b)
 told_with : (info : Info) (m : Module) (s : Script) (a n : ℕ) → events_in (read info (slots_in (run_of m s a)) (trace_of m s n)) ≡ events_told info m s n
 told_with info m s a n = ap (λ slots. events_in (read info slots (trace_of m s n))) (same_slots m s a n)
 
-hook_turn : (info : Info) (slots : List (Option ℕ)) (turn : Turn) → call_told info slots (turn_hook turn) ≡ turn_events info slots turn
+pub hook_turn : (info : Info) (slots : List (Option ℕ)) (turn : Turn) → call_told info slots (turn_hook turn) ≡ turn_events info slots turn
 hook_turn info slots Ran = refl
 hook_turn info slots Over = refl
 hook_turn info slots (Hook h) = refl
@@ -99,7 +99,7 @@ turn_stays info Ran r = refl
 turn_stays info (Hook h) r = refl
 
 -- a turn leads no further than the script's steps
-turn_within : (made steps : ℕ) (all : Bool) (turn : Turn) (r : Run) → r.made ≡ made → made ≤ steps → nat_eq made steps ≡ all
+pub turn_within : (made steps : ℕ) (all : Bool) (turn : Turn) (r : Run) → r.made ≡ made → made ≤ steps → nat_eq made steps ≡ all
     → (after_turn (cond all Over turn) r).made ≤ steps
 turn_within made steps true turn r is few e = omega (arith, is, few)
 turn_within made steps false Over r is few e = omega (arith, is, few)

@@ -38,7 +38,9 @@ use Rattle.trace_file.specs.Fields.{FitsNumber}
 use Rattle.trace_file.specs.Files.{trace_bytes, events_bytes, ending}
 use Rattle.trace_file.specs.Rows.{FitsEvent}
 use Rattle.app_plan.specs.declared.kinds.Kinds.{Kinds}
-use Rattle.app_plan.specs.Files.{trace_most}
+use Rattle.app_plan.specs.Files.{trace_most, wide_file}
+use Rattle.app_plan.specs.Wants.{Gives, named_read}
+use Rattle.name_map.specs.Names.{no_names}
 use Rattle.app_plan.specs.Plans.{does, Effect, LeadsTo, Plan, ends}
 use Rattle.app_plan.proofs.Going.{leads_by}
 use Rattle.app_plan.proofs.Leading.{leads_once}
@@ -172,10 +174,12 @@ recordings_replay words line asked held e (m, module_there, (info, info_there, (
     let short : length trace ≤ trace_most = omega (arith, done.short, line_bounded words line asked) in
     let complete = read_complete module_there.bytes m fit.spelled in
     let spelled = events_have_trace info m s formed belongs valid complete fit.within (script_in_range d s is) done.links s.steps short in
-    let reported : (kinds : Kinds) → LeadsTo held (reported_plan kinds m info s) (does (report_effect kinds m info s)) =
+    let reported : (kinds : Kinds) → LeadsTo held (reported_plan kinds false m no_names info s) (does (report_effect kinds false m no_names info s)) =
     λ kinds.
-    let effect = does (report_effect kinds m info s) in
+    let effect = does (report_effect kinds false m no_names info s) in
     leads_by held effect (played_links m s (ends effect) done.links) refl in
+    let bare_there : Gives held (named_read line.names.subject wide_file wide false) (m, no_names) =
+    record { bytes = module_there.bytes; read_well = record { there = module_there.read_well.there; short = module_there.read_well.short }; spelled = (fit, valid, refl) } in
     subst (IsReplayed held line) (sym done.is) (record {
       events = events;
       trace = trace;
@@ -185,6 +189,6 @@ recordings_replay words line asked held e (m, module_there, (info, info_there, (
           leads_only found (replay_plan name kinds) (replay_effect kinds events)
           (events, record { bytes = trace; read_well = record { there = there; short = short }; spelled = spelled }, refl);
       reports = λ kinds.
-          leads_only held (report_with line.names kinds) (report_effect kinds m info s)
-          (m, module_there, (info, info_there, (s, script_there, reported kinds)));
+          leads_only held (report_with line.names kinds) (report_effect kinds false m no_names info s)
+          ((m, no_names), bare_there, (info, info_there, (s, script_there, reported kinds)));
     })

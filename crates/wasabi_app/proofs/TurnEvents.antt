@@ -11,7 +11,7 @@ use Rattle.wasm_sem.specs.Machine.{is_over}
 use Rattle.wasm_sem.specs.Trace.{items, trace_of}
 use Rattle.wasm_sem.proofs.Ended.{shows_no_more}
 use Rattle.wasm_run.specs.Running.{Run, configuration_of, one_more, IsLinked}
-use Rattle.run_session.specs.Sessions.{TakesTurn}
+use Rattle.run_session.specs.Sessions.{session_turn, TakesTurn}
 use Rattle.static_info.specs.declared.Info.{Info}
 use Rattle.static_info.specs.Belongs.{Belongs}
 use Rattle.static_info.specs.Items.{read}
@@ -60,24 +60,26 @@ turn_readable info old new h linked belongs t =
     let l : IsLinked old.module old.script = subst (λ (r : Run). IsLinked r.module r.script) t.1 linked in
     hook_readable info old.module old.script l.valid l.complete l.range l.links belongs old.made h (sym (turn_hook_is (Hook h) old new t (λ e. cc)))
 
-over_by : (made over : Bool) (o : Option HookCall) → Over ≡ cond made Over (turn_by over o) → (made ≡ true) ⊎ (over ≡ true)
+pub over_by : (made over : Bool) (o : Option HookCall) → Over ≡ cond made Over (turn_by over o) → (made ≡ true) ⊎ (over ≡ true)
 over_by true over o e = inl refl
 over_by false true o e = inr refl
 over_by false false None e = cc
 over_by false false (Some h) e = cc
 
-made_all : (made steps : ℕ) → nat_eq made steps ≡ true → made ≡ steps
+pub made_all : (made steps : ℕ) → nat_eq made steps ≡ true → made ≡ steps
 made_all made steps e = grind arith
 
--- where a session is over, all of the script's steps tell no more
-pub over_told : (info : Info) (slots : List (Option ℕ)) (old new : Run) → TakesTurn (Ok Over) old new → old.made ≤ old.script.steps
-    → events_so_far info slots new ≡ events_in (read info slots (trace_of old.module old.script old.script.steps))
-over_told info slots old new t few =
-    ap (events_so_far info slots) t.1
-    ∙ ap (λ is. events_in (read info slots is))
-    (elim (over_by (nat_eq old.made old.script.steps) (is_over (configuration_of old)) (hook_in (items (instance old.module old.script) (configuration_of old))) t.0) [
+-- where a session is over, all of the script's steps show no more
+pub over_shown : (old : Run) → Over ≡ session_turn old → old.made ≤ old.script.steps → trace_of old.module old.script old.made ≡ trace_of old.module old.script old.script.steps
+over_shown old t few =
+    elim (over_by (nat_eq old.made old.script.steps) (is_over (configuration_of old)) (hook_in (items (instance old.module old.script) (configuration_of old))) t) [
       | inl all ↦ ap (trace_of old.module old.script) (made_all old.made old.script.steps all)
       | inr over ↦
           let sum : old.made + (old.script.steps - old.made) ≡ old.script.steps = omega (arith, few) in
           sym (shows_no_more old.module old.script old.made (old.script.steps - old.made) over) ∙ ap (trace_of old.module old.script) sum
-    ])
+    ]
+
+-- so they tell no more
+pub over_told : (info : Info) (slots : List (Option ℕ)) (old new : Run) → TakesTurn (Ok Over) old new → old.made ≤ old.script.steps
+    → events_so_far info slots new ≡ events_in (read info slots (trace_of old.module old.script old.script.steps))
+over_told info slots old new t few = ap (events_so_far info slots) t.1 ∙ ap (λ is. events_in (read info slots is)) (over_shown old t.0 few)

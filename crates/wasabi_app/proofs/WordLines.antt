@@ -10,7 +10,7 @@ use Rattle.hook_select.specs.Groups.{read_list}
 use Rattle.app_plan.specs.declared.kinds.Kinds.{Kinds}
 use Rattle.app_plan.specs.Kinds.{read_kinds}
 use Rattle.command_line.specs.Lines.{IsLine, IsRefused, Line, line_in, line_of_words, number_in, unless, wasabi}
-use Rattle.wasabi_app.specs.Words.{Given, given_by, hooks_read, given_in, given}
+use Rattle.wasabi_app.specs.Words.{Given, given_by, hooks_read, keeps_read, given_in, given}
 
 -- what the words say is what their line says
 pub given_is : (words : List Text) (line : Line) (o : Option Given) → IsLine words line → given_in line ≡ o → given words ≡ o
@@ -23,15 +23,18 @@ not_given words none = ap (option_and_then given_in) none
 
 -- ---- the bound is no more than the most that is written
 
-abbrev line_as : (mode subject hooks reports : Text) (jobs max_output : ℕ) (out info script : Option Text) → Line
-line_as mode subject hooks reports jobs max_output out info script = record {
+abbrev line_as : (mode subject hooks reports names : Text) (jobs max_output : ℕ) (out info script sources sinks : Option Text) → Line
+line_as mode subject hooks reports names jobs max_output out info script sources sinks = record {
   mode = mode;
   subject = subject;
   out = out;
   info = info;
   script = script;
+  sources = sources;
+  sinks = sinks;
   hooks = hooks;
   reports = reports;
+  names = names;
   jobs = jobs;
   max_output = max_output;
 }
@@ -50,35 +53,38 @@ unless_some : (faults : Faults) (found : Option Line) (line : Line) → unless f
 unless_some [] found line e = e
 unless_some (f ∷ fs) found line e = cc
 
-line_parts : (mode subject hooks reports : Option Text) (jobs most : Option ℕ) (out info script : Option Text) (line : Line)
-    → option_and_then (λ mode. option_and_then (λ subject. option_and_then (λ hooks. option_and_then (λ reports. option_and_then (λ jobs.
-    option_map (λ max_output. line_as mode subject hooks reports jobs max_output out info script) most) jobs) reports) hooks) subject) mode ≡ Some line
+line_parts : (mode subject hooks reports names : Option Text) (jobs most : Option ℕ) (out info script sources sinks : Option Text) (line : Line)
+    → option_and_then (λ mode. option_and_then (λ subject. option_and_then (λ hooks. option_and_then (λ reports. option_and_then (λ names. option_and_then (λ jobs.
+    option_map (λ max_output. line_as mode subject hooks reports names jobs max_output out info script sources sinks) most) jobs) names) reports) hooks) subject) mode
+    ≡ Some line
     → most ≡ Some line.max_output
-line_parts (Some m) (Some s) (Some h) (Some r) (Some j) (Some n) out info script line e =
-    let same : line_as m s h r j n out info script ≡ line = cc in
+line_parts (Some m) (Some s) (Some h) (Some r) (Some k) (Some j) (Some n) out info script sources sinks line e =
+    let same : line_as m s h r k j n out info script sources sinks ≡ line = cc in
     ap (λ (l : Line). Some l.max_output) same
-line_parts None s h r j n out info script line e = cc
-line_parts (Some m) None h r j n out info script line e = cc
-line_parts (Some m) (Some s) None r j n out info script line e = cc
-line_parts (Some m) (Some s) (Some h) None j n out info script line e = cc
-line_parts (Some m) (Some s) (Some h) (Some r) None n out info script line e = cc
-line_parts (Some m) (Some s) (Some h) (Some r) (Some j) None out info script line e = cc
+line_parts None s h r k j n out info script sources sinks line e = cc
+line_parts (Some m) None h r k j n out info script sources sinks line e = cc
+line_parts (Some m) (Some s) None r k j n out info script sources sinks line e = cc
+line_parts (Some m) (Some s) (Some h) None k j n out info script sources sinks line e = cc
+line_parts (Some m) (Some s) (Some h) (Some r) None j n out info script sources sinks line e = cc
+line_parts (Some m) (Some s) (Some h) (Some r) (Some k) None n out info script sources sinks line e = cc
+line_parts (Some m) (Some s) (Some h) (Some r) (Some k) (Some j) None out info script sources sinks line e = cc
 
 line_bound : (words : List Text) (line : Line) → IsLine words line → line.max_output ≤ 268435456
 line_bound words line h =
     let found = matches_of wasabi words in
     number_within 268435456 (one_of (codes "max-output") found) line.max_output
     (line_parts (first_of (codes "mode") found) (first_of (codes "subject") found) (first_of (codes "hooks") found) (first_of (codes "reports") found)
-    (number_in 64 (one_of (codes "jobs") found)) (number_in 268435456 (one_of (codes "max-output") found)) (first_of (codes "out") found)
-    (first_of (codes "info") found) (first_of (codes "script") found) line (unless_some (fault_of wasabi words) (line_in found) line h))
+    (first_of (codes "names") found) (number_in 64 (one_of (codes "jobs") found)) (number_in 268435456 (one_of (codes "max-output") found)) (first_of (codes "out") found)
+    (first_of (codes "info") found) (first_of (codes "script") found) (first_of (codes "sources") found) (first_of (codes "sinks") found) line (unless_some (fault_of wasabi words) (line_in found) line h))
 
-given_parts : (line : Line) (hooks : Option Hooks) (kinds : Option Kinds) (g : Given)
-    → option_and_then (λ h. option_map (given_by line h) kinds) hooks ≡ Some g → line.max_output ≡ g.bound
-given_parts line (Some h) (Some k) g e =
-    let same : given_by line h k ≡ g = cc in
+given_parts : (line : Line) (hooks : Option Hooks) (kinds : Option Kinds) (keeps : Option Bool) (g : Given)
+    → option_and_then (λ h. option_and_then (λ k. option_map (given_by line h k) keeps) kinds) hooks ≡ Some g → line.max_output ≡ g.bound
+given_parts line (Some h) (Some k) (Some b) g e =
+    let same : given_by line h k b ≡ g = cc in
     ap (λ (x : Given). x.bound) same
-given_parts line None k g e = cc
-given_parts line (Some h) None g e = cc
+given_parts line None k b g e = cc
+given_parts line (Some h) None b g e = cc
+given_parts line (Some h) (Some k) None g e = cc
 
 pub given_bound : (words : List Text) (g : Given) → given words ≡ Some g → g.bound ≤ 268435456
 unfolding given
@@ -87,4 +93,4 @@ given_bound words g e = by (line_of_words words) refl e
     by : (o : Option Line) → line_of_words words ≡ o → option_and_then given_in o ≡ Some g → g.bound ≤ 268435456
     by None is k = cc
     by (Some line) is k =
-        subst (λ n. n ≤ 268435456) (given_parts line (hooks_read (read_list line.hooks)) (read_kinds line.reports) g k) (line_bound words line is)
+        subst (λ n. n ≤ 268435456) (given_parts line (hooks_read (read_list line.hooks)) (read_kinds line.reports) (keeps_read line.names) g k) (line_bound words line is)

@@ -1,6 +1,7 @@
 -- What the reports on an output, and a trial, tell of the original.
-use Rattle.std.specs.Prelude.{◌≡◌, ℕ, List, IsTrue, is_some, All, map}
+use Rattle.std.specs.Prelude.{◌≡◌, ℕ, List, Bool, true, IsTrue, is_some, All, map}
 use Rattle.module_ast.specs.declared.module.Module.{Module}
+use Rattle.module_ast.specs.Decoding.{Gram}
 use Rattle.module_ast.specs.Limits.{wide}
 use Rattle.hook_select.specs.declared.Event.{Event}
 use Rattle.hook_select.specs.declared.Hooks.{Hooks}
@@ -8,11 +9,11 @@ use Rattle.hook_select.specs.Events.{group_of}
 use Rattle.wasm_sem.specs.declared.Script.{Script}
 use Rattle.wasm_sem.specs.Events.{events_in}
 use Rattle.wasm_sem.specs.Link.{IsScriptInRange, Links}
+use Rattle.name_map.specs.declared.Names.{Names}
 use Rattle.static_info.specs.declared.Info.{Info}
 use Rattle.static_info.specs.Belongs.{Belongs}
 use Rattle.static_info.specs.Info.{info_of}
 use Rattle.static_info.specs.Json.{HoldInfo}
-use Rattle.instrument.specs.Accepted.{IsInstrumented}
 use Rattle.instrument.specs.Same.{IsPrefix, IsOver, SameRuns, shown_so_far}
 use Rattle.analyses.specs.declared.Kind.{Kind}
 use Rattle.analyses.specs.Book.{book}
@@ -21,16 +22,19 @@ use Rattle.app_plan.specs.declared.kinds.Kinds.{Kinds}
 use Rattle.app_plan.specs.Feeding.{fed, fresh_tools}
 use Rattle.app_plan.specs.Files.{IsFit}
 use Rattle.app_plan.specs.Kinds.{all_reports, every_kind}
+use Rattle.app_plan.specs.Wants.{AreKept}
 use Rattle.module_gen.specs.Made.{made}
+use Rattle.wasabi_app.specs.KeptNames.{IsOutput}
 use Rattle.wasabi_app.specs.Reporting.{events_told, reports_text}
+use Rattle.wasabi_app.specs.ToldNames.{original_names}
 use Rattle.wasabi_app.specs.Modes.Trial.{all_hooks, first_steps, second_steps, told_of_run, trial_events, trial_output, trial_script}
 
 -- the events of the selected groups that the original shows in so many steps
 abbrev pub selected_events : Module → Hooks → Script → (steps : ℕ) → List Event
 selected_events m hooks s steps = events_in (shown_so_far m hooks s steps)
 
--- where its run is over, the reports on the output are those on the original's selected events; else its events are the first of
--- these; and none is a stray
+-- where its run is over, the reports on the output are those on the original's selected events; else its events are the
+-- first of these; and none is a stray
 pub record ReportsOriginal (m : Module) (hooks : Hooks) (info : Info) (o : Module) (s : Script) (steps : ℕ) : Type 0 where
   pub whole : IsOver o s steps → (kinds : Kinds) → reports_text kinds (events_told info o s steps) ≡ reports_text kinds (selected_events m hooks s steps)
   pub begun : IsPrefix (events_told info o s steps) (selected_events m hooks s steps)
@@ -42,18 +46,24 @@ SameRunsReport =
     (m : Module) (hooks : Hooks) (o : Module) (s : Script) → SameRuns m hooks o s
     → (steps : ℕ) → ReportsOriginal m hooks (info_of m hooks) o s steps
 
--- So it is with the output of each accepted file, read as a module, and bytes that hold the information on its original, read as
--- information: this belongs to that, which links with each script with which the original links.
+-- So it is with the output of each accepted file, with names or without, read as a module, and bytes that hold the
+-- information on its original, read as information: this belongs to that, which links with each script with which the
+-- original links.
 abbrev pub OutputsReport : Type 0
 OutputsReport =
-    (file : List ℕ) (hooks : Hooks) (written : List ℕ) (has : IsInstrumented file hooks written) (o : Module) → IsFit wide written o
+    (file : List ℕ) (hooks : Hooks) (keeps : Bool) (written : List ℕ) (has : IsOutput file hooks keeps written) (o : Module) → IsFit wide written o
     → (told : List ℕ) (info : Info) → HoldInfo told (info_of has.original hooks) → HoldInfo told info
     → (s : Script) → IsScriptInRange s → Links has.original s
     → Belongs info o × Links o s × ((steps : ℕ) → ReportsOriginal has.original hooks info o s steps)
 
--- A trial: where the output's run is over, its events are all those of the original, and each analysis that was fresh holds their book;
--- else they are the first of these. None is a stray.
--- Where both runs are over, their texts are equal.
+-- What a report names in what was written with names is what the file names.
+abbrev pub KeptNamesComeBack : Type 0
+KeptNamesComeBack =
+    (file : List ℕ) (hooks : Hooks) (written : List ℕ) (has : IsOutput file hooks true written) (o : Module) → Gram written o
+    → (carried : Names) → AreKept true written o carried → original_names (info_of has.original hooks) carried ≡ has.names.functions
+
+-- A trial: where the output's run is over, its events are all those of the original, and each analysis that was fresh holds
+-- their book; else they are the first of these. None is a stray. Where both runs are over, their texts are equal.
 pub record TrialTells (number : ℕ) : Type 0 where
   pub whole : IsOver (trial_output number) (trial_script number second_steps) second_steps
       → trial_events number ≡ selected_events (made number) all_hooks (trial_script number second_steps) second_steps

@@ -31,4 +31,4 @@ abbrev pub SomeMake : Type 0
 SomeMake =
     (words : List (List ℕ)) (old new : ShelfState) (was is : List ToolState) (before after : PrintState) (status : ℕ)
     → Ends (plan_of words) old new was is before after status
-    → IsOf (codes "instrument" ∷ codes "trial" ∷ []) words ⊎ (status ≢ 9)
+    → IsOf (codes "instrument" ∷ codes "trial" ∷ codes "taint" ∷ []) words ⊎ (status ≢ 9)

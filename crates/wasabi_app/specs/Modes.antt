@@ -5,7 +5,9 @@ pub mod Run
 pub mod Report
 pub mod Record
 pub mod Replay
+pub mod Tree
 pub mod Trial
+pub mod Taint
 use Rattle.std.specs.Prelude.{ℕ, List, [], ◌∷◌, bytes_eq, find, Option, option_and_then}
 use Rattle.app_plan.specs.Plans.{Plan}
 use Rattle.wasabi_app.specs.Words.{Given, given}
@@ -16,10 +18,12 @@ use Rattle.wasabi_app.specs.Modes.Run.{run_mode}
 use Rattle.wasabi_app.specs.Modes.Report.{report_mode}
 use Rattle.wasabi_app.specs.Modes.Record.{record_mode}
 use Rattle.wasabi_app.specs.Modes.Replay.{replay_mode}
+use Rattle.wasabi_app.specs.Modes.Tree.{tree_mode}
 use Rattle.wasabi_app.specs.Modes.Trial.{trial_mode}
+use Rattle.wasabi_app.specs.Modes.Taint.{taint_mode}
 
 abbrev pub modes : List Mode
-modes = check_mode ∷ instrument_mode ∷ run_mode ∷ report_mode ∷ record_mode ∷ replay_mode ∷ trial_mode ∷ []
+modes = check_mode ∷ instrument_mode ∷ run_mode ∷ report_mode ∷ record_mode ∷ replay_mode ∷ tree_mode ∷ trial_mode ∷ taint_mode ∷ []
 
 -- that of the mode with this name
 abbrev pub plan_in : (mode : List ℕ) → Given → Option Plan

@@ -1,5 +1,5 @@
 -- That what `record` wrote replays as the end of the report.
-use Rattle.std.specs.Prelude.{◌≡◌, ℕ, ◌≤◌, List, [], ◌∷◌, ◌++◌, length, Option, Some}
+use Rattle.std.specs.Prelude.{◌≡◌, ℕ, ◌≤◌, List, [], ◌∷◌, ◌++◌, length, false, Option, Some}
 use Rattle.outside_io.specs.Outside.{Contents, Holds, WhereKnown}
 use Rattle.module_ast.specs.declared.module.Module.{Module}
 use Rattle.module_ast.specs.Limits.{IsComplete, wide}
@@ -22,8 +22,8 @@ use Rattle.wasabi_app.specs.Reporting.{events_told}
 use Rattle.wasabi_app.specs.ToldRuns.{RunNames}
 use Rattle.wasabi_app.specs.Words.{Given, given}
 
--- The events that so many steps of a run tell, read with information that belongs to its module, are those of their trace file,
--- where this is no longer than any that is read.
+-- The events that so many steps of a run tell, read with information that belongs to its module, are those of their trace
+-- file, where this is no longer than any that is read.
 abbrev pub EventsHaveTrace : Type 0
 EventsHaveTrace =
     (info : Info) (m : Module) (s : Script) → IsWellFormed info → Belongs info m → IsValid m → IsComplete m → IsWithin wide m
@@ -42,9 +42,9 @@ abbrev pub LeadsOnlyTo : Option Contents → Plan → Effect → Type 0
 LeadsOnlyTo held plan e =
     LeadsTo held plan (does e) × WhereKnown held (λ contents. (other : Ending) → LeadsTo (Some contents) plan other → other ≡ does e)
 
--- the report with these names
+-- the report with these names, without those of functions
 abbrev pub report_with : RunNames → Kinds → Plan
-report_with names kinds = report_plan (record { names = names; kinds = kinds })
+report_with names kinds = report_plan (record { names = names; kinds = kinds; keeps = false })
 
 -- what was told of a run, and behind it what is replayed
 abbrev pub with_replay : (recorded replayed : Effect) → Effect
@@ -57,8 +57,8 @@ with_replay recorded replayed = record {
 }
 
 -- What was recorded is the trace of some events. Where its bytes are found, under whatever name, exactly these events are
--- replayed; and a report in the place of the recording takes them too, and prints the text of the recording and behind it that
--- of the replay. So it is for each set of kinds.
+-- replayed; and a report in the place of the recording takes them too, and prints the text of the recording and behind it
+-- that of the replay. So it is for each set of kinds.
 pub record IsReplayed (held : Option Contents) (line : RecordLine) (recorded : Effect) : Type 0 where
   pub events : List Event
   pub trace : List ℕ

@@ -5,7 +5,7 @@ use Rattle.hook_select.specs.declared.Event.{Event}
 use Rattle.wasm_sem.specs.declared.Script.{Script}
 use Rattle.wasm_sem.specs.Laws.{slots_in}
 use Rattle.wasm_sem.specs.Machine.{run_of}
-use Rattle.wasm_sem.specs.Events.{events_in}
+use Rattle.wasm_sem.specs.Events.{TraceItem, events_in}
 use Rattle.wasm_sem.specs.Trace.{trace_of}
 use Rattle.static_info.specs.declared.Info.{Info}
 use Rattle.static_info.specs.Items.{read}
@@ -17,9 +17,14 @@ use Rattle.wasabi_app.specs.declared.feeding.Tally.{Tally}
 use Rattle.app_plan.specs.declared.kinds.Kinds.{Kinds}
 use Rattle.app_plan.specs.Kinds.{has_kind, kinds_in}
 
--- the events that the first steps of a run tell, read with the information and the slots of the run's table
+-- what the first steps of a run tell, read with the information and the slots of the run's table: entries, host calls and
+-- events
+abbrev pub items_told : Info → Module → Script → (steps : ℕ) → List TraceItem
+items_told info m s n = read info (slots_in (run_of m s n)) (trace_of m s n)
+
+-- the events alone
 abbrev pub events_told : Info → Module → Script → (steps : ℕ) → List Event
-events_told info m s n = events_in (read info (slots_in (run_of m s n)) (trace_of m s n))
+events_told info m s n = events_in (items_told info m s n)
 
 -- the report of a kind on these events
 abbrev pub kind_report : List Event → Kind → List ℕ

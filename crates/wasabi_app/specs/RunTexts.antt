@@ -1,4 +1,5 @@
--- The text of a run: what the start and each call came to, the pages of the memory, and the calls of the host. And its status.
+-- The text of a run: what the start and each call came to, the pages of the memory, and the calls of the host. And its
+-- status.
 use Rattle.std.specs.Prelude.{ℕ, suc, List, [], ◌∷◌, ◌++◌, codes, decimal, Option, Some, None, Bool, true, false, cond, ◌||◌}
 use Rattle.std.specs.List.{list_any}
 use Rattle.wasm_num.specs.declared.Value.{Value}

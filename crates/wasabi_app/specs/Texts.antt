@@ -27,6 +27,9 @@ table_cap_text slots = concat_texts (codes "error 11: table needs " ∷ decimal 
 abbrev pub segment_range_text : List ℕ
 segment_range_text = codes "error 11: segment is out of range\n"
 
+abbrev pub no_import_text : (name : List ℕ) → List ℕ
+no_import_text name = concat_texts (codes "error 20: no imported function " ∷ name ∷ codes "\n" ∷ [])
+
 -- so many bytes, with so many hooks
 abbrev pub wrote_text : (bytes hooks : ℕ) → List ℕ
 wrote_text bytes hooks = concat_texts (codes "wrote " ∷ decimal bytes ∷ codes " bytes with " ∷ decimal hooks ∷ codes " hooks\n" ∷ [])

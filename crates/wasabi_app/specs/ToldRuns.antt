@@ -1,8 +1,9 @@
 -- A subject, the information on its original and a script, read one after the other.
-use Rattle.std.specs.Prelude.{ℕ, List, Option, Some, Result, Err, option_map, option_and_then}
+use Rattle.std.specs.Prelude.{ℕ, List, Bool, Option, Some, Result, Err, option_map, option_and_then}
 use Rattle.module_ast.specs.declared.module.Module.{Module}
 use Rattle.module_ast.specs.Limits.{wide}
 use Rattle.wasm_sem.specs.declared.Script.{Script}
+use Rattle.name_map.specs.declared.Names.{Names}
 use Rattle.static_info.specs.declared.Info.{Info}
 use Rattle.analyses.specs.Tools.{ToolState}
 use Rattle.app_plan.specs.declared.told.Printed.{Printed}
@@ -11,7 +12,7 @@ use Rattle.app_plan.specs.Files.{wide_file}
 use Rattle.app_plan.specs.Outcomes.{Yields}
 use Rattle.app_plan.specs.Plans.{Plan, reads}
 use Rattle.app_plan.specs.Printing.{ShelfState}
-use Rattle.app_plan.specs.Wants.{module_read, script_read, info_read}
+use Rattle.app_plan.specs.Wants.{module_read, named_read, script_read, info_read}
 use Rattle.wasabi_app.specs.declared.told_run.RunNames.{RunNames as ReadRunNames}
 use Rattle.wasabi_app.specs.Words.{Given}
 
@@ -40,6 +41,11 @@ informed names next m = reads (info_read names.info m) (scripted names next m)
 abbrev pub told_run : RunNames → (Module → Info → Script → Plan) → Plan
 told_run names next = reads (module_read names.subject wide_file wide) (informed names next)
 
+-- so with the names of the subject, where these are kept
+abbrev pub named_run : (keeps : Bool) → RunNames → (Module → Names → Info → Script → Plan) → Plan
+named_run keeps names next =
+    reads (named_read names.subject wide_file wide keeps) (λ named. informed names (λ m. next m named.1) named.0)
+
 -- all three were read, and what comes of the rest comes of the whole
 abbrev pub LeadsOn : RunNames → (old mid : ShelfState) → Module → Info → Script → Type 0
 LeadsOn names old mid m info s =
@@ -50,3 +56,14 @@ LeadsOn names old mid m info s =
 abbrev pub IsNotLed : RunNames → (old new : ShelfState) → Refusal → Type 0
 IsNotLed names old new refusal =
     (next : Module → Info → Script → Plan) (tools : List ToolState) → Yields (Some (told_run names next)) old new tools tools (Err refusal)
+
+-- so with names
+abbrev pub LeadsOnWith : (keeps : Bool) → RunNames → (old mid : ShelfState) → Module → Names → Info → Script → Type 0
+LeadsOnWith keeps names old mid m kept info s =
+    (next : Module → Names → Info → Script → Plan) (new : ShelfState) (was is : List ToolState) (result : Result Printed Refusal)
+    → Yields (Some (next m kept info s)) mid new was is result → Yields (Some (named_run keeps names next)) old new was is result
+
+abbrev pub IsNotLedWith : (keeps : Bool) → RunNames → (old new : ShelfState) → Refusal → Type 0
+IsNotLedWith keeps names old new refusal =
+    (next : Module → Names → Info → Script → Plan) (tools : List ToolState)
+    → Yields (Some (named_run keeps names next)) old new tools tools (Err refusal)

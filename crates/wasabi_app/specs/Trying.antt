@@ -27,7 +27,8 @@ use Rattle.wasabi_app.specs.Reporting.{events_told}
 use Rattle.wasabi_app.specs.Texts.{too_large_text}
 use Rattle.wasabi_app.specs.Modes.Trial.{all_hooks, pair_front, runs_text, told_of_run, trial_script}
 
--- what a module must be that is tried: valid, within the limits of a module that gets hooks, of its sizes, and without a hook
+-- what a module must be that is tried: valid, within the limits of a module that gets hooks, of its sizes, and without a
+-- hook
 pub record IsTriable (m : Module) : Type 0 where
   pub valid : IsValid m
   pub limits : IsWithin narrow m
@@ -35,7 +36,8 @@ pub record IsTriable (m : Module) : Type 0 where
   pub short : length (module_bytes m) ≤ 16777216
   pub free : IsFree m
 
--- what is told of a run of an output, with the information that its hook calls are read with, behind the text on its original
+-- what is told of a run of an output, with the information that its hook calls are read with, behind the text on its
+-- original
 pub record IsTold (number steps : ℕ) (front : List ℕ) (o : Module) (info : Info) (told : Printed) : Type 0 where
   pub status : told.status ≡ finish_status (finish_of (summary_of o (trial_script number steps) steps))
   pub text : told.text.items ≡ runs_text front (told_of_run number steps o) (events_line (events_told info o (trial_script number steps) steps))

@@ -29,9 +29,9 @@ pub(crate) struct Played {
     pub(crate) tally: Tally,
 }
 
-/// Links a module with a script and runs it, to the end or for the script's steps, and gives the events of its hook calls to
-/// the picked analyses. An `Err` for want of memory may come where these have taken the first of the events; at another they
-/// are as before.
+/// Links a module with a script and runs it, to the end or for the script's steps, and gives the events of its hook
+/// calls to the picked analyses. An `Err` for want of memory may come where these have taken the first of the events;
+/// at another they are as before.
 pub(crate) fn play(
     alloc: Global,
     m: &ValidModule,

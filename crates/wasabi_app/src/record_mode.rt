@@ -28,8 +28,8 @@ use std::thread::Threads;
 use wasm_sem::Script;
 use wasm_valid::ValidModule;
 
-// What a command of the mode `record` asks for: the trace of a run is to be written under the target's name, where it has no
-// more bytes than the bound.
+// What a command of the mode `record` asks for: the trace of a run is to be written under the target's name, where it
+// has no more bytes than the bound.
 #[derive(Clone, Copy)]
 struct RecordLine<'w> {
     names: RunNames<'w>,
@@ -37,9 +37,9 @@ struct RecordLine<'w> {
     bound: u64,
 }
 
-/// Reads the subject, the information on its original and the script, runs the subject, and writes the trace of the events of
-/// its hook calls under the target's name; what the start and the calls came to, or why that is not done. Nothing is written
-/// before the run is made and its text is there.
+/// Reads the subject, the information on its original and the script, runs the subject, and writes the trace of the
+/// events of its hook calls under the target's name; what the start and the calls came to, or why that is not done.
+/// Nothing is written before the run is made and its text is there.
 pub(crate) fn record<R: Threads + Sync, S: Shelf>(
     rt: &R,
     alloc: Global,

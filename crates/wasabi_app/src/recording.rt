@@ -68,7 +68,8 @@ fn record_turn(
     Ok(turn)
 }
 
-// Makes step after step, to the end of the run or for the script's steps, and puts their events into a trace that has none yet.
+// Makes step after step, to the end of the run or for the script's steps, and puts their events into a trace that has
+// none yet.
 fn record_out(
     alloc: Global,
     mut session: Session<'_>,
@@ -107,8 +108,8 @@ pub(crate) struct Recorded {
     pub(crate) file: Vec<u8>,
 }
 
-/// Links a module with a script and runs it, to the end or for the script's steps; what came of it, with the trace file of the
-/// events that its hook calls read as. `TooLong` exactly where that file is longer than the bound.
+/// Links a module with a script and runs it, to the end or for the script's steps; what came of it, with the trace file
+/// of the events that its hook calls read as. `TooLong` exactly where that file is longer than the bound.
 pub(crate) fn record_run(
     alloc: Global,
     m: &ValidModule,

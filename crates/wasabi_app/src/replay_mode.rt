@@ -24,8 +24,8 @@ use std::slice::from_ref;
 use trace_file::{ReadTraceFault, TraceReader};
 use wasm_num::NoMemory;
 
-/// Reads the subject, which is a trace, and gives its events to the analyses of the kinds that are asked for, which are fresh;
-/// their reports, or why there are none. No name is changed.
+/// Reads the subject, which is a trace, and gives its events to the analyses of the kinds that are asked for, which are
+/// fresh; their reports, or why there are none. No name is changed.
 pub(crate) fn replay<S: Shelf>(
     alloc: Global,
     given: &Given<'_>,

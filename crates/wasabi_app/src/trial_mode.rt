@@ -55,9 +55,9 @@ const FIRST_STEPS: u64 = 10_000_000;
 // How many its output may make.
 const SECOND_STEPS: u64 = 1_000_000_000;
 
-/// Makes a module of the number that the subject is, and its output with all hooks; runs both by one script, and gives the
-/// events of the output's hook calls to all analyses, which are fresh. What both runs came to, or why they are not made: the
-/// output is too large, or memory ends. No file is read or written.
+/// Makes a module of the number that the subject is, and its output with all hooks; runs both by one script, and gives
+/// the events of the output's hook calls to all analyses, which are fresh. What both runs came to, or why they are not
+/// made: the output is too large, or memory ends. No file is read or written.
 pub(crate) fn trial<R: Threads + Sync>(
     rt: &R,
     alloc: Global,
@@ -242,8 +242,12 @@ fn run_output(
     }
 }
 
-// The output with these bytes, which is a valid module.
-fn output<R: Threads + Sync>(rt: &R, alloc: Global, bytes: &[u8]) -> Result<ValidModule, NoMemory>
+/// The output with these bytes, which is a valid module.
+pub(crate) fn output<R: Threads + Sync>(
+    rt: &R,
+    alloc: Global,
+    bytes: &[u8],
+) -> Result<ValidModule, NoMemory>
     requires short { length bytes.now ≤ longest_output }
     ensures { IfOk result (λ v. IsFit wide bytes.now v) }
 {

@@ -1,5 +1,5 @@
 -- What is promised of the mode `instrument`.
-use Rattle.std.proofs.Common.{◌≡◌, ◌≢◌, ℕ, ◌≤◌, inl, inr, List, [], ◌∷◌, length, refl, ap, subst, ◌∙◌, arith, cond, Bool, true, false, nat_le, bytes_eq, ◌||◌, IfSome, All, Option, Some, None, option_map, option_and_then}
+use Rattle.std.proofs.Common.{◌≡◌, ◌≢◌, ℕ, ◌≤◌, inl, inr, List, [], ◌∷◌, refl, ap, subst, ◌∙◌, arith, cond, Bool, true, false, nat_le, ◌||◌, IfSome, All, Option, Some, None, option_map, option_and_then}
 use Rattle.std.proofs.lemmas.List.Elements.{All-nil, All-cons}
 use Rattle.std.proofs.lemmas.Slice.Eq.{bytes_eq-Decides}
 use Rattle.std.proofs.lemmas.Bool.Decides.{nat_tests}
@@ -7,24 +7,25 @@ use Rattle.std.specs.List.{list_any}
 use Rattle.outside_io.specs.Outside.{Contents}
 use Rattle.module_ast.specs.declared.module.Import.{Import}
 use Rattle.module_ast.specs.declared.module.Module.{Module}
-use Rattle.module_ast.specs.Limits.{narrow}
 use Rattle.wasm_sem.specs.Link.{IsFree, is_hook, hook_module}
-use Rattle.instrument.specs.Made.{narrow_file, longest_output}
-use Rattle.instrument.specs.Output.{output_bytes}
-use Rattle.instrument.proofs.OutputSame.{instrumented}
+use Rattle.instrument.specs.Accepted.{IsAccepted}
+use Rattle.instrument.specs.Made.{longest_output}
+use Rattle.name_map.specs.declared.Names.{Names}
 use Rattle.analyses.specs.Tools.{ToolState}
-use Rattle.wasabi_app.specs.Making.{Line, output_length, information_text}
+use Rattle.wasabi_app.specs.KeptNames.{named_output}
+use Rattle.wasabi_app.specs.Making.{Line, named_length, information_text}
 use Rattle.wasabi_app.specs.Texts.{taken_text, too_large_text}
 use Rattle.app_plan.specs.Printing.{ShelfState, PrintState}
 use Rattle.app_plan.proofs.Files.{one_module}
-use Rattle.app_plan.specs.Wants.{module_read, Gives}
+use Rattle.app_plan.specs.Wants.{Gives}
 use Rattle.app_plan.specs.Plans.{no_output, file, Effect, refuses, does, Plan, ends, refusing, LeadsTo, Ending}
 use Rattle.app_plan.specs.Writing.{WroteAll}
 use Rattle.app_plan.specs.Ends.{of_effects, of_prints, IsMade, Ends}
-use Rattle.wasabi_app.specs.Words.{Given, given}
+use Rattle.wasabi_app.specs.Words.{Given}
+use Rattle.wasabi_app.proofs.KeptNames.{written_output}
 use Rattle.wasabi_app.proofs.WordLines.{given_bound}
 use Rattle.wasabi_app.specs.Modes.{plan_of, plan_in}
-use Rattle.wasabi_app.specs.Modes.Instrument.{names_hooks, info_files, output_effect, bounded, untaken, hooked, instrument_plan, is_name, line_to, instrument_line, IsLine, IsWritten, IsDone, instrument_mode}
+use Rattle.wasabi_app.specs.Modes.Instrument.{names_hooks, info_files, output_effect, bounded, untaken, hooked, subject_read, instrument_plan, is_name, line_to, instrument_line, IsLine, IsWritten, IsDone, instrument_mode}
 use Rattle.app_plan.proofs.Telling.{tells_at}
 use Rattle.app_plan.proofs.Within.{Within, FeedsNone, mapped_within}
 
@@ -102,28 +103,30 @@ line_bound words line (g, e, n, l) = by g.target l
     by None k = cc
     by (Some target) k = pick target (is_name g.info target) k
 
-output_written : (line : Line) (m : Module) (old new : Option Contents) (g : Gives old (module_read line.subject narrow_file narrow) m) → IsFree m
-    → output_length m line.hooks ≤ line.bound → line.bound ≤ longest_output → WroteAll (output_effect line m).files old new → IsWritten line old new
-output_written line m old new g free within most w =
-    let short : length (output_bytes m line.hooks) ≤ longest_output = omega (arith, within, most) in
-    let is = instrumented g.bytes m line.hooks (record { spelled = g.spelled.0.spelled; limits = g.spelled.0.within; valid = g.spelled.1; free = free }) g.read_well.short short in
+output_written : (line : Line) (m : Module) (names : Names) (old new : Option Contents) (g : Gives old (subject_read line) (m, names)) → IsFree m
+    → named_length m line.hooks names ≤ line.bound → line.bound ≤ longest_output → WroteAll (output_effect line m names).files old new
+    → IsWritten line old new
+output_written line m names old new g free within most w =
+    let short : named_length m line.hooks names ≤ longest_output = omega (arith, within, most) in
+    let accepted : IsAccepted g.bytes m = record { spelled = g.spelled.0.spelled; limits = g.spelled.0.within; valid = g.spelled.1; free = free } in
+    let is = written_output g.bytes m line.hooks line.keeps names accepted g.read_well.short g.spelled.2 short in
     let same : m ≡ is.original = one_module g.bytes m is.original g.spelled.0.spelled is.accepted.spelled in (
       g.bytes,
-      output_bytes m line.hooks,
+      named_output m line.hooks names,
       is,
       g.read_well,
       within,
-      subst (λ x. WroteAll (file line.target (output_bytes m line.hooks) ∷ info_files line.info (information_text x line.hooks)) old new) same w,
+      subst (λ x. WroteAll (file line.target (named_output m line.hooks names) ∷ info_files line.info (information_text x line.hooks)) old new) same w,
     )
 
 effect_written : (line : Line) (old new : Option Contents) (e : Effect) → line.bound ≤ longest_output
     → LeadsTo old (instrument_plan line) (does e) → WroteAll e.files old new → IsWritten line old new
-effect_written line old new e most (m, g, k) w =
-    let h = hooked_leads old line.subject m (output_length m line.hooks) line.bound (ends (does (output_effect line m))) e k in
-    let short : output_length m line.hooks ≤ line.bound = le_of (output_length m line.hooks) line.bound h.1 in
+effect_written line old new e most ((m, names), g, k) w =
+    let h = hooked_leads old line.subject m (named_length m line.hooks names) line.bound (ends (does (output_effect line m names))) e k in
+    let short : named_length m line.hooks names ≤ line.bound = le_of (named_length m line.hooks names) line.bound h.1 in
     let is = h.2 in
-    let same : e ≡ output_effect line m = cc in
-    output_written line m old new g h.0 short most (subst (λ (x : Effect). WroteAll x.files old new) same w)
+    let same : e ≡ output_effect line m names = cc in
+    output_written line m names old new g h.0 short most (subst (λ (x : Effect). WroteAll x.files old new) same w)
 
 line_ends : (words : List (List ℕ)) {old new : ShelfState} {was is : List ToolState} {before after : PrintState} (status : ℕ)
     → Ends (plan_of words) old new was is before after status → (line : Line) → IsLine words line
@@ -161,4 +164,5 @@ hooked_within P subject m long bound plan refused within = by (names_hooks m) (n
 pub instrument_feeds_none : (g : Given) → IfSome (instrument_mode.plan g) (Within FeedsNone)
 instrument_feeds_none g =
     mapped_within FeedsNone instrument_plan (instrument_line g)
-    (λ line m. hooked_within FeedsNone line.subject m (output_length m line.hooks) line.bound (ends (does (output_effect line m))) (λ text. tt) refl)
+    (λ line named. hooked_within FeedsNone line.subject named.0 (named_length named.0 line.hooks named.1) line.bound
+    (ends (does (output_effect line named.0 named.1))) (λ text. tt) refl)

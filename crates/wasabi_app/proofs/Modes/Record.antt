@@ -7,7 +7,7 @@ use Rattle.hook_select.specs.declared.Event.{Event}
 use Rattle.wasm_sem.specs.declared.Script.{Script}
 use Rattle.wasm_sem.specs.Link.{Links}
 use Rattle.static_info.specs.declared.Info.{Info}
-use Rattle.trace_file.specs.Files.{trace_bytes, events_bytes, ending, IsWithin, writing_of}
+use Rattle.trace_file.specs.Files.{trace_bytes, events_bytes, ending, IsWithinBound, writing_of}
 use Rattle.trace_file.specs.Rows.{event_bytes}
 use Rattle.analyses.specs.Tools.{ToolState}
 use Rattle.app_plan.specs.Outcomes.{IsRefusal, Yields, refusal_status, refusal_text}
@@ -37,7 +37,7 @@ pub events_longer : (es : List Event) → length es ≤ length (events_bytes es)
 events_longer [] = omega arith
 events_longer (e ∷ es) = omega (arith, events_longer es, length-append (event_bytes e) (events_bytes es))
 
-short_within : (most : ℕ) (es : List Event) → most ≤ 268435456 → length (trace_bytes es) ≤ most → IsWithin (writing_of most es)
+short_within : (most : ℕ) (es : List Event) → most ≤ 268435456 → length (trace_bytes es) ≤ most → IsWithinBound (writing_of most es)
 short_within most es bound short =
     let all = length-append (events_bytes es) (ending (length es)) in
     (omega (arith, bound, short, all, events_longer es), short)

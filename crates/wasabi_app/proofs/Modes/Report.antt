@@ -9,9 +9,9 @@ use Rattle.wasabi_app.proofs.Linked.{writes_plain, makes_plain, played_within}
 pub report_writes_none : (g : Given) → IfSome (report_mode.plan g) (Within WritesNone)
 report_writes_none g =
     mapped_within WritesNone report_plan (report_line g)
-    (λ line m info s. played_within WritesNone m s (ends (does (report_effect line.kinds m info s))) writes_plain refl)
+    (λ line named info s. played_within WritesNone named.0 s (ends (does (report_effect line.kinds line.keeps named.0 named.1 info s))) writes_plain refl)
 
 pub report_makes_none : (g : Given) → IfSome (report_mode.plan g) (Within MakesNone)
 report_makes_none g =
     mapped_within MakesNone report_plan (report_line g)
-    (λ line m info s. played_within MakesNone m s (ends (does (report_effect line.kinds m info s))) makes_plain tt)
+    (λ line named info s. played_within MakesNone named.0 s (ends (does (report_effect line.kinds line.keeps named.0 named.1 info s))) makes_plain tt)

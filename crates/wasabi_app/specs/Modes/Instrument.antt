@@ -6,12 +6,12 @@ use Rattle.module_ast.specs.declared.module.Module.{Module}
 use Rattle.module_ast.specs.Limits.{narrow}
 use Rattle.wasm_sem.specs.Link.{is_hook}
 use Rattle.instrument.specs.Made.{narrow_file}
-use Rattle.instrument.specs.Output.{output_bytes}
-use Rattle.instrument.specs.Accepted.{IsInstrumented}
+use Rattle.name_map.specs.declared.Names.{Names}
 use Rattle.app_plan.specs.Kinds.{no_kinds}
-use Rattle.wasabi_app.specs.Making.{Line, hook_count, output_length, information_text}
+use Rattle.wasabi_app.specs.Making.{Line, hook_count, named_length, information_text}
+use Rattle.wasabi_app.specs.KeptNames.{IsOutput, named_output}
 use Rattle.wasabi_app.specs.Texts.{taken_text, too_large_text, wrote_text}
-use Rattle.app_plan.specs.Wants.{module_read, IsRead}
+use Rattle.app_plan.specs.Wants.{Read, named_read, IsRead}
 use Rattle.app_plan.specs.Plans.{no_output, done, File, file, Effect, does, Plan, reads, ends, refusing}
 use Rattle.app_plan.specs.Writing.{WroteAll}
 use Rattle.wasabi_app.specs.Words.{Given, given}
@@ -26,13 +26,13 @@ abbrev pub info_files : Option (List ℕ) → (text : List ℕ) → List File
 info_files None text = []
 info_files (Some name) text = file name text ∷ []
 
--- the output is written, and then the information
-abbrev pub output_effect : Line → Module → Effect
-output_effect line m = record {
+-- the output is written, with the names behind it, and then the information
+abbrev pub output_effect : Line → Module → Names → Effect
+output_effect line m names = record {
   kinds = no_kinds;
   events = [];
-  files = file line.target (output_bytes m line.hooks) ∷ info_files line.info (information_text m line.hooks);
-  text = wrote_text (output_length m line.hooks) (hook_count m line.hooks);
+  files = file line.target (named_output m line.hooks names) ∷ info_files line.info (information_text m line.hooks);
+  text = wrote_text (named_length m line.hooks names) (hook_count m line.hooks);
   finish = done;
 }
 
@@ -48,12 +48,16 @@ untaken false subject plan = plan
 abbrev pub hooked : (subject : List ℕ) → Module → (output_length bound : ℕ) → Plan → Plan
 hooked subject m long bound plan = untaken (names_hooks m) subject (bounded (nat_le long bound) long plan)
 
--- a module is given hooks and written
-abbrev pub output_plan : Line → Module → Plan
-output_plan line m = hooked line.subject m (output_length m line.hooks) line.bound (ends (does (output_effect line m)))
+-- a module is given hooks and written, with these names
+abbrev pub output_plan : Line → Module → Names → Plan
+output_plan line m names = hooked line.subject m (named_length m line.hooks names) line.bound (ends (does (output_effect line m names)))
+
+-- the subject, with its names where they are kept
+abbrev pub subject_read : Line → Read
+subject_read line = named_read line.subject narrow_file narrow line.keeps
 
 abbrev pub instrument_plan : Line → Plan
-instrument_plan line = reads (module_read line.subject narrow_file narrow) (output_plan line)
+instrument_plan line = reads (subject_read line) (λ named. output_plan line named.0 named.1)
 
 -- The target is needed, and it is not the information's name.
 abbrev pub is_name : Option (List ℕ) → List ℕ → Bool
@@ -61,7 +65,7 @@ is_name None name = false
 is_name (Some given) name = bytes_eq given name
 
 abbrev pub line_to : Given → (target : List ℕ) → Line
-line_to g target = record { subject = g.subject; target = target; info = g.info; hooks = g.hooks; bound = g.bound }
+line_to g target = record { subject = g.subject; target = target; info = g.info; hooks = g.hooks; keeps = g.keeps; bound = g.bound }
 
 abbrev pub instrument_line : Given → Option Line
 instrument_line g = option_and_then (λ target. cond (is_name g.info target) None (Some (line_to g target))) g.target
@@ -79,10 +83,11 @@ IsLine words line = (g : Given) × (given words ≡ Some g) × (g.mode ≡ codes
 abbrev pub IsDone : (status : ℕ) → Type 0
 IsDone status = (status ≡ 0) ⊎ (status ≡ 15)
 
--- The subject's bytes are an accepted module, and under the target's name stand its output, and under the information's
--- name, where one is given, the information on it. The output is no longer than the bound. All else is as before.
+-- The subject's bytes are an accepted module, and under the target's name stands its output, with its names where they are
+-- kept, and under the information's name, where one is given, the information on it. What is written first is no longer
+-- than the bound. All else is as before.
 abbrev pub IsWritten : Line → (old new : Option Contents) → Type 0
 IsWritten line old new =
-    (subject : List ℕ) × (output : List ℕ) × (is : IsInstrumented subject line.hooks output)
-    × IsRead old (module_read line.subject narrow_file narrow) subject × (length output ≤ line.bound)
+    (subject : List ℕ) × (output : List ℕ) × (is : IsOutput subject line.hooks line.keeps output)
+    × IsRead old (subject_read line) subject × (length output ≤ line.bound)
     × WroteAll (file line.target output ∷ info_files line.info (information_text is.original line.hooks)) old new

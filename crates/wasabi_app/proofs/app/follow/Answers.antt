@@ -7,7 +7,9 @@ use Rattle.wasabi_app.specs.Modes.Run.{run_mode}
 use Rattle.wasabi_app.specs.Modes.Report.{report_mode}
 use Rattle.wasabi_app.specs.Modes.Record.{record_mode}
 use Rattle.wasabi_app.specs.Modes.Replay.{replay_mode}
+use Rattle.wasabi_app.specs.Modes.Tree.{tree_mode}
 use Rattle.wasabi_app.specs.Modes.Trial.{trial_mode}
+use Rattle.wasabi_app.specs.Modes.Taint.{taint_mode}
 use Rattle.wasabi_app.proofs.Modes.{by_name, no_mode}
 use Rattle.wasabi_app.proofs.app.follow.Goals as goal
 
@@ -35,11 +37,19 @@ pub returns-in-replay-clause-ended : goal.returns-in-replay-clause-ended
 returns-in-replay-clause-ended g c =
     by_name (codes "replay") (given_of c.args.given.now) (replay_mode.plan (given_of c.args.given.now)) _ _ _ _ c.replay.result c.in-replay.is refl c.replay.ensures.ended
 
+pub returns-in-tree-clause-ended : goal.returns-in-tree-clause-ended
+returns-in-tree-clause-ended g c =
+    by_name (codes "tree") (given_of c.args.given.now) (tree_mode.plan (given_of c.args.given.now)) _ _ _ _ c.tree.result c.in-tree.is refl (c.tree.ensures.ended _)
+
 pub returns-in-trial-clause-ended : goal.returns-in-trial-clause-ended
 returns-in-trial-clause-ended g c =
     by_name (codes "trial") (given_of c.args.given.now) (trial_mode.plan (given_of c.args.given.now)) _ _ _ _ c.trial.result c.in-trial.is refl (c.trial.ensures _)
 
+pub returns-in-taint-clause-ended : goal.returns-in-taint-clause-ended
+returns-in-taint-clause-ended g c =
+    by_name (codes "taint") (given_of c.args.given.now) (taint_mode.plan (given_of c.args.given.now)) _ _ _ _ c.taint.result c.in-taint.is refl (c.taint.ensures.ended _)
+
 pub returns-in_default-clause-ended : goal.returns-in_default-clause-ended
 returns-in_default-clause-ended g c =
     no_mode (given_of c.args.given.now) _ _ c.bad_words.result
-    (c.in_default.not-check, (c.in_default.not-instrument, (c.in_default.not-run, (c.in_default.not-report, (c.in_default.not-record, (c.in_default.not-replay, (c.in_default.not-trial, tt))))))) c.bad_words.ensures
+    (c.in_default.not-check, (c.in_default.not-instrument, (c.in_default.not-run, (c.in_default.not-report, (c.in_default.not-record, (c.in_default.not-replay, (c.in_default.not-tree, (c.in_default.not-trial, (c.in_default.not-taint, tt))))))))) c.bad_words.ensures

@@ -1,0 +1,190 @@
+-- What comes of the plan of the mode `taint`.
+use Rattle.std.proofs.Common.{◌≡◌, ◌∙◌, ℕ, ◌<◌, ◌≤◌, ◌++◌, List, refl, sym, ap, ap₂, subst, IfOk, IfSome, Option, Some, None, Result, Ok, Err}
+use Rattle.outside_io.specs.Outside.{Unchanged}
+use Rattle.module_ast.specs.declared.module.Module.{Module}
+use Rattle.wasm_sem.specs.declared.Script.{Script}
+use Rattle.wasm_sem.specs.Answers.{Summary}
+use Rattle.wasm_sem.specs.Link.{IsFree, Links, link}
+use Rattle.run_session.specs.declared.link.LinkFault.{LinkFault}
+use Rattle.run_session.specs.Linking.{TellsRefusal}
+use Rattle.shadow_replay.specs.declared.Warning.{Warning}
+use Rattle.shadow_replay.specs.Taint.{Watch}
+use Rattle.hook_select.specs.declared.Hooks.{Hooks}
+use Rattle.instrument.specs.Made.{longest_output, narrow_file}
+use Rattle.instrument.specs.Output.{output}
+use Rattle.module_ast.specs.Limits.{narrow}
+use Rattle.analyses.specs.Tools.{ToolState}
+use Rattle.app_plan.specs.declared.told.Printed.{Printed}
+use Rattle.app_plan.specs.declared.told.Refusal.{Refusal}
+use Rattle.app_plan.specs.declared.told.Refusal.TheVariants.{NoMemory}
+use Rattle.app_plan.specs.Outcomes.{IsRefusal, RefusedBy, Yields}
+use Rattle.app_plan.specs.Plans.{no_import, no_output, Ending, refuses, Plan, printing}
+use Rattle.app_plan.specs.Printing.{ShelfState}
+use Rattle.app_plan.specs.Wants.{Gives, script_read, module_read}
+use Rattle.app_plan.proofs.Contents.{unchanged_same}
+use Rattle.app_plan.proofs.Going.{leads_by, no_memory, stopped, took_text, was_refused, went_on}
+use Rattle.app_plan.proofs.Within.{Within, WritesNone, FeedsNone, mapped_within}
+use Rattle.wasabi_app.specs.declared.taint_mode.Watched.{Watched}
+use Rattle.wasabi_app.specs.Linking.{IsUnlinked}
+use Rattle.wasabi_app.specs.Making.{output_length}
+use Rattle.wasabi_app.specs.Playing.{ending_of, ending_finish, ending_text}
+use Rattle.wasabi_app.specs.RunTexts.{run_status, run_text}
+use Rattle.wasabi_app.specs.Tainting.{warnings_told, warnings_text}
+use Rattle.wasabi_app.specs.Texts.{no_import_text, taken_text, too_large_text}
+use Rattle.wasabi_app.specs.Warning.{AreKnown, GetsHooks, GetsNone, IsUnknown, IsWarned, IsWatched, watch_in}
+use Rattle.wasabi_app.specs.Watching.{import_names}
+use Rattle.wasabi_app.specs.Words.{Given}
+use Rattle.wasabi_app.specs.Modes.Instrument.{hooked}
+use Rattle.wasabi_app.specs.Modes.Taint.{TaintLine, unknown_in, known, taint_text, taint_line, taint_plan, taint_mode, followed_plan, ran_plan, warned_plan, watch_of}
+use Rattle.wasabi_app.specs.Modes.Trial.{all_hooks}
+use Rattle.wasabi_app.proofs.Hooking.{free_names, taken_names, test_above, test_of}
+use Rattle.wasabi_app.proofs.Linked.{Plain, writes_plain, feeds_plain, played_links, played_within, was_unlinked, finish_statuses}
+use Rattle.wasabi_app.proofs.Modes.Instrument.{hooked_large, hooked_taken, hooked_well, hooked_within}
+
+-- ---- what is watched
+
+module _ (line : TaintLine) (m : Module) where
+  abbrev unknown : Option (List ℕ)
+  unknown = unknown_in line (import_names m.imports)
+
+  -- a name is that of no import
+  pub unknown_name : (name : List ℕ) (refusal : Refusal) → unknown ≡ Some name → IsRefusal 20 (no_import_text name) refusal → IsUnknown line m refusal
+  unknown_name name refusal e is = λ plan at tools.
+      was_refused (known unknown plan) no_import (no_import_text name) at tools refusal
+      (leads_by at.contents (refuses no_import (no_import_text name)) (ap (λ u. known u plan) e) refl) is
+
+  pub unknown_no_memory : IsUnknown line m NoMemory
+  unknown_no_memory = λ plan at tools. no_memory (Some (known unknown plan)) at at tools (unchanged_same at.contents)
+
+  watched_is : (watched : Watched) → IsWatched line m watched → watch_in watched ≡ watch_of line m
+  watched_is watched is = ap₂ (λ (a b : List ℕ). let w : Watch = record { sources = a; sinks = b } in w) is.sources is.sinks
+
+  -- all are known, and the module is given hooks or not
+  pub followed : (watched : Watched) (old new : ShelfState) (tools : List ToolState) (result : Result Printed Refusal) → IsWatched line m watched
+      → AreKnown line m → GetsHooks line.subject m → Yields (Some (warned_plan line.script (watch_in watched) m)) old new tools tools result
+      → Yields (Some (followed_plan line m)) old new tools tools result
+  followed watched old new tools result is all gets y =
+      let goes : followed_plan line m ≡ warned_plan line.script (watch_of line m) m =
+      ap (λ u. known u (hooked line.subject m (output_length m all_hooks) longest_output (warned_plan line.script (watch_of line m) m))) all
+      ∙ gets (warned_plan line.script (watch_of line m) m) in
+      subst (λ p. Yields (Some p) old new tools tools result) (ap (λ w. warned_plan line.script w m) (watched_is watched is) ∙ sym goes) y
+
+  pub unhooked : (refusal : Refusal) (at : ShelfState) (tools : List ToolState) → AreKnown line m → GetsNone line.subject m refusal
+      → Yields (Some (followed_plan line m)) at at tools tools (Err refusal)
+  unhooked refusal at tools all none =
+      let plan = warned_plan line.script (watch_of line m) m in
+      subst (λ p. Yields (Some p) at at tools tools (Err refusal))
+      (sym (ap (λ u. known u (hooked line.subject m (output_length m all_hooks) longest_output plan)) all)) (none plan at tools)
+
+-- ---- the output
+
+module _ (subject : List ℕ) (m : Module) where
+  abbrev long : ℕ
+  long = output_length m all_hooks
+
+  pub gets_hooks : IsFree m → long ≤ longest_output → GetsHooks subject m
+  gets_hooks free few = λ plan. hooked_well subject m long longest_output plan (free_names m free) (test_of long longest_output few)
+
+  -- an import names the hooks' module
+  pub gets_none : (refusal : Refusal) → ¬ IsFree m → IsRefusal 9 (taken_text subject) refusal → GetsNone subject m refusal
+  gets_none refusal taken is = λ plan at tools.
+      was_refused (hooked subject m long longest_output plan) no_output (taken_text subject) at tools refusal
+      (leads_by at.contents (refuses no_output (taken_text subject)) (hooked_taken subject m long longest_output plan (taken_names m taken)) refl) is
+
+  -- or the output is too long
+  pub gets_large : (refusal : Refusal) → IsFree m → longest_output < long → IsRefusal 9 (too_large_text long) refusal → GetsNone subject m refusal
+  gets_large refusal free over is = λ plan at tools.
+      was_refused (hooked subject m long longest_output plan) no_output (too_large_text long) at tools refusal
+      (leads_by at.contents (refuses no_output (too_large_text long))
+      (hooked_large subject m long longest_output plan (free_names m free) (test_above long longest_output over)) refl) is
+
+  pub gets_no_memory : GetsNone subject m NoMemory
+  gets_no_memory = λ plan at tools. no_memory (Some (hooked subject m long longest_output plan)) at at tools (unchanged_same at.contents)
+
+-- ---- the run
+
+-- what is told of it
+pub warned_by : (w : Watch) (m : Module) (s : Script) (ended : Summary) (warnings : List Warning) (told : Printed) → ended ≡ ending_of (output m all_hooks) s
+    → warnings ≡ warnings_told m w s → told.status ≡ run_status ended
+    → told.text.items ≡ run_text s.calls ended ++ warnings_text (import_names m.imports) warnings → IsWarned w m s told
+warned_by w m s ended warnings told is warns status text = record {
+  status = status ∙ ap run_status is ∙ sym (finish_statuses (ending_of (output m all_hooks) s));
+  text =
+      text ∙ ap (λ x. run_text s.calls x ++ warnings_text (import_names m.imports) warnings) is
+      ∙ ap (λ ws. ending_text (output m all_hooks) s ++ warnings_text (import_names m.imports) ws) warns;
+}
+
+pub was_warned : (w : Watch) (m : Module) (s : Script) (at : ShelfState) (tools : List ToolState) (told : Printed) → Links (output m all_hooks) s
+    → IsWarned w m s told → Yields (Some (ran_plan w m s)) at at tools tools (Ok told)
+was_warned w m s at tools told links is =
+    subst (λ p. Yields (Some p) at at tools tools (Ok told)) (sym (played_links (output m all_hooks) s _ links))
+    (took_text (taint_text w m s) (ending_finish (output m all_hooks) s) at tools told is.status is.text)
+
+-- they do not link
+pub was_unwarned : (w : Watch) (m o : Module) (s : Script) (fault : LinkFault) (at : ShelfState) (tools : List ToolState) (refusal : Refusal) → o ≡ output m all_hooks
+    → TellsRefusal fault (link o s) → IsUnlinked s.calls fault refusal → Yields (Some (ran_plan w m s)) at at tools tools (Err refusal)
+was_unwarned w m o s fault at tools refusal is why told =
+    was_unlinked (output m all_hooks) s fault (printing (taint_text w m s) (ending_finish (output m all_hooks) s)) at tools refusal
+    (subst (λ x. TellsRefusal fault (link x s)) is why) told
+
+-- ---- what holds of its endings
+
+known_holds : (P : Ending → Type 0) (unknown : Option (List ℕ)) (plan : Plan) → ((text : List ℕ) → P (refuses no_import text)) → Within P plan
+    → Within P (known unknown plan)
+known_holds P None plan refused within = within
+known_holds P (Some name) plan refused within = refused (no_import_text name)
+
+taint_within : (P : Ending → Type 0) → Plain P → ((text : List ℕ) → P (refuses no_import text)) → ((text : List ℕ) → P (refuses no_output text))
+    → (g : Given) → IfSome (taint_mode.plan g) (Within P)
+taint_within P plain unknown refused g =
+    mapped_within P taint_plan (taint_line g)
+    (λ line m. known_holds P (unknown_in line (import_names m.imports)) _ unknown
+    (hooked_within P line.subject m (output_length m all_hooks) longest_output (warned_plan line.script (watch_of line m) m) refused
+    (λ s. played_within P (output m all_hooks) s _ plain (plain.prints_well (taint_text (watch_of line m) m s) (ending_finish (output m all_hooks) s)))))
+
+pub taint_writes_none : (g : Given) → IfSome (taint_mode.plan g) (Within WritesNone)
+taint_writes_none g = taint_within WritesNone writes_plain (λ text. tt) (λ text. tt) g
+
+pub taint_feeds_none : (g : Given) → IfSome (taint_mode.plan g) (Within FeedsNone)
+taint_feeds_none g = taint_within FeedsNone feeds_plain (λ text. tt) (λ text. tt) g
+
+-- ---- what is read
+
+-- the subject is not read
+pub unloaded : (line : TaintLine) (a b : ShelfState) (tools : List ToolState) (refusal : Refusal)
+    → RefusedBy (module_read line.subject narrow_file narrow) a b refusal → Unchanged a.contents b.contents
+    → Yields (Some (taint_plan line)) a b tools tools (Err refusal)
+unloaded line a b tools refusal r u = stopped (module_read line.subject narrow_file narrow) (followed_plan line) a b tools refusal r u
+
+-- it is, and this came of it
+pub loaded : (line : TaintLine) (m : Module) (a b c : ShelfState) (tools : List ToolState) (result : Result Printed Refusal)
+    → Gives a.contents (module_read line.subject narrow_file narrow) m → Unchanged a.contents b.contents → a.reads ≤ b.reads → b.writes ≡ a.writes
+    → Yields (Some (followed_plan line m)) b c tools tools result → Yields (Some (taint_plan line)) a c tools tools result
+loaded line m a b c tools result g u few same y =
+    went_on (module_read line.subject narrow_file narrow) (followed_plan line) m a b c tools tools result g u few same y
+
+-- so of the script
+pub unscripted : (script : List ℕ) (w : Watch) (m : Module) (a b : ShelfState) (tools : List ToolState) (refusal : Refusal)
+    → RefusedBy (script_read script) a b refusal → Unchanged a.contents b.contents → Yields (Some (warned_plan script w m)) a b tools tools (Err refusal)
+unscripted script w m a b tools refusal r u = stopped (script_read script) (ran_plan w m) a b tools refusal r u
+
+pub scripted : (script : List ℕ) (w : Watch) (m : Module) (s : Script) (a b : ShelfState) (tools : List ToolState) (result : Result Printed Refusal)
+    → Gives a.contents (script_read script) s → Unchanged a.contents b.contents → a.reads ≤ b.reads → b.writes ≡ a.writes
+    → Yields (Some (ran_plan w m s)) b b tools tools result → Yields (Some (warned_plan script w m)) a b tools tools result
+scripted script w m s a b tools result g u few same y = went_on (script_read script) (ran_plan w m) s a b b tools tools result g u few same y
+
+-- the output is longer than the bound, which was counted with these hooks
+pub gets_large_of : (subject : List ℕ) (m : Module) (hooks : Hooks) (n : ℕ) (refusal : Refusal) → hooks ≡ all_hooks → IsFree m → n ≡ output_length m hooks
+    → longest_output < n → IsRefusal 9 (too_large_text n) refusal → GetsNone subject m refusal
+gets_large_of subject m hooks n refusal all free is over refused =
+    let whole : n ≡ output_length m all_hooks = is ∙ ap (output_length m) all in
+    gets_large subject m refusal free (subst (λ k. longest_output < k) whole over) (subst (λ k. IsRefusal 9 (too_large_text k) refusal) whole refused)
+
+-- what is told of the output's run
+pub told_warned : {E : Type 0} (w : Watch) (m : Module) (s : Script) (ended : Summary) (names : List (List ℕ)) (warnings : List Warning) (result : Result Printed E)
+    → ended ≡ ending_of (output m all_hooks) s → names ≡ import_names m.imports → warnings ≡ warnings_told m w s
+    → IfOk result (λ t. t.status ≡ run_status ended) → IfOk result (λ t. t.text.items ≡ run_text s.calls ended ++ warnings_text names warnings)
+    → IfOk result (IsWarned w m s)
+told_warned w m s ended names warnings (Err e) is named warns status text = tt
+told_warned w m s ended names warnings (Ok told) is named warns status text =
+    warned_by w m s ended warnings told is warns status (text ∙ ap (λ n. run_text s.calls ended ++ warnings_text n warnings) named)

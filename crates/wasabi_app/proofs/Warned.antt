@@ -1,0 +1,225 @@
+-- Warnings come at host calls alone, so that those of two lists with as many host calls of one run are the same.
+use Rattle.std.proofs.Common.{◌≡◌, ℕ, zero, suc, ◌+◌, List, [], ◌∷◌, ◌++◌, Option, Some, None, Bool, true, false, cond, refl, sym, ap, ◌∙◌, arith, append_assoc, append-nil}
+use Rattle.wasm_num.specs.declared.BlockKind.TheVariants as kinds
+use Rattle.wasm_num.specs.declared.BlockKind.{BlockKind}
+use Rattle.module_ast.specs.declared.module.FuncType.{FuncType}
+use Rattle.module_ast.specs.declared.module.Loc.{Loc}
+use Rattle.module_ast.specs.declared.module.Module.{Module}
+use Rattle.module_ast.specs.declared.ops.VarOp.TheVariants.{Get, Set, Tee}
+use Rattle.hook_select.specs.declared.Event.{Event}
+use Rattle.hook_select.specs.declared.Event.TheVariants as events
+use Rattle.wasm_sem.specs.Events.{TraceItem, entry, host_call, event, hook_call}
+use Rattle.wasm_sem.specs.Link.{Callee}
+use Rattle.wasm_sem.specs.Machine.{at_zero}
+use Rattle.shadow_replay.specs.Shadow.{ShadowFrame, ShadowLabel, HeldValues, Shadow, effect}
+use Rattle.shadow_replay.specs.Taint.{Watch, Taint, exchange, add_pages, unmark_writes, warn}
+use Rattle.shadow_replay.specs.Tainted.{PreparedMarks, ShadowMarks, TaintedShadow, move, holds_marks, holds_results_marks, drops_held_marks, drops_fallen_marks, drops_marks, ends_marks, calls_marks, calls_typed_marks, answers_marks, event_marks, item_marks, with_marks, tainted_effect, tainted_effects}
+use Rattle.shadow_replay.proofs.Shadows.{tainted_append}
+use Rattle.instrument.specs.Same.{IsPrefix}
+use Rattle.wasabi_app.proofs.HostCounts.{host_count}
+
+-- ---- an event
+
+-- the marks warn of the same
+abbrev Warns : ShadowMarks → ShadowMarks → Type 0
+Warns k l = l.taint.warnings ≡ k.taint.warnings
+
+zero_warns : (n : ℕ) (k a b : ShadowMarks) → Warns k a → Warns k b → Warns k (at_zero n a b)
+zero_warns zero k a b p q = p
+zero_warns (suc n) k a b p q = q
+
+holds_warn : (n : ℕ) (fs : List ShadowFrame) (k : ShadowMarks) → Warns k (holds_marks n fs k)
+holds_warn n [] k = refl
+holds_warn n (fr ∷ below) k = refl
+
+results_warn : (fs : List ShadowFrame) (k : ShadowMarks) → Warns k (holds_results_marks fs k)
+results_warn [] k = refl
+results_warn (fr ∷ below) k = refl
+
+held_warn : (n : ℕ) (ls : List ShadowLabel) (label : ℕ) (k : ShadowMarks) → Warns k (drops_held_marks n ls label k)
+held_warn n [] label k = refl
+held_warn n (l ∷ ls) zero k = refl
+held_warn n (l ∷ ls) (suc label) k = refl
+
+fallen_warn : (n a : ℕ) (ls : List ShadowLabel) (k : ShadowMarks) → Warns k (drops_fallen_marks n a ls k)
+fallen_warn n a [] k = refl
+fallen_warn n a (l ∷ ls) k = refl
+
+drops_warn : (fr : ShadowFrame) (held : Option HeldValues) (k : ShadowMarks) → Warns k (drops_marks fr held k)
+drops_warn fr None k = fallen_warn _ fr.top.arity fr.outer k
+drops_warn fr (Some h) k = held_warn _ fr.outer h.label k
+
+ends_warn : (fs : List ShadowFrame) (held : Option HeldValues) (k : ShadowMarks) → Warns k (ends_marks fs held k)
+ends_warn [] held k = refl
+ends_warn (fr ∷ below) held k = drops_warn fr held k
+
+calls_warn : (p : Loc) (c : Option Callee) (k : ShadowMarks) → Warns k (calls_marks p c k)
+calls_warn p None k = refl
+calls_warn p (Some c) k = refl
+
+typed_warn : (m : Module) (p : Loc) (f : Option ℕ) (ty : Option FuncType) (k : ShadowMarks) → Warns k (calls_typed_marks m p f ty k)
+typed_warn m p f None k = refl
+typed_warn m p f (Some ty) k = refl
+
+begin_warn : (m : Module) (sh : Shadow) (p : Loc) (kind : BlockKind) (k : ShadowMarks) → Warns k (event_marks m sh (events.Begin p kind) k)
+begin_warn m sh p kinds.Function k = refl
+begin_warn m sh p kinds.Block k = refl
+begin_warn m sh p kinds.Loop k = refl
+begin_warn m sh p kinds.If k = refl
+begin_warn m sh p kinds.Else k = refl
+
+grown_warn : (refused : Bool) (by : ℕ) (t : Taint) → (cond refused t (add_pages by t)).warnings ≡ t.warnings
+grown_warn true by t = refl
+grown_warn false by t = refl
+
+event_warns : (m : Module) (sh : Shadow) (e : Event) (k : ShadowMarks) → Warns k (event_marks m sh e k)
+event_warns m sh (events.Start p) k = refl
+event_warns m sh (events.Nop p) k = refl
+event_warns m sh (events.Unreachable p) k = refl
+event_warns m sh (events.If p x) k = refl
+event_warns m sh (events.Br p n target) k = holds_warn n sh.frames k
+event_warns m sh (events.BrIf p n target x) k =
+    zero_warns x k (move (exchange 1 []) k) (holds_marks n sh.frames (move (exchange 1 []) k)) refl (holds_warn n sh.frames (move (exchange 1 []) k))
+event_warns m sh (events.BrTable p x n target) k = holds_warn n sh.frames (move (exchange 1 []) k)
+event_warns m sh (events.Begin p kind) k = begin_warn m sh p kind k
+event_warns m sh (events.End p kind begin) k = ends_warn sh.frames sh.held k
+event_warns m sh (events.Const p v) k = refl
+event_warns m sh (events.Unary p op a r) k = refl
+event_warns m sh (events.Binary p op a b r) k = refl
+event_warns m sh (events.Drop p v) k = refl
+event_warns m sh (events.Select p a b x) k = refl
+event_warns m sh (events.Local p Get x v) k = refl
+event_warns m sh (events.Local p Set x v) k = refl
+event_warns m sh (events.Local p Tee x v) k = refl
+event_warns m sh (events.Global p Get x v) k = refl
+event_warns m sh (events.Global p Set x v) k = refl
+event_warns m sh (events.Global p Tee x v) k = refl
+event_warns m sh (events.Load p op offset a v) k = refl
+event_warns m sh (events.Store p op offset a v) k = refl
+event_warns m sh (events.MemorySize p n) k = refl
+event_warns m sh (events.MemoryGrow p by previous) k = grown_warn _ by k.taint
+event_warns m sh (events.CallPre p f args) k = calls_warn p _ k
+event_warns m sh (events.IndirectPre p ty slot f args) k = typed_warn m p f _ (move (exchange 1 []) k)
+event_warns m sh (events.CallPost p vs) k = refl
+event_warns m sh (events.Return p vs) k = results_warn sh.frames k
+event_warns m sh (events.Stray h) k = refl
+
+-- ---- an item
+
+-- a host call may warn of more
+warn_more : (w : Watch) (p : Option Loc) (f : ℕ) (ks : List Bool) (t : Taint) → IsPrefix t.warnings (warn w p f ks t).warnings
+warn_more w p f ks t = (_, refl)
+
+item_more : (w : Watch) (m : Module) (sh : Shadow) (i : TraceItem) (k : ShadowMarks) → IsPrefix k.taint.warnings (item_marks m w sh i k).taint.warnings
+item_more w m sh (entry c) k = ([], append-nil k.taint.warnings)
+item_more w m sh (event e) k = ([], append-nil k.taint.warnings ∙ sym (event_warns m sh e k))
+item_more w m sh (hook_call h) k = ([], append-nil k.taint.warnings)
+item_more w m sh (host_call f vs rs ws) k = by k.prepared
+  where
+    by : (p : Option PreparedMarks) → IsPrefix k.taint.warnings (answers_marks w f rs ws p k).taint.warnings
+    by None = ([], append-nil k.taint.warnings)
+    by (Some p) = warn_more w p.call f p.marks (unmark_writes ws k.taint)
+
+-- and nothing else does
+item_warns : (w : Watch) (m : Module) (sh : Shadow) (i : TraceItem) (k : ShadowMarks) → host_count (i ∷ []) ≡ 0 → Warns k (item_marks m w sh i k)
+item_warns w m sh (entry c) k none = refl
+item_warns w m sh (event e) k none = event_warns m sh e k
+item_warns w m sh (hook_call h) k none = refl
+item_warns w m sh (host_call f vs rs ws) k none = absurd (omega (arith, none))
+
+-- ---- items
+
+count_parts : (i : TraceItem) (is : List TraceItem) → host_count (i ∷ is) ≡ host_count (i ∷ []) + host_count is
+count_parts (entry c) is = omega arith
+count_parts (event e) is = omega arith
+count_parts (hook_call h) is = omega arith
+count_parts (host_call f vs rs ws) is = omega arith
+
+marked_with : (k : ShadowMarks) (o : Option Shadow) (b : TaintedShadow) → with_marks k o ≡ Some b → b.marks ≡ k
+marked_with k None b e = cc
+marked_with k (Some sh) b e =
+    let same : record { state = sh; marks = k } ≡ b = cc in
+    sym (ap (λ (t : TaintedShadow). t.marks) same)
+
+module _ (m : Module) (limit : ℕ) (w : Watch) where
+  no_more_taken : (is : List TraceItem) → tainted_effects m limit w None is ≡ None
+  no_more_taken [] = refl
+  no_more_taken (i ∷ is) = no_more_taken is
+
+  none_taken : (is : List TraceItem) (b : TaintedShadow) → tainted_effects m limit w None is ≡ Some b → ⊥
+  none_taken is b e = let none : None ≡ Some b = sym (no_more_taken is) ∙ e in cc
+
+  -- an item that was taken has moved the marks
+  taken_marks : (a c : TaintedShadow) (i : TraceItem) → tainted_effect m limit w a i ≡ Some c → c.marks ≡ item_marks m w a.state i a.marks
+  taken_marks a c i e = marked_with (item_marks m w a.state i a.marks) (effect m limit a.state i) c e
+
+  -- without a host call there are no more warnings
+  warned_same : (is : List TraceItem) (a b : TaintedShadow) → tainted_effects m limit w (Some a) is ≡ Some b → host_count is ≡ 0
+      → b.marks.taint.warnings ≡ a.marks.taint.warnings
+  warned_same [] a b e none =
+      let same : a ≡ b = cc in
+      ap (λ (sh : TaintedShadow). sh.marks.taint.warnings) (sym same)
+  warned_same (i ∷ is) a b e none =
+      let parts = count_parts i is in
+      by (tainted_effect m limit w a i) refl e (λ c f. warned_same is c b f (omega (arith, none, parts)))
+    where
+      by : (o : Option TaintedShadow) → tainted_effect m limit w a i ≡ o → tainted_effects m limit w o is ≡ Some b
+          → ((c : TaintedShadow) → tainted_effects m limit w (Some c) is ≡ Some b → b.marks.taint.warnings ≡ c.marks.taint.warnings)
+          → b.marks.taint.warnings ≡ a.marks.taint.warnings
+      by None at f later = absurd (none_taken is b f)
+      by (Some c) at f later =
+          later c f ∙ ap (λ (k : ShadowMarks). k.taint.warnings) (taken_marks a c i at)
+          ∙ item_warns w m a.state i a.marks (omega (arith, none, count_parts i is))
+
+  -- with some there may be
+  pub warned_more : (is : List TraceItem) (a b : TaintedShadow) → tainted_effects m limit w (Some a) is ≡ Some b
+      → IsPrefix a.marks.taint.warnings b.marks.taint.warnings
+  warned_more [] a b e =
+      let same : a ≡ b = cc in
+      ([], append-nil a.marks.taint.warnings ∙ ap (λ (sh : TaintedShadow). sh.marks.taint.warnings) same)
+  warned_more (i ∷ is) a b e = by (tainted_effect m limit w a i) refl e (λ c f. warned_more is c b f)
+    where
+      by : (o : Option TaintedShadow) → tainted_effect m limit w a i ≡ o → tainted_effects m limit w o is ≡ Some b
+          → ((c : TaintedShadow) → tainted_effects m limit w (Some c) is ≡ Some b → IsPrefix c.marks.taint.warnings b.marks.taint.warnings)
+          → IsPrefix a.marks.taint.warnings b.marks.taint.warnings
+      by None at f more = absurd (none_taken is b f)
+      by (Some c) at f more =
+          let (first, here) = item_more w m a.state i a.marks in
+          let (rest, later) = more c f in
+          let moved = ap (λ (k : ShadowMarks). k.taint.warnings) (taken_marks a c i at) in
+          (first ++ rest, sym (append_assoc a.marks.taint.warnings first rest) ∙ ap (λ ws. ws ++ rest) (here ∙ sym moved) ∙ later)
+
+  -- two fronts of one list with as many host calls warn of the same
+  pub warned_alike : (xs ys r q : List TraceItem) (a b c : TaintedShadow) → xs ++ r ≡ ys ++ q → host_count xs ≡ host_count ys
+      → tainted_effects m limit w (Some a) xs ≡ Some b → tainted_effects m limit w (Some a) ys ≡ Some c → b.marks.taint.warnings ≡ c.marks.taint.warnings
+  warned_alike [] ys r q a b c is same e f =
+      let here : a ≡ b = cc in
+      ap (λ (sh : TaintedShadow). sh.marks.taint.warnings) (sym here) ∙ sym (warned_same ys a c f (sym same))
+  warned_alike (x ∷ xs) [] r q a b c is same e f =
+      let here : a ≡ c = cc in
+      warned_same (x ∷ xs) a b e same ∙ ap (λ (sh : TaintedShadow). sh.marks.taint.warnings) here
+  warned_alike (x ∷ xs) (y ∷ ys) r q a b c is same e f =
+      let head : x ≡ y = cc in
+      let tail : xs ++ r ≡ ys ++ q = cc in
+      let px = count_parts x xs in
+      let py = count_parts y ys in
+      let one : host_count (x ∷ []) ≡ host_count (y ∷ []) = ap (λ i. host_count (i ∷ [])) head in
+      by head (tainted_effect m limit w a x) refl e (λ d g there. warned_alike xs ys r q d b c tail (omega (arith, same, px, py, one)) g there)
+    where
+      by : x ≡ y → (o : Option TaintedShadow) → tainted_effect m limit w a x ≡ o → tainted_effects m limit w o xs ≡ Some b
+          → ((d : TaintedShadow) → tainted_effects m limit w (Some d) xs ≡ Some b → tainted_effects m limit w (Some d) ys ≡ Some c
+          → b.marks.taint.warnings ≡ c.marks.taint.warnings)
+          → b.marks.taint.warnings ≡ c.marks.taint.warnings
+      by head None at g later = absurd (none_taken xs b g)
+      by head (Some d) at g later =
+          later d g (ap (λ o. tainted_effects m limit w o ys) (sym (ap (tainted_effect m limit w a) (sym head) ∙ at)) ∙ f)
+
+  -- what leads to a state leads to one on its way
+  pub front_some : (xs ys : List TraceItem) (a b : TaintedShadow) → tainted_effects m limit w (Some a) (xs ++ ys) ≡ Some b
+      → (c : TaintedShadow) × (tainted_effects m limit w (Some a) xs ≡ Some c) × (tainted_effects m limit w (Some c) ys ≡ Some b)
+  front_some xs ys a b e = by (tainted_effects m limit w (Some a) xs) refl (sym (tainted_append m limit w (Some a) xs ys) ∙ e)
+    where
+      by : (o : Option TaintedShadow) → tainted_effects m limit w (Some a) xs ≡ o → tainted_effects m limit w o ys ≡ Some b
+          → (c : TaintedShadow) × (tainted_effects m limit w (Some a) xs ≡ Some c) × (tainted_effects m limit w (Some c) ys ≡ Some b)
+      by None at f = absurd (none_taken ys b f)
+      by (Some c) at f = (c, at, f)

@@ -1,0 +1,47 @@
+-- The mode `tree`.
+use Rattle.std.specs.Prelude.{ℕ, List, ◌++◌, codes, Bool, true, false, Option, Some, None, option_map}
+use Rattle.module_ast.specs.declared.module.Loc.{Loc}
+use Rattle.module_ast.specs.declared.module.Module.{Module}
+use Rattle.module_ast.specs.Limits.{wide}
+use Rattle.wasm_sem.specs.declared.Script.{Script}
+use Rattle.static_info.specs.declared.Info.{Info}
+use Rattle.app_plan.specs.Files.{wide_file}
+use Rattle.app_plan.specs.Plans.{few_groups, not_nested, Plan, reads, refusing, printing}
+use Rattle.app_plan.specs.Texts.{few_groups_text, not_nested_text}
+use Rattle.app_plan.specs.Wants.{module_read, info_read}
+use Rattle.wasabi_app.specs.Playing.{played, ending_text, ending_finish}
+use Rattle.wasabi_app.specs.ToldRuns.{RunNames, run_names, scripted}
+use Rattle.wasabi_app.specs.Treeing.{tells_brackets, first_unnested, tree_nodes, nodes_text, tree_items}
+use Rattle.wasabi_app.specs.Words.{Given}
+use Rattle.wasabi_app.specs.Mode.{Mode}
+
+-- the text of the run is printed, and behind it that of its tree
+abbrev pub tree_text : Module → Info → Script → List ℕ
+tree_text m info s = ending_text m s ++ nodes_text (tree_nodes (tree_items m info s))
+
+-- this plan, where each end closes the latest begin
+abbrev pub where_nested : (unnested : Option Loc) → Plan → Plan
+where_nested None plan = plan
+where_nested (Some p) plan = refusing not_nested (not_nested_text p)
+
+-- a module is run by a script, and its hook calls are read with the information
+abbrev pub treed_plan : Module → Info → Script → Plan
+treed_plan m info s = played m s (where_nested (first_unnested (tree_items m info s)) (printing (tree_text m info s) (ending_finish m s)))
+
+-- this plan, where begins and ends are told
+abbrev pub where_told : (told : Bool) → Plan → Plan
+where_told true plan = plan
+where_told false plan = refusing few_groups few_groups_text
+
+-- so the script is read behind the information, where this tells of begins and ends
+abbrev pub tree_scripted : RunNames → Module → Info → Plan
+tree_scripted names m info = where_told (tells_brackets info) (scripted names treed_plan m info)
+
+abbrev pub tree_informed : RunNames → Module → Plan
+tree_informed names m = reads (info_read names.info m) (tree_scripted names m)
+
+abbrev pub tree_plan : RunNames → Plan
+tree_plan names = reads (module_read names.subject wide_file wide) (tree_informed names)
+
+abbrev pub tree_mode : Mode
+tree_mode = record { name = codes "tree"; plan = λ (g : Given). option_map tree_plan (run_names g) }

@@ -1,0 +1,61 @@
+-- That the warnings of the mode `taint` are those of the original's run with marks.
+use Rattle.std.specs.Prelude.{◌≡◌, ℕ, ◌≤◌, List, length, ◌++◌, Option}
+use Rattle.outside_io.specs.Outside.{Contents}
+use Rattle.module_ast.specs.declared.module.Module.{Module}
+use Rattle.module_ast.specs.Limits.{narrow}
+use Rattle.wasm_sem.specs.declared.Script.{Script}
+use Rattle.wasm_sem.specs.Link.{IsScriptInRange, Links}
+use Rattle.wasm_sem.specs.Machine.{run_of}
+use Rattle.wasm_run.specs.Beside.{hosts_in}
+use Rattle.shadow_replay.specs.declared.Warning.{Warning}
+use Rattle.shadow_replay.specs.Taint.{Watch}
+use Rattle.shadow_replay.specs.Tagged.{tagged_of}
+use Rattle.instrument.specs.Accepted.{IsAccepted}
+use Rattle.instrument.specs.Made.{narrow_file}
+use Rattle.instrument.specs.Output.{output}
+use Rattle.instrument.specs.Same.{IsOver, IsPrefix}
+use Rattle.app_plan.specs.Plans.{Effect, does, LeadsTo}
+use Rattle.app_plan.specs.Wants.{Gives, module_read, script_read}
+use Rattle.wasabi_app.specs.Playing.{ending_text}
+use Rattle.wasabi_app.specs.Tainting.{warnings_told, warnings_text}
+use Rattle.wasabi_app.specs.Watching.{import_names}
+use Rattle.wasabi_app.specs.Modes.Taint.{TaintLine, taint_plan, watch_of}
+use Rattle.wasabi_app.specs.Modes.Trial.{all_hooks}
+
+-- how many host calls the first steps of a run make
+abbrev pub hosts_made : Module → Script → (steps : ℕ) → ℕ
+hosts_made m s n = hosts_in (run_of m s n)
+
+-- what the run with marks has warned of by a step
+abbrev pub warned_by : Module → Script → Watch → (steps : ℕ) → List Warning
+warned_by m s w n = (tagged_of m s w n).taint.warnings
+
+-- Within the script's steps the original makes as many host calls as its output o does, and whenever it has made so many,
+-- the run with marks has warned of just these. All that it warns of in the script's steps begins with them, and is them
+-- where the output's run is over.
+pub record AreTagged (m o : Module) (w : Watch) (s : Script) (warnings : List Warning) : Type 0 where
+  pub reached : (n : ℕ) × (n ≤ s.steps) × (hosts_made m s n ≡ hosts_made o s s.steps)
+  pub warned : (n : ℕ) → hosts_made m s n ≡ hosts_made o s s.steps → warnings ≡ warned_by m s w n
+  pub begun : IsPrefix warnings (warned_by m s w s.steps)
+  pub whole : IsOver o s s.steps → warnings ≡ warned_by m s w s.steps
+
+-- so it is for each accepted file and each script that links with its module, whatever is watched
+abbrev pub WarningsAreTagged : Type 0
+WarningsAreTagged =
+    (file : List ℕ) (m : Module) → IsAccepted file m → length file ≤ narrow_file
+    → (w : Watch) (s : Script) → IsScriptInRange s → Links m s
+    → AreTagged m (output m all_hooks) w s (warnings_told m w s)
+
+-- What is printed: the text of the output's run, and behind it these warnings.
+pub record PrintsTagged (held : Option Contents) (line : TaintLine) (effect : Effect) : Type 0 where
+  pub original : Module
+  pub script : Script
+  pub subject : Gives held (module_read line.subject narrow_file narrow) original
+  pub run_by : Gives held (script_read line.script) script
+  pub warnings : List Warning
+  pub tagged : AreTagged original (output original all_hooks) (watch_of line original) script warnings
+  pub text : effect.text ≡ ending_text (output original all_hooks) script ++ warnings_text (import_names original.imports) warnings
+
+-- so it is for each command whose plan leads to an effect
+abbrev pub TaintsTell : Type 0
+TaintsTell = (held : Option Contents) (line : TaintLine) (effect : Effect) → LeadsTo held (taint_plan line) (does effect) → PrintsTagged held line effect

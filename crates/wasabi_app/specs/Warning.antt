@@ -1,0 +1,88 @@
+-- How a run that a shadow follows ends.
+use Rattle.std.specs.Prelude.{◌≡◌, ℕ, ◌≤◌, List, length, map, None, Some, Err, string_bytes}
+use Rattle.module_ast.specs.declared.module.Module.{Module}
+use Rattle.module_ast.specs.Canonical.{module_bytes}
+use Rattle.module_ast.specs.Fits.{Fits}
+use Rattle.module_ast.specs.Limits.{IsComplete, narrow}
+use Rattle.module_ast.specs.Profile.{IsWithin}
+use Rattle.module_ast.specs.Validity.{IsValid}
+use Rattle.wasm_sem.specs.declared.Script.{Script}
+use Rattle.wasm_sem.specs.Link.{IsFree}
+use Rattle.static_info.specs.declared.Info.{Info}
+use Rattle.static_info.specs.Belongs.{Belongs}
+use Rattle.static_info.specs.Form.{IsWellFormed}
+use Rattle.static_info.specs.Info.{info_of}
+use Rattle.shadow_replay.specs.Taint.{Watch}
+use Rattle.instrument.specs.Made.{longest_output, narrow_file}
+use Rattle.instrument.specs.Output.{output}
+use Rattle.analyses.specs.Tools.{ToolState}
+use Rattle.app_plan.specs.declared.told.Printed.{Printed}
+use Rattle.app_plan.specs.declared.told.Refusal.{Refusal}
+use Rattle.app_plan.specs.Outcomes.{Yields}
+use Rattle.app_plan.specs.Plans.{Plan, finish_status}
+use Rattle.app_plan.specs.Printing.{ShelfState}
+use Rattle.wasabi_app.specs.declared.taint_mode.Watched.{Watched}
+use Rattle.wasabi_app.specs.Making.{output_length}
+use Rattle.wasabi_app.specs.Playing.{ending_finish}
+use Rattle.wasabi_app.specs.Watching.{import_names, listed, numbers_named}
+use Rattle.wasabi_app.specs.Modes.Instrument.{hooked}
+use Rattle.wasabi_app.specs.Modes.Taint.{TaintLine, unknown_in, known, taint_text}
+use Rattle.wasabi_app.specs.Modes.Trial.{all_hooks}
+
+-- what the mode reads a subject as: a valid module within the limits of modules that get hooks, of its sizes
+pub record IsFollowable (m : Module) : Type 0 where
+  pub valid : IsValid m
+  pub complete : IsComplete m
+  pub limits : IsWithin narrow m
+  pub fits : Fits m
+  pub short : length (module_bytes m) ≤ narrow_file
+
+-- ---- what is watched
+
+-- the names are known
+abbrev pub AreKnown : TaintLine → Module → Type 0
+AreKnown line m = unknown_in line (import_names m.imports) ≡ None
+
+-- one is not, whatever was to be done then
+abbrev pub IsUnknown : TaintLine → Module → Refusal → Type 0
+IsUnknown line m refusal =
+    (plan : Plan) (at : ShelfState) (tools : List ToolState)
+    → Yields (Some (known (unknown_in line (import_names m.imports)) plan)) at at tools tools (Err refusal)
+
+-- the imports have these names, and those of them that are in the lists are watched
+pub record IsWatchedOf (line : TaintLine) (names : List (List ℕ)) (watched : Watched) : Type 0 where
+  pub named : map string_bytes watched.names.items ≡ names
+  pub sources : watched.sources.items ≡ numbers_named (listed line.sources) 0 names
+  pub sinks : watched.sinks.items ≡ numbers_named (listed line.sinks) 0 names
+
+abbrev pub IsWatched : TaintLine → Module → Watched → Type 0
+IsWatched line m watched = IsWatchedOf line (import_names m.imports) watched
+
+abbrev pub watch_in : Watched → Watch
+watch_in watched = record { sources = watched.sources.items; sinks = watched.sinks.items }
+
+-- ---- the output
+
+-- the module is given hooks: the plan goes on
+abbrev pub GetsHooks : (subject : List ℕ) → Module → Type 0
+GetsHooks subject m = (plan : Plan) → hooked subject m (output_length m all_hooks) longest_output plan ≡ plan
+
+-- it is not, whatever was to be done then
+abbrev pub GetsNone : (subject : List ℕ) → Module → Refusal → Type 0
+GetsNone subject m refusal =
+    (plan : Plan) (at : ShelfState) (tools : List ToolState)
+    → Yields (Some (hooked subject m (output_length m all_hooks) longest_output plan)) at at tools tools (Err refusal)
+
+-- a module without hooks, its output with all of them, and the information on it
+pub record ArePaired (m o : Module) (info : Info) : Type 0 where
+  pub followable : IsFollowable m
+  pub free : IsFree m
+  pub is : o ≡ output m all_hooks
+  pub information : info ≡ info_of m all_hooks
+  pub formed : IsWellFormed info
+  pub belongs : Belongs info o
+
+-- what is told of the output's run by the script
+pub record IsWarned (w : Watch) (m : Module) (s : Script) (told : Printed) : Type 0 where
+  pub status : told.status ≡ finish_status (ending_finish (output m all_hooks) s)
+  pub text : told.text.items ≡ taint_text w m s
