@@ -61,7 +61,7 @@ def main():
     for path in sorted(glob.glob(os.path.join(TOP, "*.md")) + glob.glob(os.path.join(TOP, "*", "*.md"))):
         name = os.path.relpath(path, TOP)
         page = read(name)
-        for other in set(re.findall(r"\b(?:docs|examples|tests|bench)/\w+(?:\.(?:md|py|js|c|wasm|json|png|trace))?\b", page)):
+        for other in set(re.findall(r"\b(?:docs|examples|tests|bench)/\w+(?:\.(?:md|py|js|c|wasm|json|png|svg|trace))?\b", page)):
             if not os.path.exists(os.path.join(TOP, other)):
                 wrong.append("%s: there is no %s" % (name, other))
         for cell in cells(page):
