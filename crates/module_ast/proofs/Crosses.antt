@@ -5,7 +5,6 @@ use mathlib.Core.Path.{◌≡◌}
 use denote.RattleType.{RattleType}
 use denote.Hole.{as_row}
 use denote.Struct.Field.{row_field, u32-field, i32-field, i64-field}
-use denote.Builtin.{u32}
 use denote.Model.Cut.{rejoined}
 use denote.Model.Local.{Parts, rows}
 use denote.Model.Goals.{has_of, part_has}
@@ -14,7 +13,6 @@ use denote.Model.Marks.{tied_send, tied_sync}
 use denote.Param.Send.{IsSend, IsSync, recorded_send, recorded_sync, view_send, view_sync, sendable}
 use denote.Param.SendFields.{as_row_send, as_row_sync, declared_send, declared_sync, variants_send, variants_sync}
 use Rattle.std.proofs.Crossing.{crosses}
-use Rattle.std.specs.contracts.option.Option as Option
 use Rattle.wasm_num.specs.contracts.NumOp as NumOp
 use Rattle.module_ast.specs.declared.code.Code.TheDeep as deep
 use Rattle.module_ast.specs.declared.code.Code.TheView as view
@@ -60,20 +58,16 @@ num_op_send = as_row_send (row_field (as_row NumOp.the_field)) (variants_send Nu
 rejoined_send : (R : RattleType) (D : Type 0) (split : D → R.Denot) (join : R.Denot → D) (e : (d : D) → join (split d) ≡ d) → IsSend R → IsSend (rejoined R D split join e)
 rejoined_send R D split join e = search recorded_send
 
-option_send : (h : RattleType) → IsSend h → IsSend (Option.the_row h)
-option_send h s = search (sendable, crosses) depth 20
-
-instr_send : (h : RattleType) → IsSend h → IsSend (knot.layer-Instr h h h h)
+instr_send : (h : RattleType) → IsSend h → IsSend (knot.layer-Instr h h h h h)
 instr_send h s =
     let code : IsSend (as_row (row_field h)) = as_row_send (row_field h) s in
-    let option : IsSend (as_row (row_field (Option.the_row h))) = as_row_send (row_field (Option.the_row h)) (option_send h s) in
-    variants_send (knot.type-Instr h h h h) (search (u32_send, i32_send, i64_send, block_type_send, load_op_send, store_op_send, mem_arg_send, labels_send, num_op_send, code, option))
+    variants_send (knot.type-Instr h h h h h) (search (u32_send, i32_send, i64_send, block_type_send, load_op_send, store_op_send, mem_arg_send, labels_send, num_op_send, code))
 
 module _ (p : Parts knot.frame) where
   items_send : IsSend (rows knot.frame p deep.member-Code) → IsSend (knot.at-Code p)
   items_send s =
       let h = rows knot.frame p deep.member-Code in
-      let instr : IsSend (knot.at-Instr p) = rejoined_send (knot.layer-Instr h h h h) _ deep.split-Instr deep.join-Instr deep.joins-Instr (instr_send h s) in
+      let instr : IsSend (knot.at-Instr p) = rejoined_send (knot.layer-Instr h h h h h) _ deep.split-Instr deep.join-Instr deep.joins-Instr (instr_send h s) in
       rejoined_send (knot.layer-Code (knot.at-Instr p)) _ deep.split-Code deep.join-Code deep.joins-Code (declared_send (knot.type-Code (knot.at-Instr p)) (search (sendable, crosses), tt))
 
   layer_send : IsSend (rows knot.frame p deep.member-Code) → IsSend (rows knot.frame (knot.step p) deep.member-Code)
@@ -122,20 +116,16 @@ num_op_sync = as_row_sync (row_field (as_row NumOp.the_field)) (variants_sync Nu
 rejoined_sync : (R : RattleType) (D : Type 0) (split : D → R.Denot) (join : R.Denot → D) (e : (d : D) → join (split d) ≡ d) → IsSync R → IsSync (rejoined R D split join e)
 rejoined_sync R D split join e = search recorded_sync
 
-option_sync : (h : RattleType) → IsSync h → IsSync (Option.the_row h)
-option_sync h s = search (sendable, crosses) depth 20
-
-instr_sync : (h : RattleType) → IsSync h → IsSync (knot.layer-Instr h h h h)
+instr_sync : (h : RattleType) → IsSync h → IsSync (knot.layer-Instr h h h h h)
 instr_sync h s =
     let code : IsSync (as_row (row_field h)) = as_row_sync (row_field h) s in
-    let option : IsSync (as_row (row_field (Option.the_row h))) = as_row_sync (row_field (Option.the_row h)) (option_sync h s) in
-    variants_sync (knot.type-Instr h h h h) (search (u32_sync, i32_sync, i64_sync, block_type_sync, load_op_sync, store_op_sync, mem_arg_sync, labels_sync, num_op_sync, code, option))
+    variants_sync (knot.type-Instr h h h h h) (search (u32_sync, i32_sync, i64_sync, block_type_sync, load_op_sync, store_op_sync, mem_arg_sync, labels_sync, num_op_sync, code))
 
 module _ (p : Parts knot.frame) where
   items_sync : IsSync (rows knot.frame p deep.member-Code) → IsSync (knot.at-Code p)
   items_sync s =
       let h = rows knot.frame p deep.member-Code in
-      let instr : IsSync (knot.at-Instr p) = rejoined_sync (knot.layer-Instr h h h h) _ deep.split-Instr deep.join-Instr deep.joins-Instr (instr_sync h s) in
+      let instr : IsSync (knot.at-Instr p) = rejoined_sync (knot.layer-Instr h h h h h) _ deep.split-Instr deep.join-Instr deep.joins-Instr (instr_sync h s) in
       rejoined_sync (knot.layer-Code (knot.at-Instr p)) _ deep.split-Code deep.join-Code deep.joins-Code (declared_sync (knot.type-Code (knot.at-Instr p)) (search (sendable, crosses), tt))
 
   layer_sync : IsSync (rows knot.frame p deep.member-Code) → IsSync (rows knot.frame (knot.step p) deep.member-Code)

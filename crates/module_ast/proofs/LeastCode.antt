@@ -1,9 +1,9 @@
 -- The canonical bytes of code are the least that spell it.
-use Rattle.std.proofs.Common.{◌≡◌, ℕ, ◌≤◌, List, [], ◌∷◌, ◌++◌, length, ap, length-append, arith}
+use Rattle.std.proofs.Common.{◌≡◌, ℕ, ◌≤◌, pos, List, [], ◌∷◌, ◌++◌, length, ap, length-append, arith}
 use Rattle.wasm_num.specs.declared.ValType.{ValType}
 use Rattle.wasm_num.specs.declared.ValType.TheVariants.{I32, I64}
 use Rattle.module_ast.specs.declared.code.BlockType.{BlockType}
-use Rattle.module_ast.specs.declared.code.BlockType.TheVariants.{Empty, Value}
+use Rattle.module_ast.specs.declared.code.BlockType.TheVariants.{Empty, Value, Indexed}
 use Rattle.module_ast.specs.declared.ops.MemArg.{MemArg}
 use Rattle.leb_binary.specs.Shortest.{unsigned_bytes, signed_bytes}
 use Rattle.leb_binary.proofs.Lengths.{shortest_signed}
@@ -24,6 +24,7 @@ val_type_least bytes I64 h = omega (arith, ap length h)
 block_type_least : (bytes : List ℕ) (t : BlockType) → IsBlockType bytes (block_type_node t) → length (block_type_bytes t) ≤ length bytes
 block_type_least bytes Empty h = omega (arith, ap length h)
 block_type_least bytes (Value t) h = val_type_least bytes t h
+block_type_least bytes (Indexed x) h = shortest_signed 33 bytes (pos x) h
 
 -- an opcode and an index
 op_least : (op n : ℕ) (bytes : List ℕ) → IsOp op (λ rest. IsU32 rest n) bytes → length (op ∷ unsigned_bytes n) ≤ length bytes

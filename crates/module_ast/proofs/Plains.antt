@@ -2,7 +2,7 @@
 use Rattle.std.proofs.Common.{◌≡◌, ℕ, ◌+◌, ◌<◌, List, [], ◌∷◌, ◌++◌, length, drop, get_or, Option, Some, None, refl, sym, ap, ◌∙◌, arith}
 use Rattle.std.proofs.lemmas.List.{at_drop_more}
 use Rattle.module_ast.specs.declared.code.Instr.{Instr}
-use Rattle.module_ast.specs.declared.code.Instr.TheVariants.{Block, Loop, If}
+use Rattle.module_ast.specs.declared.code.Instr.TheVariants.{Block, Loop, If, IfElse}
 use Rattle.module_ast.specs.Tree.{Tree, done, plain, Plain, unreachable, weight}
 use Rattle.module_ast.specs.Positions.{code_size}
 use Rattle.module_ast.specs.Plains.{instr_of, plain_of, IsPlainInstr}
@@ -20,7 +20,8 @@ the_plain i = or_any (plain_of i)
 pub by_plain : (i : Instr) → IsPlainInstr i → (p : Plain) × (plain_of i ≡ Some p) × ((t : Tree) → before i t ≡ plain p t)
 by_plain (Block b a) h = absurd h
 by_plain (Loop b a) h = absurd h
-by_plain (If b a e) h = absurd h
+by_plain (If b a) h = absurd h
+by_plain (IfElse b a e) h = absurd h
 by_plain i h = (the_plain i, refl, λ t. refl)
 
 -- and a plain one has no sequence in it
@@ -38,11 +39,11 @@ pub next_instr : (is : List Instr) (k : ℕ) (i : Instr) → k < length is → i
 next_instr is k i h e = at_drop_more code_of is k i h ∙ ap (λ j. before j (code_of (drop (k + 1) is))) (sym e)
 
 pub weight_before : (i : Instr) (t : Tree) → weight (before i t) ≡ weight (before i done) + weight t
-weight_before (If b a None) t = omega arith
+weight_before (If b a) t = omega arith
 weight_before i t = omega arith
 
 pub size_before : (i : Instr) (t : Tree) → code_size (before i t) ≡ code_size (before i done) + code_size t
-size_before (If b a None) t = omega arith
+size_before (If b a) t = omega arith
 size_before i t = omega arith
 
 pub onto_append : (is js : List Instr) (t : Tree) → onto (is ++ js) t ≡ onto is (onto js t)

@@ -88,21 +88,25 @@ numbers_view = list_view grammar.integer number_back is_floating number_view
 abbrev pub block_type_back : grammar.BlockTypeNode → BlockType
 block_type_back grammar.empty = blocks.Empty
 block_type_back (grammar.value t) = blocks.Value (number_back t)
+block_type_back (grammar.indexed x) = blocks.Indexed x
 
 -- no block type of the program floats
 pub block_type_plain : (ty : BlockType) → block_floats (block_type_node ty) ≡ false
 block_type_plain blocks.Empty = refl
 block_type_plain (blocks.Value t) = refl
+block_type_plain (blocks.Indexed x) = refl
 
 -- a block type has one view
 pub block_type_alone : (ty : BlockType) → block_type_back (block_type_node ty) ≡ ty
 block_type_alone blocks.Empty = refl
 block_type_alone (blocks.Value t) = refl
+block_type_alone (blocks.Indexed x) = refl
 
 -- a block type that does not float is a view
 pub block_type_whole : (ty : grammar.BlockTypeNode) → block_floats ty ≡ false → block_type_node (block_type_back ty) ≡ ty
 block_type_whole grammar.empty p = refl
 block_type_whole (grammar.value t) p = ap grammar.value (number_whole t p)
+block_type_whole (grammar.indexed x) p = refl
 
 -- 5.4 instructions
 abbrev pub code_back : grammar.CodeNode → Tree

@@ -1,5 +1,5 @@
 -- A module that was read, from no more bytes than a file has and within limits on its nesting, is whole.
-use Rattle.std.proofs.Common.{ℕ, ◌≤◌, List, length, All, arith}
+use Rattle.std.proofs.Common.{ℕ, ◌≤◌, List, length, arith}
 use Rattle.std.proofs.lemmas.List.Elements.{All-weaker}
 use Rattle.module_ast.specs.declared.module.Body.{Body}
 use Rattle.module_ast.specs.declared.module.Module.{Module}

@@ -17,8 +17,8 @@ pub fn positions(code: &Code) -> u64
         n += match i {
             Instr::Block(_, a) => 1 + positions(a),
             Instr::Loop(_, a) => 1 + positions(a),
-            Instr::If(_, a, None) => 1 + positions(a),
-            Instr::If(_, a, Some(e)) => 1 + positions(a) + positions(e),
+            Instr::If(_, a) => 1 + positions(a),
+            Instr::IfElse(_, a, e) => 1 + positions(a) + positions(e),
             _ => 1,
         };
     }
@@ -35,8 +35,8 @@ pub fn nesting(code: &Code) -> u32
         let inside = match i {
             Instr::Block(_, a) => 1 + nesting(a),
             Instr::Loop(_, a) => 1 + nesting(a),
-            Instr::If(_, a, None) => 1 + nesting(a),
-            Instr::If(_, a, Some(e)) => 1 + nesting(a).max(nesting(e)),
+            Instr::If(_, a) => 1 + nesting(a),
+            Instr::IfElse(_, a, e) => 1 + nesting(a).max(nesting(e)),
             _ => 0,
         };
         n = n.max(inside);
