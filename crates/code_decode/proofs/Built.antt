@@ -1,5 +1,5 @@
 -- The bytes of a tree that is being built.
-use Rattle.std.proofs.Common.{◌≡◌, ℕ, List, [], ◌∷◌, ◌++◌, Some, None, refl, sym, ap, ◌∙◌, subst, append_assoc, append-nil}
+use Rattle.std.proofs.Common.{◌≡◌, ℕ, List, [], ◌∷◌, ◌++◌, refl, sym, ap, ◌∙◌, subst, append_assoc, append-nil}
 use Rattle.leb_binary.specs.Leb.{IsFront}
 use Rattle.module_ast.specs.Grammar as grammar
 use Rattle.module_ast.specs.Grammar.{IsBlockType, IsCode, IsExpr, IsPlain}
@@ -10,7 +10,7 @@ use Rattle.module_ast.specs.Tree.{Tree, done, Plain}
 use Rattle.module_ast.specs.Tokens.{Token, IsToken, plain_t, else_t, end_t}
 use Rattle.module_ast.specs.declared.code.BlockType.{BlockType}
 use Rattle.module_ast.specs.declared.code.Instr.{Instr}
-use Rattle.module_ast.specs.declared.code.Instr.TheVariants.{Block, Loop, If}
+use Rattle.module_ast.specs.declared.code.Instr.TheVariants.{Block, Loop, If, IfElse}
 use Rattle.module_ast.proofs.Plains.{the_plain, before_plain}
 use Rattle.code_decode.specs.Opened.{closed_instr}
 use Rattle.code_decode.specs.Steps.{IsKind}
@@ -43,8 +43,8 @@ instrs_join : (is : List Instr) (t : Tree) → code_node (onto is t) ≡ join (c
 instrs_join [] t = refl
 instrs_join (Block ty a ∷ is) t = ap (grammar.block (block_type_node ty) (code_node a)) (instrs_join is t)
 instrs_join (Loop ty a ∷ is) t = ap (grammar.loop (block_type_node ty) (code_node a)) (instrs_join is t)
-instrs_join (If ty a None ∷ is) t = ap (grammar.if_then (block_type_node ty) (code_node a)) (instrs_join is t)
-instrs_join (If ty a (Some e) ∷ is) t = ap (grammar.if_else (block_type_node ty) (code_node a) (code_node e)) (instrs_join is t)
+instrs_join (If ty a ∷ is) t = ap (grammar.if_then (block_type_node ty) (code_node a)) (instrs_join is t)
+instrs_join (IfElse ty a e ∷ is) t = ap (grammar.if_else (block_type_node ty) (code_node a) (code_node e)) (instrs_join is t)
 instrs_join (i ∷ is) t = ap (grammar.plain (the_plain i)) (instrs_join is t)
 
 -- these instructions have these bytes

@@ -1,3 +1,4 @@
+pub mod BlockTypes
 pub mod Bodies
 pub mod Bridges
 pub mod Built

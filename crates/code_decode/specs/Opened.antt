@@ -1,5 +1,4 @@
 -- What a sequence that is open becomes at its end.
-use Rattle.std.specs.Prelude.{Some, None}
 use Rattle.module_ast.specs.Tree.{Tree}
 use Rattle.module_ast.specs.declared.code.Instr.{Instr}
 use Rattle.module_ast.specs.declared.code.Instr.TheVariants as instrs
@@ -10,5 +9,5 @@ use Rattle.code_decode.specs.declared.token.Kind.TheVariants as kinds
 abbrev pub closed_instr : Kind → Tree → Instr
 closed_instr (kinds.Block ty) code = instrs.Block ty code
 closed_instr (kinds.Loop ty) code = instrs.Loop ty code
-closed_instr (kinds.Then ty) code = instrs.If ty code None
-closed_instr (kinds.Else ty then) code = instrs.If ty then (Some code)
+closed_instr (kinds.Then ty) code = instrs.If ty code
+closed_instr (kinds.Else ty then) code = instrs.IfElse ty then code

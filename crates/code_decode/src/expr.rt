@@ -45,8 +45,8 @@ fn close(kind: Kind, code: Code) -> Instr
     match kind {
         Kind::Block(ty) => Instr::Block(ty, code),
         Kind::Loop(ty) => Instr::Loop(ty, code),
-        Kind::Then(ty) => Instr::If(ty, code, None),
-        Kind::Else(ty, then) => Instr::If(ty, then, Some(code)),
+        Kind::Then(ty) => Instr::If(ty, code),
+        Kind::Else(ty, then) => Instr::IfElse(ty, then, code),
     }
 }
 

@@ -1,7 +1,8 @@
 // Bodies whose answers are known from the standard.
 
 use code_decode::{BodyFault, decode_body};
-use std::alloc::Global;
+use std::alloc::{AllocError, Global};
+use std::test::Fail;
 
 // What an answer is, in a word, where one block may be open.
 fn word(alloc: Global, bytes: &[u8]) -> &'static str {
@@ -38,4 +39,41 @@ fn short_bodies(rt: HostRuntime) {
     for &(bytes, want) in &BODIES {
         assert_eq!(rt; word(rt.alloc(), bytes), want);
     }
+}
+
+// The bytes of a block's type, and what a body is whose code is such a block.
+static BLOCK_TYPES: [(&[u8], &str); 11] = [
+    (&[0x40], "body"),
+    (&[0x7E], "body"),
+    (&[0x7C], "float"),
+    // indices: 63, 64, and the greatest
+    (&[0x3F], "body"),
+    (&[0xC0, 0x00], "body"),
+    (&[0xFF, 0xFF, 0xFF, 0xFF, 0x0F], "body"),
+    // a negative number that is no type
+    (&[0x70], "malformed"),
+    // those of no values and of i32, in two bytes
+    (&[0xC0, 0x7F], "malformed"),
+    (&[0xFF, 0x7F], "malformed"),
+    // 0 in six bytes, and 2^32
+    (&[0x80, 0x80, 0x80, 0x80, 0x80, 0x00], "malformed"),
+    (&[0x80, 0x80, 0x80, 0x80, 0x10], "malformed"),
+];
+
+// A body without locals, whose code is a block of this type with nothing in it.
+fn block_of(alloc: Global, ty: &[u8]) -> Result<Vec<u8>, AllocError> {
+    let mut body = Vec::new(alloc);
+    body.extend_from_slice(&[0x00, 0x02])?;
+    body.extend_from_slice(ty)?;
+    body.extend_from_slice(&[0x0B, 0x0B])?;
+    Ok(body)
+}
+
+#[test]
+fn types_of_blocks(rt: HostRuntime) -> Result<(), Fail> {
+    for &(ty, want) in &BLOCK_TYPES {
+        let body = block_of(rt.alloc(), ty)?;
+        assert_eq!(rt; word(rt.alloc(), &body), want);
+    }
+    Ok(())
 }

@@ -33,3 +33,30 @@ fn one_function(rt: HostRuntime) -> Result<(), Fail> {
     assert_eq!(rt; fault, EncodeFault::TooLarge { length: 32 });
     Ok(())
 }
+
+// A block of no values, one of a value, a loop and an `if` of a type with a parameter and two results, and a block whose
+// index, 64, names no type: read with padded indices, and written with each in its shortest spelling.
+#[test]
+#[tactic(auto, using(module_ast::proofs::LeastModules::module_least))]
+fn types_of_blocks(rt: HostRuntime) -> Result<(), Fail> {
+    let alloc = rt.alloc();
+    let padded = file_of(
+        alloc,
+        "010A02600000 60017F027F7E 03020100 0A2D012B00 02400B 027F41000B1A 41000381808080004200 0B1A1A 41004100040142000542010B1A1A 02C080000B 0B",
+    )?;
+    let want = file_of(
+        alloc,
+        "010A02600000 60017F027F7E 03020100 0A28012600 02400B 027F41000B1A 410003014200 0B1A1A 41004100040142000542010B1A1A 02C0000B 0B",
+    )?;
+    if padded.len() > 128 {
+        return Err("too long".into());
+    }
+    let Ok(module) = decode(alloc, &padded, &Limits::wide()) else {
+        return Err("no module".into());
+    };
+    let Ok(bytes) = encode(alloc, &module, 66) else {
+        return Err("no bytes".into());
+    };
+    assert_eq!(rt; bytes.as_slice(), want.as_slice());
+    Ok(())
+}

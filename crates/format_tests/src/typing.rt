@@ -15,7 +15,7 @@ const FRONT: &str = "010802 600000 60017F00 03030200 01";
 
 // Sections of two bodies without results, of which the first is empty, and the marks and the height of the second. It has an i32
 // as parameter, and two i64 as locals where nothing else is said.
-static LIVE: [(&str, &str, &[(u32, ValType)], u64); 9] = [
+static LIVE: [(&str, &str, &[(u32, ValType)], u64); 10] = [
     ("no instruction", "02 02000B 04 01 027E 0B", &[], 0),
     (
         "i32.const, drop",
@@ -41,6 +41,13 @@ static LIVE: [(&str, &str, &[(u32, ValType)], u64); 9] = [
         "02 02000B 0D 01 027E 4100 0240 4100 1A 0B 1A 0B",
         &[(3, ValType::I32), (5, ValType::I32)],
         2,
+    ),
+    // a block of the second type begins with its parameter
+    (
+        "i32.const, block, drop, end",
+        "02 02000B 0A 01 027E 4100 0201 1A 0B 0B",
+        &[(2, ValType::I32)],
+        1,
     ),
     // code behind a branch is not live, and code behind its block is
     (

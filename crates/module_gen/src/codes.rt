@@ -136,7 +136,7 @@ fn choice(alloc: Global, ty: ValType, if_so: u32, if_not: u32) -> Result<Vec<Ins
     let then_part = constant_code(alloc, ty, if_so)?;
     let else_part = constant_code(alloc, ty, if_not)?;
     let mut code = condition(alloc, ty)?;
-    code.push(Instr::If(BlockType::Value(ty), then_part, Some(else_part)))?;
+    code.push(Instr::IfElse(BlockType::Value(ty), then_part, else_part))?;
     code.push(Instr::LocalSet(0))?;
     Ok(code)
 }

@@ -1,8 +1,7 @@
 // Which quantities of a module are above their limits.
 
 ghost use Rattle.std.specs.Prelude.{◌≡◌, ◌<◌, ◌≤◌, ◌^◌, ◌++◌, ℕ, List, length, map, MatchOption};
-ghost use Rattle.module_ast.specs.Profile.{AreWithin, IsFirstAbove, IsFirstExceeded, bound_of, limited_counts, order_of, locals_of};
-ghost use Rattle.module_ast.specs.declared.module.FuncType.{FuncType};
+ghost use Rattle.module_ast.specs.Profile.{AreWithin, IsFirstAbove, IsFirstExceeded, bound_of, limited_counts, most_values, order_of, locals_of};
 ghost use Rattle.module_ast.specs.declared.module.Body.{Body};
 ghost use Rattle.module_ast.specs.declared.module.Which.{Which};
 ghost use Rattle.wasm_decode.specs.Counts.{AreFew};
@@ -10,12 +9,13 @@ ghost use Rattle.wasm_decode.specs.Counts.{AreFew};
 use module_ast::module::{Body, FuncType, Group, Limits, Module, Which};
 use module_ast::spaces::Counts;
 
-// The first number of parameters above the bound.
+// The first number of parameters above the bound, or of results where a type has more of these.
 fn first_parameters(types: &[FuncType], bound: u32) -> Option<u64>
-    ensures { MatchOption result (AreWithin bound (map (λ (t : FuncType). length t.params) types.now)) (IsFirstAbove bound (map (λ (t : FuncType). length t.params) types.now)) }
+    ensures { MatchOption result (AreWithin bound (map most_values types.now)) (IsFirstAbove bound (map most_values types.now)) }
 {
     for ty in types {
-        let count = ty.params.as_slice().len() as u64;
+        let params = ty.params.as_slice().len();
+        let count = params.max(ty.results.as_slice().len()) as u64;
         if count > bound as u64 {
             return Some(count);
         }

@@ -1,4 +1,5 @@
 mod Adding
+mod BlockTypes
 pub mod Outlines
 pub mod Rooms
 mod Fitting

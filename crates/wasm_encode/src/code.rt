@@ -6,7 +6,7 @@ ghost use Rattle.module_ast.specs.Tree.{Tree};
 ghost use Rattle.module_ast.specs.Seen.{before};
 ghost use Rattle.module_ast.specs.Canonical.{vec_bytes, mem_arg_bytes, block_type_bytes, code_bytes, expr_bytes};
 
-use crate::types::block_type_byte;
+use crate::types::put_block_type;
 use crate::vectors::put_vec;
 use leb_binary::{put_s32, put_s64, put_u32};
 use module_ast::code::{BlockType, Code, Instr};
@@ -93,12 +93,20 @@ pub fn put_code(out: &mut Vec<u8>, code: &Code) -> Result<(), AllocError>
     Ok(())
 }
 
+// Adds the opcode of a block, and the type of the block.
+fn put_opening(out: &mut Vec<u8>, opcode: u8, ty: BlockType) -> Result<(), AllocError>
+    ensures { OnOk result (out.new.items ≡ out.old.items ++ opcode ∷ block_type_bytes ty) }
+{
+    out.push(opcode)?;
+    put_block_type(out, ty)
+}
+
 // Adds a block, a loop, or an `if` with one part, and its `end`.
 #[cycle(code)]
 fn put_block(out: &mut Vec<u8>, opcode: u8, ty: BlockType, body: &Code) -> Result<(), AllocError>
     ensures { OnOk result (out.new.items ≡ out.old.items ++ opcode ∷ (block_type_bytes ty ++ code_bytes body.now ++ 0x0B ∷ [])) }
 {
-    put_two(out, opcode, block_type_byte(ty))?;
+    put_opening(out, opcode, ty)?;
     put_code(out, body)?;
     put_opcode(out, 0x0B)
 }
@@ -113,7 +121,7 @@ fn put_if_else(
 ) -> Result<(), AllocError>
     ensures { OnOk result (out.new.items ≡ out.old.items ++ 0x04 ∷ (block_type_bytes ty ++ code_bytes body.now ++ 0x05 ∷ (code_bytes other.now ++ 0x0B ∷ []))) }
 {
-    put_two(out, 0x04, block_type_byte(ty))?;
+    put_opening(out, 0x04, ty)?;
     put_code(out, body)?;
     put_opcode(out, 0x05)?;
     put_code(out, other)?;
@@ -130,8 +138,8 @@ fn put_instr(out: &mut Vec<u8>, instr: &Instr) -> Result<(), AllocError>
         Instr::Nop => put_opcode(out, 0x01),
         Instr::Block(ty, body) => put_block(out, 0x02, *ty, body),
         Instr::Loop(ty, body) => put_block(out, 0x03, *ty, body),
-        Instr::If(ty, body, None) => put_block(out, 0x04, *ty, body),
-        Instr::If(ty, body, Some(other)) => put_if_else(out, *ty, body, other),
+        Instr::If(ty, body) => put_block(out, 0x04, *ty, body),
+        Instr::IfElse(ty, body, other) => put_if_else(out, *ty, body, other),
         Instr::Br(label) => put_indexed(out, 0x0C, *label),
         Instr::BrIf(label) => put_indexed(out, 0x0D, *label),
         Instr::BrTable(labels, last) => put_table_branch(out, labels.as_slice(), *last),

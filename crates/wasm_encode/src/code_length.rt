@@ -10,6 +10,7 @@ ghost use Rattle.module_ast.specs.Canonical.{vec_bytes, mem_arg_bytes, code_byte
 ghost use Rattle.wasm_encode.specs.Lengths.{most_bytes};
 
 use crate::numbers::index_length;
+use crate::types::block_type_length;
 use leb_binary::{signed_length, unsigned_length};
 use module_ast::code::{Code, Instr};
 use module_ast::ops::MemArg;
@@ -101,10 +102,12 @@ fn instr_length(instr: &Instr) -> u64
     ensures fit { (t : Tree) → FitsCode t → FitsCode (before instr.now t) }
 {
     match instr {
-        Instr::Block(_, body) => 3 + code_length(body),
-        Instr::Loop(_, body) => 3 + code_length(body),
-        Instr::If(_, body, None) => 3 + code_length(body),
-        Instr::If(_, body, Some(other)) => 4 + code_length(body) + code_length(other),
+        Instr::Block(ty, body) => 2 + block_type_length(*ty) + code_length(body),
+        Instr::Loop(ty, body) => 2 + block_type_length(*ty) + code_length(body),
+        Instr::If(ty, body) => 2 + block_type_length(*ty) + code_length(body),
+        Instr::IfElse(ty, body, other) => {
+            3 + block_type_length(*ty) + code_length(body) + code_length(other)
+        }
         _ => plain_length(instr),
     }
 }

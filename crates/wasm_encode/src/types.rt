@@ -1,12 +1,12 @@
 // Value types, function types, limits and the types of globals (5.3).
 
-ghost use Rattle.std.specs.Prelude.{◌≡◌, [], ◌∷◌, ◌++◌, ◌<◌, ◌^◌, OnOk, length};
-ghost use Rattle.module_ast.specs.Fits.{FitsRange, FitsItem};
+ghost use Rattle.std.specs.Prelude.{◌≡◌, ◌++◌, ◌<◌, ◌≤◌, ◌^◌, OnOk, length};
+ghost use Rattle.module_ast.specs.Fits.{FitsBlockType, FitsRange, FitsItem};
 ghost use Rattle.module_ast.specs.Canonical.{val_type_byte, val_type_bytes, block_type_bytes, func_type_bytes, limits_bytes, table_bytes, global_type_bytes, item_bytes};
 
 use crate::numbers::index_length;
 use crate::vectors::{Encode, put_vec, vec_length};
-use leb_binary::put_u32;
+use leb_binary::{put_s33, put_u32, signed_length};
 use module_ast::code::BlockType;
 use module_ast::module::{FuncType, GlobalType, Item, Range};
 use std::alloc::AllocError;
@@ -22,13 +22,30 @@ pub fn val_type_byte(ty: ValType) -> u8
     }
 }
 
-/// The byte of a block's type (5.4.1).
-pub fn block_type_byte(ty: BlockType) -> u8
-    ensures { block_type_bytes ty ≡ result ∷ [] }
+/// How many bytes the type of a block has: 1 to 5.
+#[tactic(auto, using(crate::proofs::BlockTypes::index_five))]
+pub fn block_type_length(ty: BlockType) -> u64
+    ensures length { result ≡ length (block_type_bytes ty) }
+    ensures bound { result ≤ 5 }
+    ensures fit { FitsBlockType ty }
 {
     match ty {
-        BlockType::Empty => 0x40,
-        BlockType::Value(ty) => val_type_byte(ty),
+        BlockType::Empty | BlockType::Value(_) => 1,
+        BlockType::Indexed(index) => signed_length(i64::from(index)),
+    }
+}
+
+/// Adds the type of a block (5.4.1). An index is a signed number of 33 bits.
+pub fn put_block_type(out: &mut Vec<u8>, ty: BlockType) -> Result<(), AllocError>
+    ensures { OnOk result (out.new.items ≡ out.old.items ++ block_type_bytes ty) }
+{
+    match ty {
+        BlockType::Empty => {
+            out.push(0x40)?;
+            Ok(())
+        }
+        BlockType::Value(ty) => ty.put(out),
+        BlockType::Indexed(index) => put_s33(out, i64::from(index)),
     }
 }
 

@@ -1,9 +1,9 @@
 use Rattle.std.proofs.Common.{◌≤◌, length, drop}
 use Rattle.std.specs.Prelude.{map}
-use Rattle.module_ast.specs.declared.module.FuncType.{FuncType}
+use Rattle.module_ast.specs.Profile.{most_values}
 use Rattle.wasm_decode.proofs.Continues.{Continues}
 use Rattle.wasm_decode.proofs.limits.first_parameters.Given as goal
 
 abbrev pub invariant-loop-ty : goal.invariant-loop-ty
 invariant-loop-ty l =
-    (l.ty-index ≤ length l.types) × Continues l.bound (map (λ (t : FuncType). length t.params) (drop l.ty-index l.types)) (map (λ (t : FuncType). length t.params) l.types)
+    (l.ty-index ≤ length l.types) × Continues l.bound (map most_values (drop l.ty-index l.types)) (map most_values l.types)

@@ -15,11 +15,11 @@ put_instr-returns-in-Block t c = grind (arith, common_steps)
 pub put_instr-returns-in-Loop : goal.put_instr-returns-in-Loop
 put_instr-returns-in-Loop t c = grind (arith, common_steps)
 
-pub put_instr-returns-in-If-default-default-None : goal.put_instr-returns-in-If-default-default-None
-put_instr-returns-in-If-default-default-None t c = grind (arith, common_steps)
+pub put_instr-returns-in-If : goal.put_instr-returns-in-If
+put_instr-returns-in-If t c = grind (arith, common_steps)
 
-pub put_instr-returns-in-If-default-default-Some : goal.put_instr-returns-in-If-default-default-Some
-put_instr-returns-in-If-default-default-Some t c = grind (arith, common_steps)
+pub put_instr-returns-in-IfElse : goal.put_instr-returns-in-IfElse
+put_instr-returns-in-IfElse t c = grind (arith, common_steps)
 
 pub put_instr-returns-in-Br : goal.put_instr-returns-in-Br
 put_instr-returns-in-Br t c = grind (arith, common_steps)

@@ -24,17 +24,17 @@ instr_length-returns-in-Loop-clause-length t c = grind (arith, common_steps)
 pub instr_length-returns-in-Loop-clause-fit : goal.instr_length-returns-in-Loop-clause-fit
 instr_length-returns-in-Loop-clause-fit t c = grind (arith, common_steps)
 
-pub instr_length-returns-in-If-default-default-None-clause-length : goal.instr_length-returns-in-If-default-default-None-clause-length
-instr_length-returns-in-If-default-default-None-clause-length t c = grind (arith, common_steps)
+pub instr_length-returns-in-If-clause-length : goal.instr_length-returns-in-If-clause-length
+instr_length-returns-in-If-clause-length t c = grind (arith, common_steps)
 
-pub instr_length-returns-in-If-default-default-None-clause-fit : goal.instr_length-returns-in-If-default-default-None-clause-fit
-instr_length-returns-in-If-default-default-None-clause-fit t c = grind (arith, common_steps)
+pub instr_length-returns-in-If-clause-fit : goal.instr_length-returns-in-If-clause-fit
+instr_length-returns-in-If-clause-fit t c = grind (arith, common_steps)
 
-pub instr_length-returns-in-If-default-default-Some-clause-length : goal.instr_length-returns-in-If-default-default-Some-clause-length
-instr_length-returns-in-If-default-default-Some-clause-length t c = grind (arith, common_steps)
+pub instr_length-returns-in-IfElse-clause-length : goal.instr_length-returns-in-IfElse-clause-length
+instr_length-returns-in-IfElse-clause-length t c = grind (arith, common_steps)
 
-pub instr_length-returns-in-If-default-default-Some-clause-fit : goal.instr_length-returns-in-If-default-default-Some-clause-fit
-instr_length-returns-in-If-default-default-Some-clause-fit t c = grind (arith, common_steps)
+pub instr_length-returns-in-IfElse-clause-fit : goal.instr_length-returns-in-IfElse-clause-fit
+instr_length-returns-in-IfElse-clause-fit t c = grind (arith, common_steps)
 
 pub instr_length-returns-in_default : goal.instr_length-returns-in_default
 instr_length-returns-in_default t c = grind (arith, common_steps)
