@@ -1,9 +1,9 @@
 -- The sizes of the blocks of a sequence, from its instructions.
-use Rattle.std.proofs.Common.{◌≡◌, ℕ, ◌+◌, ◌<◌, ◌≤◌, List, [], ◌∷◌, ◌++◌, length, drop, get_or, refl, sym, ap, subst, zero, suc, ◌∙◌, arith, append_assoc, Some, None}
+use Rattle.std.proofs.Common.{◌≡◌, ℕ, ◌+◌, ◌<◌, ◌≤◌, List, [], ◌∷◌, ◌++◌, length, drop, get_or, refl, sym, ap, subst, zero, suc, ◌∙◌, arith, append_assoc}
 use Rattle.std.specs.Prelude.{reverse}
 use Rattle.std.proofs.lemmas.List.{reverse-append, append-nil, drop_all}
 use Rattle.module_ast.specs.declared.code.Instr.{Instr}
-use Rattle.module_ast.specs.declared.code.Instr.TheVariants.{Block, Loop, If}
+use Rattle.module_ast.specs.declared.code.Instr.TheVariants.{Block, Loop, If, IfElse}
 use Rattle.module_ast.specs.Tree.{Tree, done, weight}
 use Rattle.module_ast.specs.Seen.{before, code_of}
 use Rattle.module_ast.specs.Positions.{code_size, code_nesting}
@@ -14,8 +14,8 @@ one_more : (a t : Tree) → code_size a ∷ (block_sizes a ++ block_sizes t) ≡
 one_more a t = ap (λ l. code_size a ∷ (l ++ block_sizes t)) (sym (append-nil (block_sizes a)))
 
 pub sizes_before : (i : Instr) (t : Tree) → block_sizes (before i t) ≡ block_sizes (before i done) ++ block_sizes t
-sizes_before (If b a None) t = one_more a t
-sizes_before (If b a (Some e)) t =
+sizes_before (If b a) t = one_more a t
+sizes_before (IfElse b a e) t =
     ap (λ l. code_size a ∷ code_size e ∷ l) (ap (λ l. block_sizes a ++ (l ++ block_sizes t)) (sym (append-nil (block_sizes e))) ∙ sym (append_assoc (block_sizes a) (block_sizes e ++ []) (block_sizes t)))
 sizes_before (Block b a) t = one_more a t
 sizes_before (Loop b a) t = one_more a t
@@ -28,11 +28,11 @@ pub record IsAtMost (i : Instr) (t : Tree) : Type 0 where
   pub weight : weight (before i done) ≤ weight t
 
 at_most_first : (i : Instr) (t : Tree) → IsAtMost i (before i t)
-at_most_first (If b a None) t = record { size = omega arith; nesting = omega arith; weight = omega arith }
+at_most_first (If b a) t = record { size = omega arith; nesting = omega arith; weight = omega arith }
 at_most_first i t = record { size = omega arith; nesting = omega arith; weight = omega arith }
 
 at_most_behind : (j i : Instr) (t : Tree) → IsAtMost i t → IsAtMost i (before j t)
-at_most_behind (If b a None) i t h = record { size = omega arith; nesting = omega arith; weight = omega arith }
+at_most_behind (If b a) i t h = record { size = omega arith; nesting = omega arith; weight = omega arith }
 at_most_behind j i t h = record { size = omega arith; nesting = omega arith; weight = omega arith }
 
 at_most_drop : (k : ℕ) (is : List Instr) (i : Instr) → IsAtMost i (code_of (drop k is)) → IsAtMost i (code_of is)

@@ -21,12 +21,12 @@ fn note_instr(instr: &Instr, sizes: &mut Vec<u32>) -> Result<u32, AllocError>
     ensures noted { OnOk result (reverse sizes.new.items ≡ block_sizes (before instr.now done) ++ reverse sizes.old.items) }
 {
     match instr {
-        Instr::Block(_, body) | Instr::Loop(_, body) | Instr::If(_, body, None) => {
+        Instr::Block(_, body) | Instr::Loop(_, body) | Instr::If(_, body) => {
             let size = note_sizes(body, sizes)?;
             sizes.push(size)?;
             Ok(size + 2)
         }
-        Instr::If(_, body, Some(other)) => {
+        Instr::IfElse(_, body, other) => {
             let other_size = note_sizes(other, sizes)?;
             let size = note_sizes(body, sizes)?;
             sizes.push(other_size)?;

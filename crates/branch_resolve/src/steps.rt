@@ -154,8 +154,8 @@ impl<'m> Steps<'m> {
         let place = match first {
             Instr::Block(_, body) => self.open(BlockKind::Block, body, behind)?,
             Instr::Loop(_, body) => self.open(BlockKind::Loop, body, behind)?,
-            Instr::If(_, body, None) => self.open(BlockKind::If, body, behind)?,
-            Instr::If(_, body, Some(other)) => self.open_two(body, other, behind)?,
+            Instr::If(_, body) => self.open(BlockKind::If, body, behind)?,
+            Instr::IfElse(_, body, other) => self.open_two(body, other, behind)?,
             _ => self.act(first, behind),
         };
         Ok(Some(place))

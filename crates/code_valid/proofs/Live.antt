@@ -3,17 +3,18 @@ use Rattle.std.proofs.Common.{◌≡◌, ℕ, suc, ◌+◌, List, [], ◌∷◌,
 use Rattle.std.specs.Prelude.{option_map, option_and_then}
 use Rattle.wasm_num.specs.declared.ValType.{ValType}
 use Rattle.wasm_num.specs.declared.ValType.TheVariants.{I32, I64}
+use Rattle.module_ast.specs.declared.code.BlockType.{BlockType}
 use Rattle.module_ast.specs.declared.module.GlobalType.{GlobalType}
 use Rattle.module_ast.specs.declared.module.FuncType.{FuncType}
 use Rattle.module_ast.specs.Tree.{Tree, done, plain, block, loop, if_then, if_else, Plain, unreachable, br_table, br_if, br, return_, call_indirect, call, drop_, select, local_get, local_set, local_tee, global_get, global_set, load, store, memory_size, memory_grow}
 use Rattle.module_ast.specs.Positions.{goes_on, code_size, ends_live}
 use Rattle.module_ast.specs.Shapes.{load_type, load_width, store_type, store_width}
-use Rattle.module_ast.specs.Typing.{Context, inside, block_results, push, TypesPlain, TypesCode}
+use Rattle.module_ast.specs.Typing.{Context, inside, block_type, push, TypesPlain, TypesCode}
 use Rattle.module_ast.specs.Marks.{Mark}
 use Rattle.module_ast.specs.LiveMarks.{marks_at, HasMarks}
-use Rattle.code_valid.specs.Checking.{BlockStack, fresh, take_type, take_types, put_types, Effect, refuses, turns, stops, drops, selects, with_some, effect_if, is_some_list, is_aligned, stack_effect, apply, is_empty, only_if, ends_with, check, place_marks, option_or, marks_of, height_of}
+use Rattle.code_valid.specs.Checking.{BlockStack, take_type, take_types, put_types, Effect, refuses, turns, stops, drops, selects, with_some, effect_if, is_some_list, is_aligned, stack_effect, apply, same_types, only_if, ends_with, starting, block_effect, if_effect, check, place_marks, option_or, block_takes, if_takes, marks_of, height_of}
 use Rattle.code_valid.specs.Instance.{known_types}
-use Rattle.code_valid.proofs.Exact.{Typed, effect_sound, body_sound, check_exact}
+use Rattle.code_valid.proofs.Exact.{Typed, same_types_by, push_last, effect_sound, body_sound, check_exact}
 
 -- ---- all types stay known
 
@@ -94,22 +95,55 @@ unseen : (p : ℕ) (i : Plain) (x y : List (Option ValType)) → place_marks fal
 unseen p drop_ x y = refl
 unseen p i x y = refl
 
+typed_all : {A : Type 0} (d : A) (takes : FuncType → List ValType) (a : BlockStack) (f : FuncType → BlockStack → A) (o : Option FuncType)
+    → ((t : FuncType) (b : BlockStack) → f t b ≡ d) → option_or d (λ (t : FuncType). option_or d (f t) (take_types (takes t) a)) o ≡ d
+typed_all d takes a f None h = refl
+typed_all d takes a f (Some t) h = or_else_all d (f t) (take_types (takes t) a) (h t)
+
+-- what a branch to a block takes: the results, or the starts of a loop
+abbrev label_results : FuncType → List ValType
+label_results t = t.results
+
+abbrev label_starts : FuncType → List ValType
+label_starts t = t.params
+
+-- what is noted of a block and behind it
+abbrev block_notes : Context → (live : Bool) → (p : ℕ) → (label : FuncType → List ValType) → (body k : Tree) → FuncType → BlockStack → List Mark
+block_notes c live p label body k t b =
+    marks_of (inside c (label t)) live (p + 1) body (starting t) ++ marks_of c live (p + code_size body + 2) k (put_types t.results b)
+
+abbrev else_notes : Context → (live : Bool) → (p : ℕ) → (body other k : Tree) → FuncType → BlockStack → List Mark
+else_notes c live p body other k t b =
+    marks_of (inside c t.results) live (p + 1) body (starting t)
+    ++ marks_of (inside c t.results) live (p + code_size body + 2) other (starting t)
+    ++ marks_of c live (p + code_size body + code_size other + 3) k (put_types t.results b)
+
+abbrev block_most : Context → (live : Bool) → (below : ℕ) → (label : FuncType → List ValType) → (body k : Tree) → FuncType → BlockStack → ℕ
+block_most c live below label body k t b =
+    max (height_of (inside c (label t)) live (below + length b.ops) body (starting t)) (height_of c live below k (put_types t.results b))
+
+abbrev else_most : Context → (live : Bool) → (below : ℕ) → (body other k : Tree) → FuncType → BlockStack → ℕ
+else_most c live below body other k t b =
+    max (max (height_of (inside c t.results) live (below + length b.ops) body (starting t)) (height_of (inside c t.results) live (below + length b.ops) other (starting t)))
+    (height_of c live below k (put_types t.results b))
+
 silent_marks : (c : Context) (p : ℕ) (k : Tree) (a : BlockStack) → marks_of c false p k a ≡ []
 silent_marks c p done a = refl
 silent_marks c p (plain i k) a = or_else_all [] (λ (b : BlockStack). place_marks false p i a.ops b.ops ++ marks_of c false (p + 1) k b) (apply (stack_effect c i) a) (λ b. ap₂ (λ x y. x ++ y) (unseen p i a.ops b.ops) (silent_marks c (p + 1) k b))
 silent_marks c p (block ty body k) a =
-    ap₂ (λ x y. x ++ y) (silent_marks (inside c (block_results ty)) (p + 1) body fresh) (silent_marks c (p + code_size body + 2) k (put_types (block_results ty) a))
+    typed_all [] block_takes a (block_notes c false p label_results body k) (block_type c.types ty)
+    (λ t b. ap₂ (λ x y. x ++ y) (silent_marks (inside c t.results) (p + 1) body (starting t)) (silent_marks c (p + code_size body + 2) k (put_types t.results b)))
 silent_marks c p (loop ty body k) a =
-    ap₂ (λ x y. x ++ y) (silent_marks (inside c []) (p + 1) body fresh) (silent_marks c (p + code_size body + 2) k (put_types (block_results ty) a))
+    typed_all [] block_takes a (block_notes c false p label_starts body k) (block_type c.types ty)
+    (λ t b. ap₂ (λ x y. x ++ y) (silent_marks (inside c t.params) (p + 1) body (starting t)) (silent_marks c (p + code_size body + 2) k (put_types t.results b)))
 silent_marks c p (if_then ty body k) a =
-    or_else_all [] (λ (b : BlockStack). marks_of (inside c []) false (p + 1) body fresh ++ marks_of c false (p + code_size body + 2) k (put_types (block_results ty) b)) (take_type I32 a)
-    (λ b. ap₂ (λ x y. x ++ y) (silent_marks (inside c []) (p + 1) body fresh) (silent_marks c (p + code_size body + 2) k (put_types (block_results ty) b)))
+    typed_all [] if_takes a (block_notes c false p label_results body k) (block_type c.types ty)
+    (λ t b. ap₂ (λ x y. x ++ y) (silent_marks (inside c t.results) (p + 1) body (starting t)) (silent_marks c (p + code_size body + 2) k (put_types t.results b)))
 silent_marks c p (if_else ty body other k) a =
-    let d = inside c (block_results ty) in
-    or_else_all [] (λ (b : BlockStack). marks_of d false (p + 1) body fresh ++ marks_of d false (p + code_size body + 2) other fresh ++ marks_of c false (p + code_size body + code_size other + 3) k (put_types (block_results ty) b)) (take_type I32 a)
-    (λ b. ap₂ (λ x y. x ++ y)
-    (ap₂ (λ x y. x ++ y) (silent_marks d (p + 1) body fresh) (silent_marks d (p + code_size body + 2) other fresh))
-    (silent_marks c (p + code_size body + code_size other + 3) k (put_types (block_results ty) b)))
+    typed_all [] if_takes a (else_notes c false p body other k) (block_type c.types ty)
+    (λ t b. ap₂ (λ x y. x ++ y)
+    (ap₂ (λ x y. x ++ y) (silent_marks (inside c t.results) (p + 1) body (starting t)) (silent_marks (inside c t.results) (p + code_size body + 2) other (starting t)))
+    (silent_marks c (p + code_size body + code_size other + 3) k (put_types t.results b)))
 
 no_most : (a b : ℕ) → a ≡ 0 → b ≡ 0 → max a b ≡ 0
 no_most a b h k = omega arith
@@ -118,17 +152,19 @@ silent_height : (c : Context) (below : ℕ) (k : Tree) (a : BlockStack) → heig
 silent_height c below done a = refl
 silent_height c below (plain i k) a = no_most 0 _ refl (or_else_all 0 (height_of c false below k) (apply (stack_effect c i) a) (λ b. silent_height c below k b))
 silent_height c below (block ty body k) a =
-    no_most _ _ (silent_height (inside c (block_results ty)) (below + length a.ops) body fresh) (silent_height c below k (put_types (block_results ty) a))
+    typed_all 0 block_takes a (block_most c false below label_results body k) (block_type c.types ty)
+    (λ t b. no_most _ _ (silent_height (inside c t.results) (below + length b.ops) body (starting t)) (silent_height c below k (put_types t.results b)))
 silent_height c below (loop ty body k) a =
-    no_most _ _ (silent_height (inside c []) (below + length a.ops) body fresh) (silent_height c below k (put_types (block_results ty) a))
+    typed_all 0 block_takes a (block_most c false below label_starts body k) (block_type c.types ty)
+    (λ t b. no_most _ _ (silent_height (inside c t.params) (below + length b.ops) body (starting t)) (silent_height c below k (put_types t.results b)))
 silent_height c below (if_then ty body k) a =
-    no_most 0 _ refl (or_else_all 0 (λ (b : BlockStack). max (height_of (inside c []) false (below + length b.ops) body fresh) (height_of c false below k (put_types (block_results ty) b))) (take_type I32 a)
-    (λ b. no_most _ _ (silent_height (inside c []) (below + length b.ops) body fresh) (silent_height c below k (put_types (block_results ty) b))))
+    no_most 0 _ refl (typed_all 0 if_takes a (block_most c false below label_results body k) (block_type c.types ty)
+    (λ t b. no_most _ _ (silent_height (inside c t.results) (below + length b.ops) body (starting t)) (silent_height c below k (put_types t.results b))))
 silent_height c below (if_else ty body other k) a =
-    let d = inside c (block_results ty) in
-    no_most 0 _ refl (or_else_all 0 (λ (b : BlockStack). max (max (height_of d false (below + length b.ops) body fresh) (height_of d false (below + length b.ops) other fresh)) (height_of c false below k (put_types (block_results ty) b))) (take_type I32 a)
-    (λ b. no_most _ _ (no_most _ _ (silent_height d (below + length b.ops) body fresh) (silent_height d (below + length b.ops) other fresh))
-    (silent_height c below k (put_types (block_results ty) b))))
+    no_most 0 _ refl (typed_all 0 if_takes a (else_most c false below body other k) (block_type c.types ty)
+    (λ t b. no_most _ _
+    (no_most _ _ (silent_height (inside c t.results) (below + length b.ops) body (starting t)) (silent_height (inside c t.results) (below + length b.ops) other (starting t)))
+    (silent_height c below k (put_types t.results b))))
 
 -- ---- one instruction
 
@@ -191,70 +227,132 @@ plain_has c below p i k s u t h true e =
     (u, marks_of c true (p + 1) k (known_types u), height_of c true below k (known_types u), t, h, goes_marks c p i k s u e t, goes_height c below i k s u e t)
 plain_has c below p i k s u t h false e = (stopped_marks c p i k s e, stopped_height c below i k s e)
 
+-- a block of a known type whose starts are known
+block_known : (t : FuncType) (s under : List ValType) → s ≡ push t.params under → take_types (block_takes t) (known_types s) ≡ Some (known_types under)
+block_known t s under f = ap (λ z. take_types t.params (known_types z)) f ∙ pop_all_known t.params under
+
+if_known : (t : FuncType) (s under : List ValType) → s ≡ I32 ∷ push t.params under → take_types (if_takes t) (known_types s) ≡ Some (known_types under)
+if_known t s under f =
+    ap (λ z. take_types (t.params ++ I32 ∷ []) (known_types z)) (f ∙ sym (push_last t.params I32 under)) ∙ pop_all_known (t.params ++ I32 ∷ []) under
+
+found_in : {A : Type 0} (d : A) (takes : FuncType → List ValType) (a b : BlockStack) (t : FuncType) (f : FuncType → BlockStack → A) (o : Option FuncType)
+    → o ≡ Some t → take_types (takes t) a ≡ Some b → option_or d (λ (t : FuncType). option_or d (f t) (take_types (takes t) a)) o ≡ f t b
+found_in d takes a b t f o e g = ap (option_or d (λ (t : FuncType). option_or d (f t) (take_types (takes t) a))) e ∙ ap (option_or d (f t)) g
+
+known_notes : (c : Context) (p : ℕ) (label takes : FuncType → List ValType) (ty : BlockType) (body k : Tree) (t : FuncType) (s under : List ValType)
+    → block_type c.types ty ≡ Some t → take_types (takes t) (known_types s) ≡ Some (known_types under)
+    → option_or [] (λ (t : FuncType). option_or [] (block_notes c true p label body k t) (take_types (takes t) (known_types s))) (block_type c.types ty)
+    ≡ marks_of (inside c (label t)) true (p + 1) body (known_types (push t.params [])) ++ marks_of c true (p + code_size body + 2) k (known_types (push t.results under))
+known_notes c p label takes ty body k t s under e g =
+    found_in [] takes (known_types s) (known_types under) t (block_notes c true p label body k) (block_type c.types ty) e g
+    ∙ ap₂ (λ x y. marks_of (inside c (label t)) true (p + 1) body x ++ marks_of c true (p + code_size body + 2) k y) (push_all_known t.params []) (push_all_known t.results under)
+
+known_most : (c : Context) (below : ℕ) (label takes : FuncType → List ValType) (ty : BlockType) (body k : Tree) (t : FuncType) (s under : List ValType)
+    → block_type c.types ty ≡ Some t → take_types (takes t) (known_types s) ≡ Some (known_types under)
+    → option_or 0 (λ (t : FuncType). option_or 0 (block_most c true below label body k t) (take_types (takes t) (known_types s))) (block_type c.types ty)
+    ≡ max (height_of (inside c (label t)) true (below + length under) body (known_types (push t.params []))) (height_of c true below k (known_types (push t.results under)))
+known_most c below label takes ty body k t s under e g =
+    found_in 0 takes (known_types s) (known_types under) t (block_most c true below label body k) (block_type c.types ty) e g
+    ∙ ap₂ (λ n z. max (height_of (inside c (label t)) true (below + n) body (starting t)) (height_of c true below k z)) (length_known under) (push_all_known t.results under)
+    ∙ ap (λ z. max (height_of (inside c (label t)) true (below + length under) body z) (height_of c true below k (known_types (push t.results under)))) (push_all_known t.params [])
+
+known_else_notes : (c : Context) (p : ℕ) (ty : BlockType) (body other k : Tree) (t : FuncType) (s under : List ValType)
+    → block_type c.types ty ≡ Some t → take_types (if_takes t) (known_types s) ≡ Some (known_types under)
+    → option_or [] (λ (t : FuncType). option_or [] (else_notes c true p body other k t) (take_types (if_takes t) (known_types s))) (block_type c.types ty)
+    ≡ marks_of (inside c t.results) true (p + 1) body (known_types (push t.params []))
+    ++ marks_of (inside c t.results) true (p + code_size body + 2) other (known_types (push t.params []))
+    ++ marks_of c true (p + code_size body + code_size other + 3) k (known_types (push t.results under))
+known_else_notes c p ty body other k t s under e g =
+    found_in [] if_takes (known_types s) (known_types under) t (else_notes c true p body other k) (block_type c.types ty) e g
+    ∙ ap₂ (λ x y. marks_of (inside c t.results) true (p + 1) body x ++ marks_of (inside c t.results) true (p + code_size body + 2) other x ++ marks_of c true (p + code_size body + code_size other + 3) k y)
+    (push_all_known t.params []) (push_all_known t.results under)
+
+known_else_most : (c : Context) (below : ℕ) (ty : BlockType) (body other k : Tree) (t : FuncType) (s under : List ValType)
+    → block_type c.types ty ≡ Some t → take_types (if_takes t) (known_types s) ≡ Some (known_types under)
+    → option_or 0 (λ (t : FuncType). option_or 0 (else_most c true below body other k t) (take_types (if_takes t) (known_types s))) (block_type c.types ty)
+    ≡ max (max (height_of (inside c t.results) true (below + length under) body (known_types (push t.params []))) (height_of (inside c t.results) true (below + length under) other (known_types (push t.params []))))
+    (height_of c true below k (known_types (push t.results under)))
+known_else_most c below ty body other k t s under e g =
+    found_in 0 if_takes (known_types s) (known_types under) t (else_most c true below body other k) (block_type c.types ty) e g
+    ∙ ap₂ (λ n z. max (max (height_of (inside c t.results) true (below + n) body (starting t)) (height_of (inside c t.results) true (below + n) other (starting t))) (height_of c true below k z))
+    (length_known under) (push_all_known t.results under)
+    ∙ ap (λ z. max (max (height_of (inside c t.results) true (below + length under) body z) (height_of (inside c t.results) true (below + length under) other z)) (height_of c true below k (known_types (push t.results under))))
+    (push_all_known t.params [])
+
 pub typed_marks : (c : Context) (below p : ℕ) (k : Tree) (s u : List ValType) → TypesCode c k s u → HasMarks c below p k s (marks_of c true p k (known_types s)) (height_of c true below k (known_types s))
 typed_marks c below p done s u t = (refl, ap (λ z. below + z) (length_known s))
 typed_marks c below p (plain i k) s u (m, t, r) = plain_has c below p i k s m t (typed_marks c below (p + 1) k m u r) (goes_on i) refl
-typed_marks c below p (block ty body k) s u (t, r) =
-    let rs = block_results ty in
-    let d = inside c rs in
-    let q = p + code_size body + 2 in (
-      marks_of d true (p + 1) body fresh,
-      marks_of c true q k (known_types (push rs s)),
-      height_of d true (below + length s) body fresh,
-      height_of c true below k (known_types (push rs s)),
-      typed_marks d (below + length s) (p + 1) body [] (push rs []) t,
-      typed_marks c below q k (push rs s) u r,
-      ap (λ z. marks_of d true (p + 1) body fresh ++ marks_of c true q k z) (push_all_known rs s),
-      ap₂ (λ n z. max (height_of d true (below + n) body fresh) (height_of c true below k z)) (length_known s) (push_all_known rs s),
-    )
-typed_marks c below p (loop ty body k) s u (t, r) =
-    let rs = block_results ty in
-    let d = inside c [] in
-    let q = p + code_size body + 2 in (
-      marks_of d true (p + 1) body fresh,
-      marks_of c true q k (known_types (push rs s)),
-      height_of d true (below + length s) body fresh,
-      height_of c true below k (known_types (push rs s)),
-      typed_marks d (below + length s) (p + 1) body [] (push rs []) t,
-      typed_marks c below q k (push rs s) u r,
-      ap (λ z. marks_of d true (p + 1) body fresh ++ marks_of c true q k z) (push_all_known rs s),
-      ap₂ (λ n z. max (height_of d true (below + n) body fresh) (height_of c true below k z)) (length_known s) (push_all_known rs s),
-    )
-typed_marks c below p (if_then ty body k) s u (e, under, f, t, r) =
-    let rs = block_results ty in
-    let d = inside c [] in
+typed_marks c below p (block ty body k) s u (t, under, e, f, b, r) =
+    let d = inside c t.results in
     let q = p + code_size body + 2 in
-    subst (λ z. HasMarks c below p (if_then ty body k) z (marks_of c true p (if_then ty body k) (known_types z)) (height_of c true below (if_then ty body k) (known_types z))) (sym f) (
+    let g = block_known t s under f in (
+      t,
       under,
-      marks_of d true (p + 1) body fresh,
-      marks_of c true q k (known_types (push rs under)),
-      height_of d true (below + length under) body fresh,
-      height_of c true below k (known_types (push rs under)),
-      refl,
-      typed_marks d (below + length under) (p + 1) body [] [] t,
-      typed_marks c below q k (push rs under) u (subst (λ z. TypesCode c k (push (block_results z) under) u) (sym e) r),
-      ap (λ z. marks_of d true (p + 1) body fresh ++ marks_of c true q k z) (push_all_known rs under),
-      ap₂ (λ n z. max (below + suc n) (max (height_of d true (below + n) body fresh) (height_of c true below k z))) (length_known under) (push_all_known rs under),
+      marks_of d true (p + 1) body (known_types (push t.params [])),
+      marks_of c true q k (known_types (push t.results under)),
+      height_of d true (below + length under) body (known_types (push t.params [])),
+      height_of c true below k (known_types (push t.results under)),
+      e,
+      f,
+      typed_marks d (below + length under) (p + 1) body (push t.params []) (push t.results []) b,
+      typed_marks c below q k (push t.results under) u r,
+      known_notes c p label_results block_takes ty body k t s under e g,
+      known_most c below label_results block_takes ty body k t s under e g,
     )
-typed_marks c below p (if_else ty body other k) s u (under, f, t, t2, r) =
-    let rs = block_results ty in
-    let d = inside c rs in
+typed_marks c below p (loop ty body k) s u (t, under, e, f, b, r) =
+    let d = inside c t.params in
+    let q = p + code_size body + 2 in
+    let g = block_known t s under f in (
+      t,
+      under,
+      marks_of d true (p + 1) body (known_types (push t.params [])),
+      marks_of c true q k (known_types (push t.results under)),
+      height_of d true (below + length under) body (known_types (push t.params [])),
+      height_of c true below k (known_types (push t.results under)),
+      e,
+      f,
+      typed_marks d (below + length under) (p + 1) body (push t.params []) (push t.results []) b,
+      typed_marks c below q k (push t.results under) u r,
+      known_notes c p label_starts block_takes ty body k t s under e g,
+      known_most c below label_starts block_takes ty body k t s under e g,
+    )
+typed_marks c below p (if_then ty body k) s u (t, under, e, f, same, b, r) =
+    let d = inside c t.results in
+    let q = p + code_size body + 2 in
+    let g = if_known t s under f in (
+      t,
+      under,
+      marks_of d true (p + 1) body (known_types (push t.params [])),
+      marks_of c true q k (known_types (push t.results under)),
+      height_of d true (below + length under) body (known_types (push t.params [])),
+      height_of c true below k (known_types (push t.results under)),
+      e,
+      f,
+      typed_marks d (below + length under) (p + 1) body (push t.params []) (push t.results []) b,
+      typed_marks c below q k (push t.results under) u r,
+      known_notes c p label_results if_takes ty body k t s under e g,
+      ap₂ (λ x y. max (below + x) y) (length_known s) (known_most c below label_results if_takes ty body k t s under e g),
+    )
+typed_marks c below p (if_else ty body other k) s u (t, under, e, f, b, b2, r) =
+    let d = inside c t.results in
     let o = p + code_size body + 2 in
     let q = p + code_size body + code_size other + 3 in
-    subst (λ z. HasMarks c below p (if_else ty body other k) z (marks_of c true p (if_else ty body other k) (known_types z)) (height_of c true below (if_else ty body other k) (known_types z))) (sym f) (
+    let g = if_known t s under f in (
+      t,
       under,
-      marks_of d true (p + 1) body fresh,
-      marks_of d true o other fresh,
-      marks_of c true q k (known_types (push rs under)),
-      height_of d true (below + length under) body fresh,
-      height_of d true (below + length under) other fresh,
-      height_of c true below k (known_types (push rs under)),
-      refl,
-      typed_marks d (below + length under) (p + 1) body [] (push rs []) t,
-      typed_marks d (below + length under) o other [] (push rs []) t2,
-      typed_marks c below q k (push rs under) u r,
-      ap (λ z. marks_of d true (p + 1) body fresh ++ marks_of d true o other fresh ++ marks_of c true q k z) (push_all_known rs under),
-      ap₂ (λ n z. max (below + suc n) (max (max (height_of d true (below + n) body fresh) (height_of d true (below + n) other fresh)) (height_of c true below k z))) (length_known under) (push_all_known rs under),
+      marks_of d true (p + 1) body (known_types (push t.params [])),
+      marks_of d true o other (known_types (push t.params [])),
+      marks_of c true q k (known_types (push t.results under)),
+      height_of d true (below + length under) body (known_types (push t.params [])),
+      height_of d true (below + length under) other (known_types (push t.params [])),
+      height_of c true below k (known_types (push t.results under)),
+      e,
+      f,
+      typed_marks d (below + length under) (p + 1) body (push t.params []) (push t.results []) b,
+      typed_marks d (below + length under) o other (push t.params []) (push t.results []) b2,
+      typed_marks c below q k (push t.results under) u r,
+      known_else_notes c p ty body other k t s under e g,
+      ap₂ (λ x y. max (below + x) y) (length_known s) (known_else_most c below ty body other k t s under e g),
     )
 
 -- ---- nothing else is had
@@ -270,47 +368,34 @@ plain_unique c below p i k s m h ih false e (em, eh) = (em ∙ sym (stopped_mark
 pub marks_unique : (c : Context) (below p : ℕ) (k : Tree) (s : List ValType) (m : List Mark) (h : ℕ) → HasMarks c below p k s m h → (m ≡ marks_of c true p k (known_types s)) × (h ≡ height_of c true below k (known_types s))
 marks_unique c below p done s m h (em, eh) = (em, eh ∙ ap (λ z. below + z) (sym (length_known s)))
 marks_unique c below p (plain i k) s m h w = plain_unique c below p i k s m h (λ u more most r. marks_unique c below (p + 1) k u more most r) (goes_on i) refl w
-marks_unique c below p (block ty body k) s m h (inner, more, high, most, hi, hk, em, eh) =
-    let rs = block_results ty in
-    let d = inside c rs in
-    let q = p + code_size body + 2 in
-    let x = marks_unique d (below + length s) (p + 1) body [] inner high hi in
-    let y = marks_unique c below q k (push rs s) more most hk in (
-      em ∙ ap₂ (λ a b. a ++ b) x.0 y.0 ∙ ap (λ z. marks_of d true (p + 1) body fresh ++ marks_of c true q k z) (sym (push_all_known rs s)),
-      eh ∙ ap₂ (λ a b. max a b) x.1 y.1 ∙ ap₂ (λ n z. max (height_of d true (below + n) body fresh) (height_of c true below k z)) (sym (length_known s)) (sym (push_all_known rs s)),
+marks_unique c below p (block ty body k) s m h (t, under, inner, more, high, most, e, f, hi, hk, em, eh) =
+    let g = block_known t s under f in
+    let x = marks_unique (inside c t.results) (below + length under) (p + 1) body (push t.params []) inner high hi in
+    let y = marks_unique c below (p + code_size body + 2) k (push t.results under) more most hk in (
+      em ∙ ap₂ (λ a b. a ++ b) x.0 y.0 ∙ sym (known_notes c p label_results block_takes ty body k t s under e g),
+      eh ∙ ap₂ (λ a b. max a b) x.1 y.1 ∙ sym (known_most c below label_results block_takes ty body k t s under e g),
     )
-marks_unique c below p (loop ty body k) s m h (inner, more, high, most, hi, hk, em, eh) =
-    let rs = block_results ty in
-    let d = inside c [] in
-    let q = p + code_size body + 2 in
-    let x = marks_unique d (below + length s) (p + 1) body [] inner high hi in
-    let y = marks_unique c below q k (push rs s) more most hk in (
-      em ∙ ap₂ (λ a b. a ++ b) x.0 y.0 ∙ ap (λ z. marks_of d true (p + 1) body fresh ++ marks_of c true q k z) (sym (push_all_known rs s)),
-      eh ∙ ap₂ (λ a b. max a b) x.1 y.1 ∙ ap₂ (λ n z. max (height_of d true (below + n) body fresh) (height_of c true below k z)) (sym (length_known s)) (sym (push_all_known rs s)),
+marks_unique c below p (loop ty body k) s m h (t, under, inner, more, high, most, e, f, hi, hk, em, eh) =
+    let g = block_known t s under f in
+    let x = marks_unique (inside c t.params) (below + length under) (p + 1) body (push t.params []) inner high hi in
+    let y = marks_unique c below (p + code_size body + 2) k (push t.results under) more most hk in (
+      em ∙ ap₂ (λ a b. a ++ b) x.0 y.0 ∙ sym (known_notes c p label_starts block_takes ty body k t s under e g),
+      eh ∙ ap₂ (λ a b. max a b) x.1 y.1 ∙ sym (known_most c below label_starts block_takes ty body k t s under e g),
     )
-marks_unique c below p (if_then ty body k) s m h (under, inner, more, high, most, f, hi, hk, em, eh) =
-    let rs = block_results ty in
-    let d = inside c [] in
-    let q = p + code_size body + 2 in
-    let x = marks_unique d (below + length under) (p + 1) body [] inner high hi in
-    let y = marks_unique c below q k (push rs under) more most hk in
-    subst (λ z. (m ≡ marks_of c true p (if_then ty body k) (known_types z)) × (h ≡ height_of c true below (if_then ty body k) (known_types z))) (sym f) (
-      em ∙ ap₂ (λ a b. a ++ b) x.0 y.0 ∙ ap (λ z. marks_of d true (p + 1) body fresh ++ marks_of c true q k z) (sym (push_all_known rs under)),
-      eh ∙ ap (λ z. max (below + length z) (max high most)) f ∙ ap₂ (λ a b. max (below + suc (length under)) (max a b)) x.1 y.1
-          ∙ ap₂ (λ n z. max (below + suc n) (max (height_of d true (below + n) body fresh) (height_of c true below k z))) (sym (length_known under)) (sym (push_all_known rs under)),
+marks_unique c below p (if_then ty body k) s m h (t, under, inner, more, high, most, e, f, hi, hk, em, eh) =
+    let g = if_known t s under f in
+    let x = marks_unique (inside c t.results) (below + length under) (p + 1) body (push t.params []) inner high hi in
+    let y = marks_unique c below (p + code_size body + 2) k (push t.results under) more most hk in (
+      em ∙ ap₂ (λ a b. a ++ b) x.0 y.0 ∙ sym (known_notes c p label_results if_takes ty body k t s under e g),
+      eh ∙ ap₂ (λ n z. max (below + n) z) (sym (length_known s)) (ap₂ (λ a b. max a b) x.1 y.1 ∙ sym (known_most c below label_results if_takes ty body k t s under e g)),
     )
-marks_unique c below p (if_else ty body other k) s m h (under, one, two, more, high, higher, most, f, hi, ho, hk, em, eh) =
-    let rs = block_results ty in
-    let d = inside c rs in
-    let o = p + code_size body + 2 in
-    let q = p + code_size body + code_size other + 3 in
-    let x = marks_unique d (below + length under) (p + 1) body [] one high hi in
-    let w = marks_unique d (below + length under) o other [] two higher ho in
-    let y = marks_unique c below q k (push rs under) more most hk in
-    subst (λ z. (m ≡ marks_of c true p (if_else ty body other k) (known_types z)) × (h ≡ height_of c true below (if_else ty body other k) (known_types z))) (sym f) (
-      em ∙ ap₂ (λ a b. a ++ b) (ap₂ (λ a b. a ++ b) x.0 w.0) y.0 ∙ ap (λ z. marks_of d true (p + 1) body fresh ++ marks_of d true o other fresh ++ marks_of c true q k z) (sym (push_all_known rs under)),
-      eh ∙ ap (λ z. max (below + length z) (max (max high higher) most)) f ∙ ap₂ (λ a b. max (below + suc (length under)) (max a b)) (ap₂ (λ a b. max a b) x.1 w.1) y.1
-          ∙ ap₂ (λ n z. max (below + suc n) (max (max (height_of d true (below + n) body fresh) (height_of d true (below + n) other fresh)) (height_of c true below k z))) (sym (length_known under)) (sym (push_all_known rs under)),
+marks_unique c below p (if_else ty body other k) s m h (t, under, one, two, more, high, higher, most, e, f, hi, ho, hk, em, eh) =
+    let g = if_known t s under f in
+    let x = marks_unique (inside c t.results) (below + length under) (p + 1) body (push t.params []) one high hi in
+    let w = marks_unique (inside c t.results) (below + length under) (p + code_size body + 2) other (push t.params []) two higher ho in
+    let y = marks_unique c below (p + code_size body + code_size other + 3) k (push t.results under) more most hk in (
+      em ∙ ap₂ (λ a b. a ++ b) (ap₂ (λ a b. a ++ b) x.0 w.0) y.0 ∙ sym (known_else_notes c p ty body other k t s under e g),
+      eh ∙ ap₂ (λ n z. max (below + n) z) (sym (length_known s)) (ap₂ (λ a b. max a b) (ap₂ (λ a b. max a b) x.1 w.1) y.1 ∙ sym (known_else_most c below ty body other k t s under e g)),
     )
 
 -- ---- at a live end each type is known
@@ -330,21 +415,27 @@ plain_live c i k s m u t false e l ih = absurd (ends_dead k l)
 pub live_known : (c : Context) (k : Tree) (s u : List ValType) → TypesCode c k s u → ends_live true k ≡ true → check c k (known_types s) ≡ Some (known_types u)
 live_known c done s u t l = ap (λ z. Some (known_types z)) t
 live_known c (plain i k) s u (m, t, r) l = plain_live c i k s m u t (goes_on i) refl l (λ l. live_known c k m u r l)
-live_known c (block ty body k) s u (t, r) l =
-    let rs = block_results ty in
-    let d = inside c rs in
-    ap (λ z. only_if z (check c k (put_types rs (known_types s)))) (body_sound d body rs (check_exact d body) t) ∙ ap (check c k) (push_all_known rs s) ∙ live_known c k (push rs s) u r l
-live_known c (loop ty body k) s u (t, r) l =
-    let rs = block_results ty in
-    let d = inside c [] in
-    ap (λ z. only_if z (check c k (put_types rs (known_types s)))) (body_sound d body rs (check_exact d body) t) ∙ ap (check c k) (push_all_known rs s) ∙ live_known c k (push rs s) u r l
-live_known c (if_then ty body k) s u (e, under, f, t, r) l =
-    let d = inside c [] in
-    ap (λ z. only_if (is_empty z) (only_if (ends_with [] (check d body fresh)) (option_and_then (check c k) (take_type I32 (known_types s))))) e
-    ∙ ap (λ z. only_if z (option_and_then (check c k) (take_type I32 (known_types s)))) (body_sound d body [] (check_exact d body) t)
-    ∙ ap (λ z. option_and_then (check c k) (take_type I32 (known_types z))) f ∙ live_known c k under u r l
-live_known c (if_else ty body other k) s u (under, f, t, t2, r) l =
-    let rs = block_results ty in
-    let d = inside c rs in
-    ap₂ (λ y z. only_if y (only_if z (option_and_then (λ b. check c k (put_types rs b)) (take_type I32 (known_types s))))) (body_sound d body rs (check_exact d body) t) (body_sound d other rs (check_exact d other) t2)
-    ∙ ap (λ z. option_and_then (λ b. check c k (put_types rs b)) (take_type I32 (known_types z))) f ∙ ap (check c k) (push_all_known rs under) ∙ live_known c k (push rs under) u r l
+live_known c (block ty body k) s u (t, under, e, f, b, r) l =
+    let d : FuncType → Context = λ t. inside c t.results in
+    let next : FuncType → Option BlockStack = λ t. option_and_then (check c k) (apply (block_effect t) (known_types s)) in
+    ap (option_and_then (λ (t : FuncType). only_if (ends_with t.results (check (d t) body (starting t))) (next t))) e
+    ∙ ap (λ z. only_if z (next t)) (body_sound (d t) body t (check_exact (d t) body) b)
+    ∙ ap (option_and_then (check c k)) (apply_known (block_effect t) s (push t.results under) refl (under, f, refl)) ∙ live_known c k (push t.results under) u r l
+live_known c (loop ty body k) s u (t, under, e, f, b, r) l =
+    let d : FuncType → Context = λ t. inside c t.params in
+    let next : FuncType → Option BlockStack = λ t. option_and_then (check c k) (apply (block_effect t) (known_types s)) in
+    ap (option_and_then (λ (t : FuncType). only_if (ends_with t.results (check (d t) body (starting t))) (next t))) e
+    ∙ ap (λ z. only_if z (next t)) (body_sound (d t) body t (check_exact (d t) body) b)
+    ∙ ap (option_and_then (check c k)) (apply_known (block_effect t) s (push t.results under) refl (under, f, refl)) ∙ live_known c k (push t.results under) u r l
+live_known c (if_then ty body k) s u (t, under, e, f, same, b, r) l =
+    let d : FuncType → Context = λ t. inside c t.results in
+    let next : FuncType → Option BlockStack = λ t. option_and_then (check c k) (apply (if_effect t) (known_types s)) in
+    ap (option_and_then (λ (t : FuncType). only_if (same_types t.params t.results) (only_if (ends_with t.results (check (d t) body (starting t))) (next t)))) e
+    ∙ ap₂ (λ y z. only_if y (only_if z (next t))) (same_types_by t.params t.results same) (body_sound (d t) body t (check_exact (d t) body) b)
+    ∙ ap (option_and_then (check c k)) (apply_known (if_effect t) s (push t.results under) refl (under, f ∙ sym (push_last t.params I32 under), refl)) ∙ live_known c k (push t.results under) u r l
+live_known c (if_else ty body other k) s u (t, under, e, f, b, b2, r) l =
+    let d : FuncType → Context = λ t. inside c t.results in
+    let next : FuncType → Option BlockStack = λ t. option_and_then (check c k) (apply (if_effect t) (known_types s)) in
+    ap (option_and_then (λ (t : FuncType). only_if (ends_with t.results (check (d t) body (starting t))) (only_if (ends_with t.results (check (d t) other (starting t))) (next t)))) e
+    ∙ ap₂ (λ y z. only_if y (only_if z (next t))) (body_sound (d t) body t (check_exact (d t) body) b) (body_sound (d t) other t (check_exact (d t) other) b2)
+    ∙ ap (option_and_then (check c k)) (apply_known (if_effect t) s (push t.results under) refl (under, f ∙ sym (push_last t.params I32 under), refl)) ∙ live_known c k (push t.results under) u r l

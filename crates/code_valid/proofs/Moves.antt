@@ -1,10 +1,10 @@
 -- How the calls on the open blocks lead on from one another.
-use Rattle.std.proofs.Common.{◌≡◌, ℕ, ◌+◌, ◌-◌, ◌<◌, ◌≤◌, List, [], ◌∷◌, ◌++◌, length, take, get_or, Option, Some, None, refl, sym, ap, subst, ◌∙◌, arith}
+use Rattle.std.proofs.Common.{◌≡◌, ℕ, ◌+◌, ◌-◌, ◌<◌, ◌≤◌, List, [], ◌∷◌, ◌++◌, length, take, get_or, Option, Some, None, false, refl, sym, ap, subst, ◌∙◌, arith}
 use Rattle.std.specs.Prelude.{option_map, option_and_then, Result, Ok, Err}
 use Rattle.std.proofs.lemmas.List.{take_more}
 use Rattle.wasm_num.specs.declared.ValType.{ValType}
 use Rattle.wasm_num.specs.declared.ValType.TheVariants.{I32}
-use Rattle.code_valid.specs.Checking.{BlockStack, dead_stack, take_operand, take_type, take_types, put_operand, put_types, turns, stops, selects, select_on, select_second, apply}
+use Rattle.code_valid.specs.Checking.{BlockStack, fresh, dead_stack, take_operand, take_type, take_types, put_operand, put_types, turns, stops, selects, select_on, select_second, apply}
 use Rattle.ctrl_stack.specs.declared.stack.StackFault.{StackFault}
 use Rattle.ctrl_stack.specs.declared.stack.StackFault.TheVariants.{Mismatch}
 use Rattle.ctrl_stack.specs.declared.stack.StackFault.TheVariants as faults
@@ -76,6 +76,16 @@ by_mismatch faults.NoMemory h = absurd h
 pub only_memory : (f : StackFault) (P : Type 0) → (P → ⊥) → OnFault f P → invalid_by f ≡ NoMemory
 only_memory Mismatch P g h = absurd (g h)
 only_memory faults.NoMemory P g h = refl
+
+-- ---- a block that begins
+
+same_dead : (ts : List ValType) (a : BlockStack) → (put_types ts a).dead ≡ a.dead
+same_dead [] a = refl
+same_dead (t ∷ ts) a = same_dead ts (put_operand (Some t) a)
+
+-- its starts alone are live
+pub begins_live : (ts : List ValType) → ◌≡◌ {A = BlockStack} (record { ops = (put_types ts fresh).ops; dead = false }) (put_types ts fresh)
+begins_live ts = λ i. record { ops = (put_types ts fresh).ops; dead = sym (same_dead ts fresh) i }
 
 -- ---- what is taken, and what is put
 

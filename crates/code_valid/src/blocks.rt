@@ -66,17 +66,17 @@ impl OpenBlocks {
         }
     }
 
-    /// Opens a block that takes nothing.
+    /// Opens a block, which finds its starts above the operands here.
     pub fn push_block(
         &mut self,
-        alloc: Global,
         kind: BlockKind,
+        starts: Types,
         results: Types,
     ) -> Result<(), BodyInvalid>
-        ensures opened { OnlyMemory result (self.new ≡ within kind results self.old) }
-        ensures same { control_of (whole_stack self.old) ≡ self.old }
+        ensures opened { OnlyMemory result (self.new ≡ within kind starts results self.old) }
+        ensures same { IfOk result (λ _. control_of (whole_stack self.old) ≡ self.old) }
     {
-        let starts = Types::from_vec(Vec::new(alloc));
+        self.push_all(starts.as_slice())?;
         self.stack.push_block(kind, starts, results)?;
         Ok(())
     }
@@ -121,8 +121,8 @@ impl OpenBlocks {
         self.stack.mark_dead();
     }
 
-    // Takes these, the last first.
-    fn pop_all(&mut self, types: &[ValType]) -> Result<(), BodyInvalid>
+    /// Takes these, the last first.
+    pub fn pop_all(&mut self, types: &[ValType]) -> Result<(), BodyInvalid>
         ensures { Moves result (take_types types.now (innermost_stack self.old)) self.old self.new }
     {
         let mut left = types.len();
@@ -203,4 +203,11 @@ impl OpenBlocks {
         self.push(second)?;
         Ok(second)
     }
+}
+
+/// A copy of these types.
+pub(crate) fn copied(alloc: Global, types: &[ValType]) -> Result<Types, NoMemory>
+    ensures { IfOk result (λ copy. copy ≡ types.now) }
+{
+    Ok(Types::from_vec(types.to_vec(alloc)?))
 }

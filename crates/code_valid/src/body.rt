@@ -8,19 +8,17 @@ ghost use Rattle.module_ast.specs.Validity.{KeepsRules, TypesBody, HasBodyMarks}
 ghost use Rattle.code_valid.specs.Bodies.{TypesIn, HasMarksIn};
 ghost use Rattle.code_valid.specs.declared.invalid.BodyInvalid.{BodyInvalid};
 
-use crate::blocks::OpenBlocks;
+use crate::blocks::{OpenBlocks, copied};
 use crate::env::Env;
 use crate::invalid::BodyInvalid;
 use crate::marks::Marks;
 use crate::surveying::survey_code;
 use crate::walk::Walk;
-use ctrl_stack::Types;
 use module_ast::code::Code;
 use module_ast::module::Module;
 use module_ast::seq::Seq;
 use module_ast::spaces::Spaces;
 use std::alloc::Global;
-use wasm_num::{NoMemory, ValType};
 
 /// Checks the body of a defined function by the rules of typing, and answers its marks and its height. `Invalid` says that
 /// the rules do not type it. It takes time linear in the module's imports, functions and globals and in the body; for many
@@ -77,10 +75,4 @@ pub(crate) fn survey_body(alloc: Global, env: &Env, code: &Code) -> Result<Marks
         types: Seq::from_vec(marks),
         height,
     })
-}
-
-fn copied(alloc: Global, types: &[ValType]) -> Result<Types, NoMemory>
-    ensures { IfOk result (λ copy. copy ≡ types.now) }
-{
-    Ok(Types::from_vec(types.to_vec(alloc)?))
 }

@@ -41,7 +41,9 @@ fn turn(alloc: Global, env: &Env, instr: &Instr, blocks: &mut OpenBlocks) -> Res
     ensures { Moves result (apply (effect_of (context_in env.now blocks.old) instr.now) (innermost_stack blocks.old)) blocks.old blocks.new }
 {
     match instr {
-        Instr::Block(_, _) | Instr::Loop(_, _) | Instr::If(_, _, _) => Err(BodyInvalid::Invalid),
+        Instr::Block(_, _) | Instr::Loop(_, _) | Instr::If(_, _) | Instr::IfElse(_, _, _) => Err(
+            BodyInvalid::Invalid,
+        ),
         Instr::Unreachable => blocks.stop(&[]),
         Instr::Nop => blocks.turn(&[], &[]),
         Instr::Br(label) => br(alloc, env, *label, blocks),
@@ -121,7 +123,8 @@ fn takes_these(blocks: &OpenBlocks, types: &[ValType], label: u32) -> bool
     }
 }
 
-fn same_types(left: &[ValType], right: &[ValType]) -> bool
+/// Whether these are the same types.
+pub(crate) fn same_types(left: &[ValType], right: &[ValType]) -> bool
     ensures { result ≡ same_types left.now right.now }
 {
     left == right

@@ -1,27 +1,26 @@
 // The check of a body in one pass, with what it notes.
 
-ghost use Rattle.std.specs.Prelude.{◌≡◌, ◌+◌, ◌<◌, ◌^◌, [], IfOk};
+ghost use Rattle.std.specs.Prelude.{◌≡◌, ◌+◌, ◌<◌, ◌^◌, Some, None, IfOk, MatchResult};
 ghost use Rattle.module_ast.specs.Tree.{done};
 ghost use Rattle.module_ast.specs.Seen.{before};
 ghost use Rattle.module_ast.specs.Positions.{code_size};
-ghost use Rattle.module_ast.specs.Typing.{block_results, inside};
-ghost use Rattle.module_ast.specs.declared.code.Instr.TheVariants.{If};
+ghost use Rattle.module_ast.specs.Typing.{block_type, inside};
+ghost use Rattle.module_ast.specs.declared.code.Instr.TheVariants.{Block, Loop, If, IfElse};
 ghost use Rattle.ctrl_stack.specs.Stack.{types_by};
 ghost use Rattle.code_valid.specs.Checking.{fresh, put_types};
-ghost use Rattle.code_valid.specs.Control.{innermost_stack, with_innermost_stack, height_here, context_in};
+ghost use Rattle.code_valid.specs.Control.{innermost_stack, height_here, context_in};
 ghost use Rattle.code_valid.specs.Survey.{survey};
 ghost use Rattle.module_ast.specs.Plains.{IsPlainInstr};
-ghost use Rattle.code_valid.specs.Answers.{OnlyMemory, SurveysCode, Steps, Passes};
+ghost use Rattle.code_valid.specs.Answers.{OnRefusal, SurveysCode, Steps, Passes};
 
-use crate::blocks::OpenBlocks;
+use crate::blocks::{OpenBlocks, copied};
 use crate::env::Env;
 use crate::invalid::BodyInvalid;
-use crate::plain::act;
+use crate::plain::{act, same_types};
 use crate::walk::Walk;
-use ctrl_stack::Types;
 use module_ast::code::{BlockType, Code, Instr};
 use std::alloc::Global;
-use wasm_num::BlockKind;
+use wasm_num::{BlockKind, ValType};
 
 /// Checks a sequence from the operands of the innermost block, and notes what its live places have.
 #[cycle(surveying)]
@@ -43,24 +42,33 @@ pub(crate) fn survey_code(
     Ok(())
 }
 
-// A block from its opening to its end, its opcode left out.
+// The types that a block takes, and those that it leaves.
+#[derive(Clone, Copy)]
+struct BlockEnds<'m> {
+    starts: &'m [ValType],
+    results: &'m [ValType],
+}
+
+// A part of a block from its opening to its end, its opcode left out, above the operands under its starts.
 #[cycle(surveying)]
+#[tactic(auto, using(crate::proofs::Moves::begins_live))]
 fn survey_part(
     alloc: Global,
     env: &Env,
     kind: BlockKind,
-    ty: BlockType,
+    ends: BlockEnds,
     body: &Code,
     blocks: &mut OpenBlocks,
     walk: &mut Walk,
 ) -> Result<(), BodyInvalid>
     requires { walk.old.position + code_size body.now + 1 < 2 ^ 32 }
-    ensures passes { Passes result (block_results ty) (survey (inside (context_in env.now blocks.old) (types_by kind [] (block_results ty))) (height_here blocks.old) body.now fresh walk.old) blocks.old blocks.new walk.old walk.new }
+    ensures passes { Passes result ends.entry.results.now (survey (inside (context_in env.now blocks.old) (types_by kind ends.entry.starts.now ends.entry.results.now)) (height_here blocks.old) body.now (put_types ends.entry.starts.now fresh) walk.old) blocks.old blocks.new walk.old walk.new }
     ensures position { IfOk result (λ _. walk.new.position ≡ walk.old.position + code_size body.now + 1) }
 {
     let live = walk.is_live();
-    let results = results_of(alloc, ty)?;
-    blocks.push_block(alloc, kind, results)?;
+    let starts = copied(alloc, ends.starts)?;
+    let results = copied(alloc, ends.results)?;
+    blocks.push_block(kind, starts, results)?;
     survey_code(alloc, env, body, blocks, walk)?;
     blocks.pop_block()?;
     walk.out_to(live);
@@ -68,44 +76,94 @@ fn survey_part(
 }
 
 #[cycle(surveying)]
+fn survey_block(
+    alloc: Global,
+    env: &Env,
+    ty: BlockType,
+    body: &Code,
+    blocks: &mut OpenBlocks,
+    walk: &mut Walk,
+) -> Result<(), BodyInvalid>
+    requires { walk.old.position + code_size (before (Block ty body.now) done) < 2 ^ 32 }
+    ensures steps { Steps result (context_in env.now blocks.old) (before (Block ty body.now)) blocks.old blocks.new walk.old walk.new }
+    ensures position { IfOk result (λ _. walk.new.position ≡ walk.old.position + code_size (before (Block ty body.now) done)) }
+{
+    let ends = block_ends(env, ty)?;
+    walk.over();
+    blocks.pop_all(ends.starts)?;
+    survey_part(alloc, env, BlockKind::Block, ends, body, blocks, walk)?;
+    blocks.push_all(ends.results)
+}
+
+#[cycle(surveying)]
+fn survey_loop(
+    alloc: Global,
+    env: &Env,
+    ty: BlockType,
+    body: &Code,
+    blocks: &mut OpenBlocks,
+    walk: &mut Walk,
+) -> Result<(), BodyInvalid>
+    requires { walk.old.position + code_size (before (Loop ty body.now) done) < 2 ^ 32 }
+    ensures steps { Steps result (context_in env.now blocks.old) (before (Loop ty body.now)) blocks.old blocks.new walk.old walk.new }
+    ensures position { IfOk result (λ _. walk.new.position ≡ walk.old.position + code_size (before (Loop ty body.now) done)) }
+{
+    let ends = block_ends(env, ty)?;
+    walk.over();
+    blocks.pop_all(ends.starts)?;
+    survey_part(alloc, env, BlockKind::Loop, ends, body, blocks, walk)?;
+    blocks.push_all(ends.results)
+}
+
+#[cycle(surveying)]
+#[tactic(auto, using(crate::proofs::Moves::pop_all_last))]
 fn survey_if(
     alloc: Global,
     env: &Env,
     ty: BlockType,
     body: &Code,
-    other: &Option<Code>,
     blocks: &mut OpenBlocks,
     walk: &mut Walk,
 ) -> Result<(), BodyInvalid>
-    requires { walk.old.position + code_size (before (If ty body.now other.now) done) < 2 ^ 32 }
-    ensures steps { Steps result (context_in env.now blocks.old) (before (If ty body.now other.now)) blocks.old blocks.new walk.old walk.new }
-    ensures position { IfOk result (λ _. walk.new.position ≡ walk.old.position + code_size (before (If ty body.now other.now) done)) }
+    requires { walk.old.position + code_size (before (If ty body.now) done) < 2 ^ 32 }
+    ensures steps { Steps result (context_in env.now blocks.old) (before (If ty body.now)) blocks.old blocks.new walk.old walk.new }
+    ensures position { IfOk result (λ _. walk.new.position ≡ walk.old.position + code_size (before (If ty body.now) done)) }
 {
-    match (ty, other) {
-        (BlockType::Value(_), None) => Err(BodyInvalid::Invalid),
-        (BlockType::Empty, None) => {
-            walk.see(blocks.height());
-            walk.over();
-            blocks.pop_i32()?;
-            survey_part(
-                alloc,
-                env,
-                BlockKind::If,
-                BlockType::Empty,
-                body,
-                blocks,
-                walk,
-            )
-        }
-        (_, Some(other)) => {
-            walk.see(blocks.height());
-            walk.over();
-            blocks.pop_i32()?;
-            survey_part(alloc, env, BlockKind::If, ty, body, blocks, walk)?;
-            survey_part(alloc, env, BlockKind::Else, ty, other, blocks, walk)?;
-            push_results(ty, blocks)
-        }
+    let ends = block_ends(env, ty)?;
+    walk.see(blocks.height());
+    walk.over();
+    blocks.pop_i32()?;
+    blocks.pop_all(ends.starts)?;
+    if !same_types(ends.starts, ends.results) {
+        return Err(BodyInvalid::Invalid);
     }
+    survey_part(alloc, env, BlockKind::If, ends, body, blocks, walk)?;
+    blocks.push_all(ends.results)
+}
+
+#[cycle(surveying)]
+#[tactic(auto, using(crate::proofs::Moves::pop_all_last))]
+fn survey_if_else(
+    alloc: Global,
+    env: &Env,
+    ty: BlockType,
+    body: &Code,
+    other: &Code,
+    blocks: &mut OpenBlocks,
+    walk: &mut Walk,
+) -> Result<(), BodyInvalid>
+    requires { walk.old.position + code_size (before (IfElse ty body.now other.now) done) < 2 ^ 32 }
+    ensures steps { Steps result (context_in env.now blocks.old) (before (IfElse ty body.now other.now)) blocks.old blocks.new walk.old walk.new }
+    ensures position { IfOk result (λ _. walk.new.position ≡ walk.old.position + code_size (before (IfElse ty body.now other.now) done)) }
+{
+    let ends = block_ends(env, ty)?;
+    walk.see(blocks.height());
+    walk.over();
+    blocks.pop_i32()?;
+    blocks.pop_all(ends.starts)?;
+    survey_part(alloc, env, BlockKind::If, ends, body, blocks, walk)?;
+    survey_part(alloc, env, BlockKind::Else, ends, other, blocks, walk)?;
+    blocks.push_all(ends.results)
 }
 
 #[cycle(surveying)]
@@ -121,17 +179,12 @@ fn survey_instr(
     ensures position { IfOk result (λ _. walk.new.position ≡ walk.old.position + code_size (before instr.now done)) }
 {
     match instr {
-        Instr::Block(ty, body) => {
-            walk.over();
-            survey_part(alloc, env, BlockKind::Block, *ty, body, blocks, walk)?;
-            push_results(*ty, blocks)
+        Instr::Block(ty, body) => survey_block(alloc, env, *ty, body, blocks, walk),
+        Instr::Loop(ty, body) => survey_loop(alloc, env, *ty, body, blocks, walk),
+        Instr::If(ty, body) => survey_if(alloc, env, *ty, body, blocks, walk),
+        Instr::IfElse(ty, body, other) => {
+            survey_if_else(alloc, env, *ty, body, other, blocks, walk)
         }
-        Instr::Loop(ty, body) => {
-            walk.over();
-            survey_part(alloc, env, BlockKind::Loop, *ty, body, blocks, walk)?;
-            push_results(*ty, blocks)
-        }
-        Instr::If(ty, body, other) => survey_if(alloc, env, *ty, body, other, blocks, walk),
         _ => survey_plain(alloc, env, instr, blocks, walk),
     }
 }
@@ -155,25 +208,19 @@ fn survey_plain(
     Ok(())
 }
 
-// The results of a block of this type.
-fn results_of(alloc: Global, ty: BlockType) -> Result<Types, BodyInvalid>
-    ensures { OnlyMemory result (IfOk result (λ types. types ≡ block_results ty)) }
+// The types that a block of this type takes, and those that it leaves; `Invalid` where it names no type. (Standard,
+// 3.2.2)
+fn block_ends<'m>(env: &Env<'m>, ty: BlockType) -> Result<BlockEnds<'m>, BodyInvalid>
+    ensures { MatchResult result (λ ends. block_type env.now.types ty ≡ Some (record { params = ends.starts.now; results = ends.results.now })) (λ e. OnRefusal e (block_type env.now.types ty ≡ None)) }
 {
-    let mut types = Vec::new(alloc);
-    match ty {
-        BlockType::Empty => Ok(Types::from_vec(types)),
-        BlockType::Value(ty) => {
-            types.push(ty)?;
-            Ok(Types::from_vec(types))
-        }
-    }
-}
-
-fn push_results(ty: BlockType, blocks: &mut OpenBlocks) -> Result<(), BodyInvalid>
-    ensures { OnlyMemory result (blocks.new ≡ with_innermost_stack (put_types (block_results ty) (innermost_stack blocks.old)) blocks.old) }
-{
-    match ty {
-        BlockType::Empty => Ok(()),
-        BlockType::Value(ty) => blocks.push_all(&[ty]),
-    }
+    let (starts, results): (&[ValType], &[ValType]) = match ty {
+        BlockType::Empty => (&[], &[]),
+        BlockType::Value(ValType::I32) => (&[], &[ValType::I32]),
+        BlockType::Value(ValType::I64) => (&[], &[ValType::I64]),
+        BlockType::Indexed(index) => match env.func_type(index) {
+            None => return Err(BodyInvalid::Invalid),
+            Some(found) => (found.params.as_slice(), found.results.as_slice()),
+        },
+    };
+    Ok(BlockEnds { starts, results })
 }

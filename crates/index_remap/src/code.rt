@@ -47,10 +47,10 @@ impl Remap {
             Instr::Nop => Ok(Instr::Nop),
             Instr::Block(ty, body) => Ok(Instr::Block(*ty, self.map_code(alloc, body)?)),
             Instr::Loop(ty, body) => Ok(Instr::Loop(*ty, self.map_code(alloc, body)?)),
-            Instr::If(ty, body, None) => Ok(Instr::If(*ty, self.map_code(alloc, body)?, None)),
-            Instr::If(ty, body, Some(other)) => {
+            Instr::If(ty, body) => Ok(Instr::If(*ty, self.map_code(alloc, body)?)),
+            Instr::IfElse(ty, body, other) => {
                 let body = self.map_code(alloc, body)?;
-                Ok(Instr::If(*ty, body, Some(self.map_code(alloc, other)?)))
+                Ok(Instr::IfElse(*ty, body, self.map_code(alloc, other)?))
             }
             Instr::Br(label) => Ok(Instr::Br(*label)),
             Instr::BrIf(label) => Ok(Instr::BrIf(*label)),

@@ -1,5 +1,5 @@
 -- The first rule that is not kept, among tests of some rules in their order.
-use Rattle.std.proofs.Common.{◌≡◌, ℕ, ◌+◌, ◌<◌, ◌≤◌, inl, inr, Bool, true, false, List, [], ◌∷◌, ◌++◌, length, refl, sym, ap, ◌∙◌, subst, arith}
+use Rattle.std.proofs.Common.{◌≡◌, ℕ, ◌+◌, ◌-◌, ◌<◌, ◌≤◌, inl, inr, Bool, true, false, List, [], ◌∷◌, ◌++◌, length, refl, sym, ap, ◌∙◌, subst, arith}
 use Rattle.std.proofs.lemmas.Bool.{cases_lt}
 use Rattle.std.specs.Prelude.{◌↔◌, IsTrue, not, MatchOption, Option, Some, None, slice_get}
 use Rattle.std.specs.List.{position_from}
@@ -9,18 +9,18 @@ use Rattle.module_ast.specs.Validity.{Rule, number_of, Keeps, KeepsRules}
 use Rattle.wasm_valid.specs.Broken.{KeepsBelow, BreaksFirst}
 
 -- the rules that are tried first, and the others, in their order
-abbrev pub nine : List Rule
-nine = rules.one_result ∷ rules.import_types ∷ rules.function_types ∷ rules.one_table ∷ rules.one_memory ∷ rules.table_limits ∷ rules.memory_pages ∷ rules.memory_limits ∷ rules.init_constant ∷ []
+abbrev pub eight : List Rule
+eight = rules.import_types ∷ rules.function_types ∷ rules.one_table ∷ rules.one_memory ∷ rules.table_limits ∷ rules.memory_pages ∷ rules.memory_limits ∷ rules.init_constant ∷ []
 
 abbrev pub others : List Rule
 others = rules.init_global ∷ rules.init_type ∷ rules.export_indices ∷ rules.export_names ∷ rules.start_index ∷ rules.start_type ∷ rules.element_tables ∷ rules.element_offsets ∷ rules.element_funcs ∷ rules.segment_memories ∷ rules.segment_offsets ∷ []
 
 -- the rule with a number
 abbrev rule_at : ℕ → Option Rule
-rule_at n = slice_get (rules.one_result ∷ (nine ++ others)) n
+rule_at n = slice_get (eight ++ others) (n - 2)
 
 rule_at-number : (r : Rule) → rule_at (number_of r) ≡ Some r
-rule_at-number rules.one_result = refl
+rule_at-number rules.import_types = refl
 rule_at-number r = refl
 
 same_rule : (r s : Rule) → number_of r ≡ number_of s → r ≡ s
@@ -55,18 +55,18 @@ first_found m n (true ∷ bs) (r ∷ rs) (e, test, rest) below =
     subst (λ (k : ℕ). MatchOption (position_from not (n + 1) bs) (KeepsBelow m k) (BreaksFirst m)) same more
 
 number_small : (r : Rule) → number_of r < 21
-number_small rules.one_result = omega arith
+number_small rules.import_types = omega arith
 number_small r = omega arith
 
--- there are no rules but these twenty
+-- there are no rules but these
 pub keeps_all : (m : Module) → KeepsBelow m 21 → KeepsRules m
 keeps_all m h r = h r (number_small r)
 
-number_some : (r : Rule) → 1 ≤ number_of r
-number_some rules.one_result = omega arith
+number_some : (r : Rule) → 2 ≤ number_of r
+number_some rules.import_types = omega arith
 number_some r = omega arith
 
-pub keeps_none : (m : Module) → KeepsBelow m 1
+pub keeps_none : (m : Module) → KeepsBelow m 2
 keeps_none m r h = absurd (omega (arith, number_some r))
 
 pub keeps_whole : (m : Module) (o : Option ℕ) → MatchOption o (KeepsBelow m 21) (BreaksFirst m) → MatchOption o (KeepsRules m) (BreaksFirst m)

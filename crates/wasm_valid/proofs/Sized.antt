@@ -1,5 +1,5 @@
 -- The sizes of a body among those of all.
-use Rattle.std.proofs.Common.{◌≡◌, ℕ, ◌<◌, List, Some, length, get_or, slice_get, ◌-◌, ap, ◌∙◌, arith}
+use Rattle.std.proofs.Common.{◌≡◌, ℕ, ◌<◌, List, length, get_or, ◌-◌, ap, ◌∙◌, arith}
 use Rattle.std.proofs.lemmas.List.FromFn.{get_or-map-range_with_len}
 use Rattle.module_ast.specs.declared.module.Module.{Module}
 use Rattle.branch_resolve.specs.declared.sizes.Sizes.{Sizes}

@@ -16,8 +16,7 @@ use crate::limits::{
 use crate::names::keeps_export_names;
 use crate::rules::{
     keeps_element_funcs, keeps_element_tables, keeps_export_indices, keeps_function_types,
-    keeps_import_types, keeps_one_result, keeps_segment_memories, keeps_start_index,
-    keeps_start_type,
+    keeps_import_types, keeps_segment_memories, keeps_start_index, keeps_start_type,
 };
 use module_ast::module::Module;
 use module_ast::spaces::{Counts, Spaces};
@@ -39,14 +38,13 @@ fn first_not_kept(kept: &[bool], first: u8) -> Option<u8>
     None
 }
 
-/// The number of the first rule of 1 to 9, in their order, that a module breaks; none where it keeps these. It takes no
+/// The number of the first rule of 2 to 9, in their order, that a module breaks; none where it keeps these. It takes no
 /// memory.
-pub(crate) fn first_of_nine(m: &Module) -> Option<u8>
+pub(crate) fn first_of_eight(m: &Module) -> Option<u8>
     ensures { MatchOption result (KeepsBelow m.now 10) (BreaksFirst m.now) }
 {
     let counts = Counts::of(m);
     let kept = [
-        keeps_one_result(m),
         keeps_import_types(m),
         keeps_function_types(m),
         keeps_one_table(m, &counts),
@@ -56,17 +54,17 @@ pub(crate) fn first_of_nine(m: &Module) -> Option<u8>
         keeps_memory_limits(m),
         keeps_init_constant(m),
     ];
-    first_not_kept(&kept, 1)
+    first_not_kept(&kept, 2)
 }
 
-/// The number of the first of the other rules that is broken, where rules 1 to 9 are kept; none where all are.
+/// The number of the first of the other rules that is broken, where rules 2 to 9 are kept; none where all are.
 pub(crate) fn first_of_others(
     alloc: Global,
     m: &Module,
     spaces: &Spaces,
 ) -> Result<Option<u8>, NoMemory>
     requires spaces { spaces.now ≡ spaces_of m.now }
-    requires nine { KeepsBelow m.now 10 }
+    requires eight { KeepsBelow m.now 10 }
     ensures { IfOk result (λ o. MatchOption o (KeepsRules m.now) (BreaksFirst m.now)) }
 {
     let counts = spaces.counts();

@@ -5,7 +5,7 @@ use std::alloc::{AllocError, AllocFailed};
 /// Why a module is not shown valid.
 #[derive(Clone, Copy, Debug, PartialEq, Eq)]
 pub enum Invalid {
-    /// The number of the first rule, of 1 to 20, that the module breaks.
+    /// The number of the first rule, of 2 to 20, that the module breaks.
     Module { rule: u8 },
     /// The rules are kept; the least function, imports counted, whose body is invalid.
     Body { func: u32 },

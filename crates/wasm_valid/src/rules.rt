@@ -1,20 +1,12 @@
 // The rules on types, indices and the start function. Each function decides one rule exactly.
 
 ghost use Rattle.std.specs.Prelude.{◌≡◌, ◌↔◌, ◌<◌, [], IsTrue, All};
-ghost use Rattle.module_ast.specs.Validity.{Keeps, one_result, import_types, function_types, export_indices, start_index, start_type, element_tables, element_funcs, segment_memories};
+ghost use Rattle.module_ast.specs.Validity.{Keeps, import_types, function_types, export_indices, start_index, start_type, element_tables, element_funcs, segment_memories};
 ghost use Rattle.module_ast.specs.Spaces.{space_counts, spaces_of};
 ghost use Rattle.wasm_valid.specs.Imported.{IfFunc};
 
 use module_ast::module::{Element, FuncType, Import, Item, Module};
 use module_ast::spaces::{Counts, Spaces};
-
-/// Each function type has at most one result. (Standard, 3.2.3)
-pub(crate) fn keeps_one_result(m: &Module) -> bool
-    ensures { IsTrue result ↔ Keeps m.now one_result }
-{
-    let types = m.types.as_slice();
-    types.iter().all(|t| t.results.as_slice().len() <= 1)
-}
 
 // Where it is a function, its type is one of so many.
 fn names_type(import: &Import, types: usize) -> bool

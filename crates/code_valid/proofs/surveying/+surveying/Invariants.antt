@@ -2,7 +2,7 @@ use Rattle.std.proofs.Common.{◌≡◌, ◌≤◌, ◌+◌, ◌*◌, drop}
 use Rattle.module_ast.specs.Tree.{weight, done}
 use Rattle.module_ast.specs.Seen.{before, code_of}
 use Rattle.module_ast.specs.Positions.{code_size}
-use Rattle.module_ast.specs.declared.code.Instr.TheVariants.{If}
+use Rattle.module_ast.specs.declared.code.Instr.TheVariants.{Block, Loop, If, IfElse}
 use Rattle.code_valid.specs.Survey.{survey}
 use Rattle.code_valid.specs.Control.{innermost_stack, with_innermost_stack, context_in}
 use Rattle.code_valid.proofs.surveying.+surveying.Given as goal
@@ -13,8 +13,17 @@ decreases-survey_code l = 4 * weight l.code.now + 2
 abbrev pub decreases-survey_part : goal.decreases-survey_part
 decreases-survey_part l = 4 * weight l.body.now + 3
 
+abbrev pub decreases-survey_block : goal.decreases-survey_block
+decreases-survey_block l = 4 * weight (before (Block l.ty l.body.now) done)
+
+abbrev pub decreases-survey_loop : goal.decreases-survey_loop
+decreases-survey_loop l = 4 * weight (before (Loop l.ty l.body.now) done)
+
 abbrev pub decreases-survey_if : goal.decreases-survey_if
-decreases-survey_if l = 4 * weight (before (If l.ty l.body.now l.other.now) done)
+decreases-survey_if l = 4 * weight (before (If l.ty l.body.now) done)
+
+abbrev pub decreases-survey_if_else : goal.decreases-survey_if_else
+decreases-survey_if_else l = 4 * weight (before (IfElse l.ty l.body.now l.other.now) done)
 
 abbrev pub decreases-survey_instr : goal.decreases-survey_instr
 decreases-survey_instr l = 4 * weight (before l.instr.now done) + 1

@@ -1,8 +1,6 @@
-use Rattle.std.proofs.Common.{◌≡◌, ◌<◌, Some, length, slice_get, refl, sym, ap, ◌∙◌, subst, arith}
+use Rattle.std.proofs.Common.{◌≡◌, ◌<◌, Some, length, slice_get, refl, ap, ◌∙◌, subst, arith}
 use Rattle.std.proofs.lemmas.Option.{slice_get_read}
 use Rattle.module_ast.specs.declared.module.Module.{Module}
-use Rattle.branch_resolve.specs.declared.sizes.Sizes.{Sizes}
-use Rattle.code_valid.specs.declared.marks.Marks.{Marks}
 use Rattle.wasm_valid.proofs.Sized.{sizes_count, sizes_here}
 use Rattle.wasm_valid.proofs.valid_module.ValidModule.typed.Goals as goal
 
