@@ -4,7 +4,7 @@ use Rattle.std.specs.Prelude.{unwrap_or}
 use Rattle.leb_binary.specs.Shortest.{unsigned_bytes}
 use Rattle.wasm_num.specs.declared.ValType.TheVariants as types
 use Rattle.module_ast.specs.declared.code.Instr.{Instr}
-use Rattle.module_ast.specs.declared.code.Instr.TheVariants.{Block, Loop, If, Br, BrIf, BrTable, Return}
+use Rattle.module_ast.specs.declared.code.Instr.TheVariants.{Block, Loop, If, IfElse, Br, BrIf, BrTable, Return}
 use Rattle.module_ast.specs.declared.module.Group.{Group}
 use Rattle.module_ast.specs.declared.code.BlockType.TheVariants.{Empty}
 use Rattle.module_ast.specs.Canonical.{plain_bytes, items_bytes, vec_bytes, group_bytes}
@@ -137,7 +137,8 @@ pub record Straight (instr : Instr) : Type 0 where
 pub straight_of : (instr : Instr) → IsStraightInstr instr → Straight instr
 straight_of (Block b a) h = absurd h
 straight_of (Loop b a) h = absurd h
-straight_of (If b a e) h = absurd h
+straight_of (If b a) h = absurd h
+straight_of (IfElse b a e) h = absurd h
 straight_of (Br l) h = absurd h
 straight_of (BrIf l) h = absurd h
 straight_of (BrTable ls l) h = absurd h

@@ -16,9 +16,9 @@ use Rattle.rewrite.specs.Setting.{Setting, remap}
 use Rattle.rewrite.specs.Temporaries.{place_temps}
 use Rattle.rewrite.specs.Rewrite.{size_of}
 use Rattle.rewrite.specs.Emitted.{HasRoom}
-use Rattle.rewrite.specs.Sizes.{places_length, place_length, end_sums, opcode_most, opcodes_most, AreLinked, FitsPlace}
+use Rattle.rewrite.specs.Sizes.{types_length, places_length, place_length, end_sums, opcode_most, opcodes_most, AreLinked, FitsPlace}
 use Rattle.rewrite.specs.Sizing.{IsCountable, CanCount, AreBelow, ends_most, place_most}
-use Rattle.rewrite.proofs.SizedCode.{size_by_places}
+use Rattle.rewrite.proofs.SizedCode.{size_by_places, types_few}
 use Rattle.rewrite.proofs.SizedPlaces.{body_most, body_count, body_fits}
 use Rattle.rewrite.proofs.Linked.{places_linked}
 use Rattle.rewrite.proofs.EndSums.{below_first}
@@ -37,8 +37,15 @@ pub record IsCounting (w : Setting) (total : ℕ) (sums : List ℕ) (left : List
   pub bounded : total + place_most * length left + opcodes_most left < 2 ^ 64
   pub grown : total + place_most * length left + opcodes_most left ≤ (place_most + 40) * length (body_bytes w.site.body)
 
+-- the types of blocks are among the bytes of the body
+pub types_fit : (w : Setting) → types_length w.site.body.code ≤ length (body_bytes w.site.body)
+types_fit w =
+    let code = w.site.body.code in
+    omega (arith, types_few code, length-append (code_bytes code) (0x0B ∷ []), length-append (vec_bytes group_bytes w.site.body.groups) (expr_bytes code))
+
 -- at the entry
-pub counting_first : (w : Setting) (n : ℕ) → IsCountable w → n ≡ length (vec_bytes group_bytes (w.site.body.groups ++ pool_groups w.pool)) → n ≤ length (body_bytes w.site.body) + 32 → IsCounting w n [] (places w.site.body.code)
+pub counting_first : (w : Setting) (n : ℕ) → IsCountable w → n ≡ length (vec_bytes group_bytes (w.site.body.groups ++ pool_groups w.pool)) + types_length w.site.body.code → n ≤ 2 * length (body_bytes w.site.body) + 32
+    → IsCounting w n [] (places w.site.body.code)
 counting_first w n can groups bound =
     let code = w.site.body.code in
     let parts = length-append (vec_bytes group_bytes w.site.body.groups) (expr_bytes code) in

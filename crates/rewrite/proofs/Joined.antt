@@ -1,10 +1,10 @@
 -- How the instructions of live code join.
-use Rattle.std.proofs.Common.{◌≡◌, ℕ, ◌+◌, ◌<◌, List, [], ◌∷◌, ◌++◌, length, Some, None, Bool, true, false, refl, sym, ap, ◌∙◌, subst, arith, append_assoc}
+use Rattle.std.proofs.Common.{◌≡◌, ℕ, ◌+◌, ◌<◌, List, [], ◌∷◌, ◌++◌, length, Bool, true, false, refl, sym, ap, ◌∙◌, subst, arith, append_assoc}
 use Rattle.std.proofs.lemmas.List.{map-append}
 use Rattle.wasm_num.specs.declared.ValType.{ValType}
 use Rattle.module_ast.specs.declared.code.BlockType.{BlockType}
 use Rattle.module_ast.specs.declared.code.Instr.{Instr}
-use Rattle.module_ast.specs.declared.code.Instr.TheVariants.{Block, Loop, If, BrIf}
+use Rattle.module_ast.specs.declared.code.Instr.TheVariants.{Block, Loop, If, IfElse, BrIf}
 use Rattle.wasm_num.specs.declared.BlockKind.TheVariants as kinds
 use Rattle.module_ast.specs.Tree as tree
 use Rattle.hook_select.specs.declared.GroupName.TheVariants as groups
@@ -54,11 +54,11 @@ added_two old mid new is js e f = f ∙ ap (λ l. l ++ instrs js) e ∙ append_a
 -- ---- ends
 
 pub ends_before : (i : Instr) (t : Tree) → ends_live true (before i t) ≡ ends_live (goes_on_by i) t
-ends_before (If b a None) t = refl
+ends_before (If b a) t = refl
 ends_before i t = refl
 
 pub ends_dead : (i : Instr) (t : Tree) → ends_live false (before i t) ≡ ends_live false t
-ends_dead (If b a None) t = refl
+ends_dead (If b a) t = refl
 ends_dead i t = refl
 
 end_code_inner : (w : Setting) (s : Scope) (ss : List Scope) → 0 < length ss → end_code w (s ∷ ss) ≡ tell_end w s
@@ -107,12 +107,12 @@ module _ (pool : Pool) (hooks : Hooks) (s : Site) (p : ℕ) where
       let n : p + code_size a + 2 ≡ next = omega arith in
       let r = room_append pool (code_temps hooks s (p + 1) a) (code_temps hooks s (p + code_size a + 2) t) h in
       (room_joined pool (code_temps hooks s (p + 1) a) [] r.0 tt, subst (λ n. HasRoom pool (code_temps hooks s n t)) n r.1)
-  room_before (If b a None) t next e h =
+  room_before (If b a) t next e h =
       let n : p + code_size a + 2 ≡ next = omega arith in
       let q = room_append pool (open_temps hooks kinds.If) (code_temps hooks s (p + 1) a ++ code_temps hooks s (p + code_size a + 2) t) h in
       let r = room_append pool (code_temps hooks s (p + 1) a) (code_temps hooks s (p + code_size a + 2) t) q.1 in
       (room_joined pool (open_temps hooks kinds.If) (code_temps hooks s (p + 1) a ++ []) q.0 (room_joined pool (code_temps hooks s (p + 1) a) [] r.0 tt), subst (λ n. HasRoom pool (code_temps hooks s n t)) n r.1)
-  room_before (If b a (Some o)) t next e h =
+  room_before (IfElse b a o) t next e h =
       let n : p + code_size a + code_size o + 3 ≡ next = omega arith in
       let third = code_temps hooks s (p + code_size a + code_size o + 3) t in
       let second = code_temps hooks s (p + code_size a + 2) o in
@@ -142,9 +142,9 @@ module _ (w : Setting) (ss : List Scope) (p : ℕ) (ty : BlockType) (body c : Tr
 
 module _ (w : Setting) (ss : List Scope) (p : ℕ) (ty : BlockType) (body c : Tree) (old mid new : List Instr) (next : ℕ) (t : Tree) where
   pub then_added : next ≡ p + code_size body + 1 + 1 → c ≡ plains (tell_begin w (if_scope p body).begin (if_scope p body).kind) (live_code w (if_scope p body ∷ ss) (p + 1) body)
-      → mid ≡ old ++ instrs (tell_before w p (keys.Plain groups.If)) → new ≡ mid ++ If ty c None ∷ [] → onto new (live_code w ss next t) ≡ onto old (live_code w ss p (if_then ty body t))
+      → mid ≡ old ++ instrs (tell_before w p (keys.Plain groups.If)) → new ≡ mid ++ If ty c ∷ [] → onto new (live_code w ss next t) ≡ onto old (live_code w ss p (if_then ty body t))
   then_added n e m f =
-      ap (λ l. onto l (live_code w ss next t)) f ∙ onto_push mid (If ty c None) (live_code w ss next t)
+      ap (λ l. onto l (live_code w ss next t)) f ∙ onto_push mid (If ty c) (live_code w ss next t)
       ∙ ap (λ q. onto mid (if_then ty c (live_code w ss q t))) n ∙ ap (λ b. onto mid (if_then ty b (live_code w ss (p + code_size body + 1 + 1) t))) e
       ∙ onto_added old mid (tell_before w p (keys.Plain groups.If)) _ m
 
@@ -152,9 +152,9 @@ module _ (w : Setting) (ss : List Scope) (p : ℕ) (ty : BlockType) (body other 
   pub both_added : next ≡ p + code_size body + 1 + code_size other + 1 + 1
       → c ≡ plains (tell_begin w (then_scope p body other).begin (then_scope p body other).kind) (live_code w (then_scope p body other ∷ ss) (p + 1) body)
       → d ≡ plains (tell_begin w (else_scope p body other).begin (else_scope p body other).kind) (live_code w (else_scope p body other ∷ ss) (p + code_size body + 1 + 1) other)
-      → mid ≡ old ++ instrs (tell_before w p (keys.Plain groups.If)) → new ≡ mid ++ If ty c (Some d) ∷ [] → onto new (live_code w ss next t) ≡ onto old (live_code w ss p (if_else ty body other t))
+      → mid ≡ old ++ instrs (tell_before w p (keys.Plain groups.If)) → new ≡ mid ++ IfElse ty c d ∷ [] → onto new (live_code w ss next t) ≡ onto old (live_code w ss p (if_else ty body other t))
   both_added n e h m f =
-      ap (λ l. onto l (live_code w ss next t)) f ∙ onto_push mid (If ty c (Some d)) (live_code w ss next t)
+      ap (λ l. onto l (live_code w ss next t)) f ∙ onto_push mid (IfElse ty c d) (live_code w ss next t)
       ∙ ap (λ q. onto mid (if_else ty c d (live_code w ss q t))) n
       ∙ ap (λ b. onto mid (if_else ty b d (live_code w ss (p + code_size body + 1 + code_size other + 1 + 1) t))) e
       ∙ ap (λ b. onto mid (if_else ty (plains (tell_begin w (then_scope p body other).begin (then_scope p body other).kind) (live_code w (then_scope p body other ∷ ss) (p + 1) body)) b (live_code w ss (p + code_size body + 1 + code_size other + 1 + 1) t))) h
@@ -171,7 +171,8 @@ pub plain_added : (w : Setting) (ss : List Scope) (p : ℕ) (i : Instr) (old new
     → onto new (rest_code w ss (goes_on_by i) (p + 1) t) ≡ onto old (live_code w ss p (before i t))
 plain_added w ss p (Block b a) old new t h n e = absurd h
 plain_added w ss p (Loop b a) old new t h n e = absurd h
-plain_added w ss p (If b a o) old new t h n e = absurd h
+plain_added w ss p (If b a) old new t h n e = absurd h
+plain_added w ss p (IfElse b a o) old new t h n e = absurd h
 plain_added w ss p (BrIf l) old new t h n e = absurd n
 plain_added w ss p i old new t h n e = onto_added old new (template_of w ss p i) (rest_code w ss (goes_on_by i) (p + 1) t) e
 
@@ -183,9 +184,9 @@ arm (Err e) w p i j bs old new is h = tt
 
 -- a br_if, and what stands before it
 pub taken_added : (w : Setting) (left : List Scope) (old mid new : List Instr) (inside : List Instr) (ts : List Temp) (k : Tree)
-    → mid ≡ old ++ instrs (gets ts) → inside ≡ [] ++ instrs (tell_ends w left) → new ≡ mid ++ If Empty (code_of inside) None ∷ [] → onto new k ≡ onto old (if_taken true w left ts k)
+    → mid ≡ old ++ instrs (gets ts) → inside ≡ [] ++ instrs (tell_ends w left) → new ≡ mid ++ If Empty (code_of inside) ∷ [] → onto new k ≡ onto old (if_taken true w left ts k)
 taken_added w left old mid new inside ts k m n f =
-    ap (λ l. onto l k) f ∙ onto_push mid (If Empty (code_of inside) None) k
+    ap (λ l. onto l k) f ∙ onto_push mid (If Empty (code_of inside)) k
     ∙ ap (λ b. onto mid (if_then Empty b k)) (onto_added [] inside (tell_ends w left) done n)
     ∙ onto_added old mid (gets ts) (if_then Empty (plains (tell_ends w left) done) k) m
 

@@ -2,7 +2,7 @@
 use Rattle.std.specs.Prelude.{◌≡◌, ℕ, ◌+◌, ◌<◌, ◌≤◌, ◌^◌, List, [], ◌∷◌, ◌++◌, pos, map, length, Bool}
 use Rattle.std.specs.List.{AllByRecursion}
 use Rattle.module_ast.specs.declared.code.Instr.{Instr}
-use Rattle.module_ast.specs.declared.code.Instr.TheVariants.{Block, Loop, If, Br, BrIf, BrTable, Return}
+use Rattle.module_ast.specs.declared.code.Instr.TheVariants.{Block, Loop, If, IfElse, Br, BrIf, BrTable, Return}
 use Rattle.module_ast.specs.Canonical.{body_bytes}
 use Rattle.module_ast.specs.Lists.{when}
 use Rattle.module_ast.specs.Plains.{instr_of}
@@ -88,7 +88,8 @@ IsBranchTable _ = ⊥
 abbrev pub IsStraightInstr : Instr → Type 0
 IsStraightInstr (Block b a) = ⊥
 IsStraightInstr (Loop b a) = ⊥
-IsStraightInstr (If b a e) = ⊥
+IsStraightInstr (If b a) = ⊥
+IsStraightInstr (IfElse b a e) = ⊥
 IsStraightInstr (Br l) = ⊥
 IsStraightInstr (BrIf l) = ⊥
 IsStraightInstr (BrTable ls l) = ⊥

@@ -57,11 +57,11 @@ impl<'m> SizesLeft<'m> {
         ensures { LeavesBehind (block_sizes (before instr.now done)) self.old self.new }
     {
         match instr {
-            Instr::Block(_, body) | Instr::Loop(_, body) | Instr::If(_, body, None) => {
+            Instr::Block(_, body) | Instr::Loop(_, body) | Instr::If(_, body) => {
                 self.next();
                 self.skip_code(body);
             }
-            Instr::If(_, body, Some(other)) => {
+            Instr::IfElse(_, body, other) => {
                 self.next();
                 self.next();
                 self.skip_code(body);

@@ -47,7 +47,7 @@ impl<'m> Setting<'m> {
         let mut inside = Vec::new(alloc);
         self.push_left(alloc, label, scopes, &mut inside)?;
         let told = Code::from_vec(alloc, inside)?;
-        code.push(Instr::If(BlockType::Empty, told, None))?;
+        code.push(Instr::If(BlockType::Empty, told))?;
         Ok(())
     }
 

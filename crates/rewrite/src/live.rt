@@ -5,7 +5,6 @@ ghost use Rattle.module_ast.specs.Tree.{Tree, done, if_then, if_else};
 ghost use Rattle.module_ast.specs.Seen.{before, onto, code_of};
 ghost use Rattle.module_ast.specs.Plains.{plains};
 ghost use Rattle.module_ast.specs.Positions.{Scope, code_size, ends_live};
-ghost use Rattle.module_ast.specs.declared.code.Instr.TheVariants.{If};
 ghost use Rattle.module_ast.specs.Plains.{goes_on_by, IsPlainInstr};
 ghost use Rattle.branch_resolve.specs.Scopes.{block_of, blocks_around};
 ghost use Rattle.index_remap.specs.Remap.{Maps};
@@ -173,9 +172,10 @@ impl<'m> Setting<'m> {
                 out.push(Instr::Loop(*ty, inside))?;
                 Ok(end + 1)
             }
-            Instr::If(ty, body, other) => self.push_if(
-                alloc, *ty, body, other, along, position, out,
-            ),
+            Instr::If(ty, body) => self.push_then(alloc, *ty, body, along, position, out),
+            Instr::IfElse(ty, body, other) => {
+                self.push_both(alloc, *ty, body, other, along, position, out)
+            }
             Instr::BrIf(label) => {
                 self.push_br_if(alloc, *label, &along.scopes, position, out)?;
                 Ok(position + 1)
@@ -184,34 +184,6 @@ impl<'m> Setting<'m> {
                 self.push_simple(alloc, instr, &along.scopes, position, out)?;
                 Ok(position + 1)
             }
-        }
-    }
-
-    // An `if`, of which `other` is the else part.
-    #[cycle(live)]
-    fn push_if(
-        &self,
-        alloc: Global,
-        ty: BlockType,
-        body: &Code,
-        other: &Option<Code>,
-        along: &mut Along<'_>,
-        position: u32,
-        out: &mut Vec<Instr>,
-    ) -> Result<u32, AllocError>
-        requires low { position + code_size (before (If ty body.now other.now) done) + 1 < 2 ^ 31 }
-        requires room { HasRoom self.now.pool (code_temps self.now.hooks self.now.site position (before (If ty body.now other.now) done)) }
-        requires maps { Maps (remap self.now) (before (If ty body.now other.now) done) }
-        requires inside { 0 < length along.old.scopes }
-        requires sizes { BeginsWith (block_sizes (before (If ty body.now other.now) done)) along.old.sizes }
-        ensures scopes { OnOk result (along.new.scopes ≡ along.old.scopes) }
-        ensures sizes { OnOk result (LeavesBehind (block_sizes (before (If ty body.now other.now) done)) along.old.sizes along.new.sizes) }
-        ensures next { IfOk result (λ next. next ≡ position + code_size (before (If ty body.now other.now) done)) }
-        ensures code { IfOk result (λ next. (ss : List Scope) → along.old.scopes ≡ blocks_around ss → (t : Tree) → onto out.new.items (live_code self.now ss next t) ≡ onto out.old.items (live_code self.now ss position (before (If ty body.now other.now) t))) }
-    {
-        match other {
-            None => self.push_then(alloc, ty, body, along, position, out),
-            Some(other) => self.push_both(alloc, ty, body, other, along, position, out),
         }
     }
 
@@ -241,7 +213,7 @@ impl<'m> Setting<'m> {
         let end = position + size + 1;
         let block = block_at(BlockKind::If, position, end, end + 1);
         let inside = self.part(alloc, body, block, position + 1, along)?;
-        out.push(Instr::If(ty, inside, None))?;
+        out.push(Instr::If(ty, inside))?;
         Ok(end + 1)
     }
 
@@ -276,7 +248,7 @@ impl<'m> Setting<'m> {
         let second = block_at(BlockKind::Else, middle, end, end + 1);
         let inside = self.part(alloc, body, first, position + 1, along)?;
         let outside = self.part(alloc, other, second, middle + 1, along)?;
-        out.push(Instr::If(ty, inside, Some(outside)))?;
+        out.push(Instr::IfElse(ty, inside, outside))?;
         Ok(end + 1)
     }
 

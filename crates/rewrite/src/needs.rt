@@ -206,7 +206,9 @@ impl Needs {
         ensures { OnOk result (self.new ≡ with_needed self.old (instr_keys site.now position instr.now)) }
     {
         match instr {
-            Instr::Block(_, _) | Instr::Loop(_, _) | Instr::If(_, _, _) => Ok(()),
+            Instr::Block(_, _) | Instr::Loop(_, _) | Instr::If(_, _) | Instr::IfElse(_, _, _) => {
+                Ok(())
+            }
             Instr::Unreachable => self.add(HookKey::Plain(GroupName::Unreachable)),
             Instr::Nop => self.add(HookKey::Plain(GroupName::Nop)),
             Instr::Br(_) => self.add(HookKey::Plain(GroupName::Br)),

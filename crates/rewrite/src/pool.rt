@@ -3,6 +3,8 @@
 ghost use Rattle.std.specs.Prelude.{◌≡◌, ◌+◌, ◌<◌, ◌≤◌, ◌^◌, ◌++◌, ◌&&◌, [], ◌∷◌, length};
 ghost use Rattle.wasm_num.specs.declared.ValType.TheVariants.{I32};
 ghost use Rattle.wasm_num.specs.Shapes.{num_operands, num_result};
+ghost use Rattle.hook_select.specs.declared.GroupName.TheVariants as groups;
+ghost use Rattle.hook_select.specs.Groups.{has};
 ghost use Rattle.module_ast.specs.Plains.{IsPlainInstr};
 ghost use Rattle.module_ast.specs.Positions.{code_size};
 ghost use Rattle.module_ast.specs.Seen.{before};
@@ -198,6 +200,15 @@ impl Measured {
         }
     }
 
+    // Behind the opcode of an `if`.
+    fn behind_if(self, hooks: Hooks) -> Measured
+        requires { self.position + 1 < 2 ^ 32 }
+        ensures { result ≡ record self { room = widened_where (self.live && has hooks groups.If) self.room (I32 ∷ []); position = self.position + 1 } }
+    {
+        let room = self.or_types(hooks.has(GroupName::If), &[ValType::I32]);
+        self.with_opcode(room)
+    }
+
     // From the first instruction of a part of a body to behind its end, which is as live as its begin.
     #[cycle(measured)]
     fn behind_part(self, site: &Site, hooks: Hooks, code: &Code) -> Measured
@@ -235,14 +246,10 @@ impl Measured {
             Instr::Block(_, body) | Instr::Loop(_, body) => {
                 self.with_opcode(self.room).behind_part(site, hooks, body)
             }
-            Instr::If(_, body, other) => {
-                let room = self.or_types(hooks.has(GroupName::If), &[ValType::I32]);
-                let opened = self.with_opcode(room);
-                let then_part = opened.behind_part(site, hooks, body);
-                match other {
-                    None => then_part,
-                    Some(other) => then_part.behind_part(site, hooks, other),
-                }
+            Instr::If(_, body) => self.behind_if(hooks).behind_part(site, hooks, body),
+            Instr::IfElse(_, body, other) => {
+                let then_part = self.behind_if(hooks).behind_part(site, hooks, body);
+                then_part.behind_part(site, hooks, other)
             }
             _ => self.behind_plain(site, hooks, instr),
         }

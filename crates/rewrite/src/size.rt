@@ -30,9 +30,10 @@ ghost use Rattle.hook_select.specs.Groups.{has};
 ghost use Rattle.rewrite.specs.Conditions.{CanRewrite};
 ghost use Rattle.rewrite.specs.Kept.{kept_group};
 ghost use Rattle.rewrite.specs.Rewrite.{entry_code, br_if_before, size_of, setting_of};
-ghost use Rattle.rewrite.specs.Sizes.{plains_length, end_sums, before_opening, live_length, dead_length, place_length, opcode_most, FitsPlace, IsNear, IsNarrow};
+ghost use Rattle.rewrite.specs.Sizes.{plains_length, types_length, end_sums, before_opening, live_length, dead_length, place_length, opcode_most, FitsPlace, IsNear, IsNarrow};
 ghost use Rattle.rewrite.specs.Sizing.{AreShortInstrs, HaveBytes, AreBelow, AreBlocksAround, IsAt, CanCount, IsCountable, IsBranchTable, IsStraightInstr, br_told, br_if_told, types_most, ends_most, place_most};
 
+use crate::block_types::types_length;
 use crate::end_sums::EndSums;
 use crate::setting::Setting;
 use crate::templates::push_tee;
@@ -538,7 +539,7 @@ impl<'m> Setting<'m> {
             Opcode::Acts(instr) => self.act_length(alloc, instr, scopes, sums, position, scratch),
             Opcode::Opens(block) => {
                 let before = self.before_length(block.kind, position, scratch)?;
-                Ok(before + 2 + self.begin_length(block, scratch)?)
+                Ok(before + 1 + self.begin_length(block, scratch)?)
             }
             Opcode::Alternates {
                 then_part,
@@ -564,8 +565,7 @@ impl<'m> Setting<'m> {
         match place.opcode {
             Opcode::Enters => 0,
             Opcode::Acts(instr) => self.dead_act_length(instr),
-            Opcode::Opens(_) => 2,
-            Opcode::Alternates { .. } | Opcode::Closes(_) => 1,
+            Opcode::Opens(_) | Opcode::Alternates { .. } | Opcode::Closes(_) => 1,
         }
     }
 
@@ -603,24 +603,25 @@ impl<'m> Setting<'m> {
         Ok(count + groups_length(own) + groups_length(&added))
     }
 
-    // The bytes of the rewritten body, of which so many are its locals', and all places are left.
+    // The bytes of the rewritten body, of which so many are those of its locals and of its blocks' types, and all places
+    // are left.
     fn with_places(
         &self,
         alloc: Global,
-        locals: u64,
+        apart: u64,
         walk: &mut Walk<'_>,
         sums: &mut EndSums,
         scratch: &mut Vec<Instr>,
     ) -> Result<u64, AllocError>
         requires can { IsCountable self.now }
-        requires locals { locals ≡ length (vec_bytes group_bytes (self.now.site.body.groups ++ pool_groups self.now.pool)) }
-        requires few { locals ≤ length (body_bytes self.now.site.body) + 32 }
+        requires apart { apart ≡ length (vec_bytes group_bytes (self.now.site.body.groups ++ pool_groups self.now.pool)) + types_length self.now.site.body.code }
+        requires few { apart ≤ 2 * length (body_bytes self.now.site.body) + 32 }
         requires left { walk.old.left ≡ positions.places self.now.site.body.code }
         requires none { sums.old ≡ [] }
         ensures length { IfOk result (λ n. n ≡ size_of self.now) }
         ensures bound { IfOk result (λ n. n ≤ 2 ^ 36 * length (body_bytes self.now.site.body)) }
     {
-        let mut total = locals;
+        let mut total = apart;
         while let Some(place) = walk.next()? {
             self.follow(alloc, walk.scopes(), sums, scratch)?;
             total += self.place_length(alloc, &place, walk.scopes(), sums, scratch)?;
@@ -635,11 +636,12 @@ impl<'m> Setting<'m> {
         ensures length { IfOk result (λ n. n ≡ size_of self.now) }
         ensures bound { IfOk result (λ n. n ≤ 2 ^ 36 * length (body_bytes self.now.site.body)) }
     {
-        let locals = self.locals_length(alloc)?;
-        let mut walk = Walk::new(alloc, &self.site.body().code, self.site.sizes())?;
+        let code = &self.site.body().code;
+        let apart = self.locals_length(alloc)? + types_length(code);
+        let mut walk = Walk::new(alloc, code, self.site.sizes())?;
         let mut sums = EndSums::new(alloc);
         let mut scratch = Vec::new(alloc);
-        self.with_places(alloc, locals, &mut walk, &mut sums, &mut scratch)
+        self.with_places(alloc, apart, &mut walk, &mut sums, &mut scratch)
     }
 }
 

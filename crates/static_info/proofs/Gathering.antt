@@ -29,7 +29,8 @@ same_table p c q e = let same : c ≡ q = cc in ap (table_of p) (sym same)
 some_table : (p : ℤ) (i : Instr) (q : Plain) → plain_of i ≡ Some q → table_of p q ≡ instr_tables p i
 some_table p (instrs.Block b a) q e = cc
 some_table p (instrs.Loop b a) q e = cc
-some_table p (instrs.If b a c) q e = cc
+some_table p (instrs.If b a) q e = cc
+some_table p (instrs.IfElse b a c) q e = cc
 some_table p i q e = same_table p _ q e
 
 tables_of_opcode : (p : ℤ) (x : positions.Opcode) (y : Opcode) → IsOpcodeOf x y → table_by p x ≡ opcode_tables p y

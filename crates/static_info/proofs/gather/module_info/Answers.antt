@@ -1,4 +1,4 @@
-use Rattle.std.proofs.Common.{◌≡◌, length, ap, arith}
+use Rattle.std.proofs.Common.{length, ap, arith}
 use Rattle.module_ast.specs.declared.module.Module.{Module}
 use Rattle.code_valid.proofs.Few.{entries_fit}
 use Rattle.static_info.proofs.gather.module_info.Goals as goal

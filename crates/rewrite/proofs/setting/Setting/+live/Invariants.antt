@@ -1,7 +1,6 @@
 use Rattle.std.proofs.Common.{◌≡◌, ◌≤◌, ◌+◌, ◌*◌, ◌++◌, ℕ, drop, List, true}
 use Rattle.module_ast.specs.Tree.{weight, done}
 use Rattle.module_ast.specs.Seen.{before, code_of, onto}
-use Rattle.module_ast.specs.declared.code.Instr.TheVariants.{If}
 use Rattle.module_ast.specs.Lists.{when}
 use Rattle.module_ast.specs.Positions.{Scope, code_size, ends_live}
 use Rattle.branch_resolve.specs.Levels.{block_sizes}
@@ -21,9 +20,6 @@ decreases-push_code l = 8 * weight l.code.now + 2
 
 abbrev pub decreases-push_instr : goal.decreases-push_instr
 decreases-push_instr l = 8 * weight (before l.instr.now done) + 1
-
-abbrev pub decreases-push_if : goal.decreases-push_if
-decreases-push_if l = 8 * weight (before (If l.ty l.body.now l.other.now) done)
 
 abbrev pub decreases-push_then : goal.decreases-push_then
 decreases-push_then l = 8 * weight l.body.now + 5

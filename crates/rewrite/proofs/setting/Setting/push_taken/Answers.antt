@@ -1,4 +1,4 @@
-use Rattle.std.proofs.Common.{◌∙◌, ap, sym, ◌++◌, ◌∷◌, [], None}
+use Rattle.std.proofs.Common.{◌∙◌, ap, sym, ◌++◌, ◌∷◌, []}
 use Rattle.module_ast.specs.declared.code.BlockType.TheVariants.{Empty}
 use Rattle.module_ast.specs.declared.code.Instr.TheVariants.{If}
 use Rattle.module_ast.specs.Seen.{onto}
@@ -21,5 +21,5 @@ returns c ss e k =
     taken_added w (left_by ss l) old c.push_gets.new.code.items c.push.new.self.items c.push_left.new.code.items ts k
     c.in_ok-push_gets.ensures.added
     (c.in_ok-push_left.ensures ∙ ap (λ x. x ++ instrs (block_ends_code w (ends bs l))) c.new-inside.ensures.items ∙ ap (λ x. [] ++ instrs x) (left_is w bs ss l e))
-    (c.in_ok-push.ensures.items ∙ ap (λ b. c.push_gets.new.code.items ++ If Empty b None ∷ []) c.in_ok-told.ensures)
+    (c.in_ok-push.ensures.items ∙ ap (λ b. c.push_gets.new.code.items ++ If Empty b ∷ []) c.in_ok-told.ensures)
     ∙ ap (λ b. onto old (if_taken b w (left_by ss l) ts k)) (sym c.if-not-has.false ∙ c.has.ensures)

@@ -10,8 +10,8 @@ use Rattle.rewrite.proofs.setting.Setting.with_places.Goals as goal
 pub loop-place-init : goal.loop-place-init
 loop-place-init c =
     let w = c.args.self.now in
-    subst₂ (λ (s : List ℕ) (l : List positions.Place). IsCounting w c.args.locals s l) (sym c.requires.none) (sym c.requires.left)
-    (counting_first w c.args.locals c.requires.can c.requires.locals c.requires.few)
+    subst₂ (λ (s : List ℕ) (l : List positions.Place). IsCounting w c.args.apart s l) (sym c.requires.none) (sym c.requires.left)
+    (counting_first w c.args.apart c.requires.can c.requires.apart c.requires.few)
 
 pub place_length-requires-clause-can : goal.place_length-requires-clause-can
 place_length-requires-clause-can c =
