@@ -92,7 +92,8 @@ impl<'m> Session<'m> {
 
     /// Makes one step, and says what it did: the call of a hook, with its words, or another. `Over` exactly where the run
     /// has ended, or the script's steps were made; then nothing changes. An `Err` comes only where the start or a call of
-    /// the script is entered, or at a call or a `memory.grow`, and leaves the session as it was. (Standard, 4.4)
+    /// the script is entered, at a call or a `memory.grow`, or where the last frame is left with more than four values, and
+    /// leaves the session as it was. (Standard, 4.4)
     pub fn call(&mut self) -> Result<Turn, NoMemory>
         ensures turn { TakesTurn result self.old self.new }
         ensures within { self.new.made ≤ self.new.script.steps }
@@ -105,8 +106,8 @@ impl<'m> Session<'m> {
     }
 
     /// Makes the steps of the script that are left, or fewer to the end of the run. `OutOfSteps` says that the run goes on
-    /// then. An `Err` comes only where the start or a call of the script is entered, or at a call or a `memory.grow`, and
-    /// leaves the session before it, behind the steps made so far.
+    /// then. An `Err` comes only where the start or a call of the script is entered, at a call or a `memory.grow`, or where the
+    /// last frame is left with more than four values, and leaves the session before it, behind the steps made so far.
     pub fn run(&mut self) -> Result<Stop, NoMemory>
         ensures ran { RunsFor (self.old.script.steps - self.old.made) result self.old self.new }
         ensures within { self.new.made ≤ self.new.script.steps }

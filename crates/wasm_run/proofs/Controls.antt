@@ -30,7 +30,7 @@ module _ (s : Flat) (place : Tree) (inst : Instance) (e : Env) (fr : Frame) (bel
   starts t o lies h =
       subst (λ (t : Flat). IsAtLabel t inst e here below o [] [] here.top here.outer) (sym h) (record { values = refl; spots = lies.spots; bases = lies.bases })
 
-  itself : Lies s (fr ∷ below) → s ≡ with_values s (fr.top.ops ++ under fr below)
+  pub itself : Lies s (fr ∷ below) → s ≡ with_values s (fr.top.ops ++ under fr below)
   itself lies = ap (with_values s) lies.values
 
   from_zero : (n : ℕ) → 0 + n ≡ n
@@ -71,25 +71,30 @@ module _ (s : Flat) (place : Tree) (inst : Instance) (e : Env) (fr : Frame) (bel
   abbrev plain_next : Plain → List Value → Next
   plain_next p o = reduce_plain inst e here below p o
 
-  on_number : (p : Plain) → (IsUnstuck (plain_next p []) → ⊥) → ((n : ℕ) (o : List Value) → IsUnstuck (plain_next p (I64 n ∷ o)) → ⊥) → (P : List Value → Type 0)
-      → ((n : ℕ) (o : List Value) → fr.top.ops ≡ I32 n ∷ o → IsUnstuck (plain_next p (I32 n ∷ o)) → P (I32 n ∷ o)) → IsUnstuck (plain_next p fr.top.ops) → P fr.top.ops
-  on_number p none long P f r = go fr.top.ops refl r
+  -- what asks for an `i32` finds one on top
+  pub on_top : (Q : List Value → Type 0) → (Q [] → ⊥) → ((n : ℕ) (o : List Value) → Q (I64 n ∷ o) → ⊥) → (P : List Value → Type 0)
+      → ((n : ℕ) (o : List Value) → fr.top.ops ≡ I32 n ∷ o → Q (I32 n ∷ o) → P (I32 n ∷ o)) → Q fr.top.ops → P fr.top.ops
+  on_top Q none long P f r = go fr.top.ops refl r
     where
-      go : (o : List Value) → fr.top.ops ≡ o → IsUnstuck (plain_next p o) → P o
+      go : (o : List Value) → fr.top.ops ≡ o → Q o → P o
       go [] k r = absurd (none r)
       go (I64 n ∷ o) k r = absurd (long n o r)
       go (I32 n ∷ o) k r = f n o k r
+
+  on_number : (p : Plain) → (IsUnstuck (plain_next p []) → ⊥) → ((n : ℕ) (o : List Value) → IsUnstuck (plain_next p (I64 n ∷ o)) → ⊥) → (P : List Value → Type 0)
+      → ((n : ℕ) (o : List Value) → fr.top.ops ≡ I32 n ∷ o → IsUnstuck (plain_next p (I32 n ∷ o)) → P (I32 n ∷ o)) → IsUnstuck (plain_next p fr.top.ops) → P fr.top.ops
+  on_number p none long P f r = on_top (λ o. IsUnstuck (plain_next p o)) none long P f r
 
   abbrev number : Value → ℕ
   number (I32 n) = n
   number (I64 n) = n
 
   -- the operand has been taken
-  record Taken (x : ℕ) (t : Flat) (n : ℕ) (o : List Value) : Type 0 where
+  pub record Taken (x : ℕ) (t : Flat) (n : ℕ) (o : List Value) : Type 0 where
     pub left : t ≡ with_values s (o ++ under fr below)
     pub is : x ≡ n
 
-  takes : (x : ℕ) (t : Flat) (n : ℕ) (o : List Value) → Lies s (fr ∷ below) → s ≡ pushed (I32 x) t → fr.top.ops ≡ I32 n ∷ o → Taken x t n o
+  pub takes : (x : ℕ) (t : Flat) (n : ℕ) (o : List Value) → Lies s (fr ∷ below) → s ≡ pushed (I32 x) t → fr.top.ops ≡ I32 n ∷ o → Taken x t n o
   takes x t n o lies h k =
       let top : s.values ≡ I32 n ∷ (o ++ under fr below) = lies.values ∙ ap (λ o. o ++ under fr below) k in
       record { left = popped s t (I32 x) (I32 n) (o ++ under fr below) h top; is = ap number (popped_is s t (I32 x) (I32 n) (o ++ under fr below) h top) }

@@ -31,6 +31,12 @@ parts (suc n) (v ∷ o) acc taken rest e =
     let h = parts n o (v ∷ acc) taken rest e in
     record { whole = sym (append_assoc (reverse acc) (v ∷ []) o) ∙ ap (λ xs. xs ++ o) (sym (reverse-append (v ∷ []) acc)) ∙ h.whole; count = omega (arith, h.count) }
 
+-- what is popped stands on top of what is below
+pub pop_over : (n : ℕ) (o taken below a r : List Value) → pop_values n o taken ≡ Some (a, r) → pop_values n (o ++ below) taken ≡ Some (a, r ++ below)
+pop_over zero o taken below a r h = ap (λ (p : List Value × List Value). Some (p.0, p.1 ++ below)) (same_Some (taken, o) (a, r) h)
+pop_over (suc n) [] taken below a r h = absurd (none-some (a, r) h)
+pop_over (suc n) (v ∷ o) taken below a r h = pop_over n o (v ∷ taken) below a r h
+
 module _ (s u : Flat) (fr : Frame) (below : List Frame) (f : ℕ) (ty : FuncType) (locals : List ValType) (code : Tree) (args rest : List Value) (height nesting : ℕ) (lies : Lies s (fr ∷ below))
     (popped : pop_values (length ty.params) fr.top.ops [] ≡ Some (args, rest)) (enters : Enters (length ty.params) (zeros locals) code (length ty.results) height nesting s u) where
   abbrev caller : Frame

@@ -30,7 +30,7 @@ use Rattle.run_opening.specs.Resolved.{callee_for}
 use Rattle.run_opening.specs.declared.functions.Function.{Function}
 use Rattle.run_opening.specs.declared.functions.Function.TheVariants as functions
 use Rattle.wasm_run.specs.Running.{Innermost, IsRunning}
-use Rattle.wasm_run.proofs.Entering.{parts}
+use Rattle.wasm_run.proofs.Entering.{parts, pop_over}
 use Rattle.wasm_run.proofs.Invoking.{index_dropped, index_there, Invoker, invoker}
 
 -- ---- modules without hooks
@@ -82,12 +82,6 @@ nothing_told inst (configuration e (fr ∷ below)) h = no_call inst e fr.top.res
 -- nothing told is no call of a hook
 pub none_told : (inst : Instance) (c : Configuration) → told_items inst c ≡ [] → None ≡ hook_in (items inst c)
 none_told inst c h = hook_told inst c None (ap hook_in h) (λ _. refl)
-
--- what is popped stands on top of what is below
-pop_over : (n : ℕ) (o taken below a r : List Value) → pop_values n o taken ≡ Some (a, r) → pop_values n (o ++ below) taken ≡ Some (a, r ++ below)
-pop_over zero o taken below a r h = ap (λ (p : List Value × List Value). Some (p.0, p.1 ++ below)) (same_Some (taken, o) (a, r) h)
-pop_over (suc n) [] taken below a r h = absurd (none-some (a, r) h)
-pop_over (suc n) (v ∷ o) taken below a r h = pop_over n o (v ∷ taken) below a r h
 
 module _ (m : Module) (s : Script) (made : ℕ) (f : Flat) (memory : Held) (globals : List Value) (running : IsRunning m s made f memory globals) (slot : Option ℕ) (func : ℕ) (k : Tree) where
   abbrev inst : Instance

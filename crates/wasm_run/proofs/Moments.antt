@@ -1,5 +1,5 @@
 -- A step of the machine is a step of the run.
-use Rattle.std.proofs.Common.{◌≡◌, ℕ, ◌+◌, ◌<◌, ◌≤◌, List, [], ◌∷◌, Option, Some, None, Result, Ok, Err, refl, sym, ap, subst, ◌∙◌, ne_eqb, arith}
+use Rattle.std.proofs.Common.{◌≡◌, ℕ, ◌+◌, ◌<◌, ◌≤◌, List, [], ◌∷◌, inl, inr, Option, Some, None, Result, Ok, Err, refl, sym, ap, subst, ◌∙◌, ne_eqb, arith}
 use Rattle.std.specs.declared.alloc.AllocError.{AllocError}
 use Rattle.std.specs.Prelude.{IsErr, not, ◌==◌, length}
 use Rattle.wasm_num.specs.declared.Value.{Value}
@@ -14,16 +14,20 @@ use Rattle.wasm_sem.specs.declared.Trap.{Trap}
 use Rattle.wasm_sem.specs.Link.{Instance, instance}
 use Rattle.wasm_sem.specs.Machine.{Frame, Phase, starting, calling, over, Env, Configuration, configuration, Next, reduces, traps, env_after, step, after_step, run_of}
 use Rattle.wasm_run.proofs.Following.{NextFollows, step_follows}
-use Rattle.wasm_run.specs.Flat.{Flat, first_rest}
+use Rattle.wasm_run.specs.Flat.{Flat, first_base, first_rest, lowest_arity}
 use Rattle.wasm_run.specs.Standing.{IsStanding, KeepsStore, Went, Trapped as HasTrapped}
 use Rattle.wasm_run.specs.Advances.{IsAtCall, IsAtGrow, IsSame, Advances, GoesAtNoCall}
 use Rattle.wasm_run.specs.Rooms.{HaveRoom}
-use Rattle.wasm_run.specs.Below.{IsAnswerOf}
+use Rattle.wasm_run.specs.Below.{IsBelow, IsAnswerOf}
+use Rattle.wasm_run.specs.Calls.{NextIsNoCall}
+use Rattle.wasm_run.specs.Leaving.{HasNumber, LeavesFrom, LeavesLast}
 use Rattle.wasm_run.specs.Moves.{RunsOn, EndsWith, MovesBy, CallsOrGrows, MayWant, MakesStep}
 use Rattle.module_ast.specs.Tree.{Tree}
 use Rattle.wasm_run.specs.Running.{HoldsIf, Run, configuration_of, KeepsConfiguration, IsRunning, IsInside, Innermost}
 use Rattle.wasm_run.proofs.Beside.{NextGoesOn, step_goes_on}
-use Rattle.wasm_run.proofs.Ending.{few_live, NextAnswers, step_answers, same_values}
+use Rattle.wasm_run.proofs.Controls.{labels_are}
+use Rattle.wasm_run.proofs.Ending.{same_values}
+use Rattle.wasm_run.proofs.Ahead.{NextLeaves, step_leaves as left_by, has_number, leaves_many, results_there, left_with, results_few, no_call as no_call_left}
 use Rattle.wasm_run.proofs.Pushed.{push_length, pushed_same}
 use Rattle.wasm_sem.specs.Typed.{IsPhaseTyped}
 use Rattle.wasm_sem.proofs.Live.{IsLive, IsStateLive}
@@ -50,17 +54,76 @@ module _ (m : Module) (s : Script) (made : ℕ) (f : Flat) (memory : Held) (glob
   inst = instance m s
 
   -- the machine stands before the next step
-  pub standing : IsInside (run_of m s made) → (i : Instance) × (e : Env) × (fr : Frame) × (below : List Frame) × IsStanding f memory globals i e fr below
+  pub standing : IsInside (run_of m s made) → (i : Instance) × (e : Env) × (fr : Frame) × (below : List Frame) × (i.types ≡ m.types) × IsStanding f memory globals i e fr below
   standing inside = go (run_of m s made) refl running.keeps inside
     where
-      go : (c : Configuration) → run_of m s made ≡ c → KeepsConfiguration m s c f memory globals → IsInside c → (i : Instance) × (e : Env) × (fr : Frame) × (below : List Frame) × IsStanding f memory globals i e fr below
+      go : (c : Configuration) → run_of m s made ≡ c → KeepsConfiguration m s c f memory globals → IsInside c → (i : Instance) × (e : Env) × (fr : Frame) × (below : List Frame) × (i.types ≡ m.types) × IsStanding f memory globals i e fr below
       go (configuration e []) at keeps inside = absurd inside
       go (configuration e (fr ∷ below)) at (lies, store, room) inside =
-          let l = running.linked in (inst, e, fr, below, standing_at m s l.valid l.complete l.range l.links f memory globals made e fr below at lies store room)
+          let l = running.linked in (inst, e, fr, below, refl, standing_at m s l.valid l.complete l.range l.links f memory globals made e fr below at lies store room)
+
+  -- what is asked where the step may leave the last frame with many values
+  pub record IsReadable : Type 0 where
+    pub some : 0 < length f.bases
+    pub own : (first_base f.bases).labels < length f.spots
+    pub number : HasNumber (first_rest f.spots) f.values
+
+  pub readable : IsInside (run_of m s made) → IsReadable
+  readable inside =
+      let (i, e, fr, below, types, st) = standing inside in
+      let bases = ap length st.lies.bases in
+      let labels = labels_are f i e fr below st.lies in
+      record { some = omega (arith, bases); own = omega (arith, labels); number = has_number f i e fr below st.lies st.ready }
+
+  -- it does
+  pub leaves_last : IsInside (run_of m s made) → (above : ℕ) → LeavesFrom f above → LeavesLast above (run_of m s made)
+  leaves_last inside above h = go (run_of m s made) refl running.keeps inside
+    where
+      go : (c : Configuration) → run_of m s made ≡ c → KeepsConfiguration m s c f memory globals → IsInside c → LeavesLast above c
+      go (configuration e []) at keeps inside = absurd inside
+      go (configuration e (fr ∷ below)) at (lies, store, room) inside =
+          let l = running.linked in
+          let st = standing_at m s l.valid l.complete l.range l.links f memory globals made e fr below at lies store room in
+          leaves_many f inst e fr below lies st.ready above h
+
+  -- then they are there, and what ran has ended with them
+  pub record HasMany (above : ℕ) : Type 0 where
+    pub inside : IsInside (run_of m s made)
+    pub label : 0 < length f.spots
+    pub enough : above + lowest_arity f.spots ≤ length f.values
+    pub no_call : NextIsNoCall (first_rest f.spots)
+    pub wants : MayWant (run_of m s made)
+    pub running_on : (vs : List Value) → IsBelow above (lowest_arity f.spots) vs f.values → (empty : Flat) → empty.bases ≡ [] → IsRunning m s (made + 1) empty memory globals
+    pub ends_with : (vs : List Value) → IsBelow above (lowest_arity f.spots) vs f.values → EndsWith inst (Returned vs) (run_of m s made) (run_of m s (made + 1))
+
+  pub has_many : (above : ℕ) → LeavesLast above (run_of m s made) → HasMany above
+  has_many above h = go (run_of m s made) refl running.keeps h
+    where
+      go : (c : Configuration) → run_of m s made ≡ c → KeepsConfiguration m s c f memory globals → LeavesLast above c → HasMany above
+      go (configuration e []) at keeps h = absurd h
+      go (configuration e (fr ∷ below)) at (lies, store, room) h =
+          let l = running.linked in
+          let st = standing_at m s l.valid l.complete l.range l.links f memory globals made e fr below at lies store room in
+          let spots = ap length lies.spots in
+          let next : (vs : List Value) → IsBelow above (lowest_arity f.spots) vs f.values → configuration (env_after inst e.phase e (Returned vs)) [] ≡ run_of m s (made + 1) =
+          λ vs is_below. sym (next_state m s l.valid l.complete l.range l.links made (configuration e (fr ∷ below)) at ∙ ap (after_step inst (configuration e (fr ∷ below))) (left_with f inst e fr below lies st.ready above h vs is_below)) in
+          record {
+            inside = subst IsInside (sym at) tt;
+            label = omega (arith, spots);
+            enough = results_there f inst e fr below lies st.ready above h;
+            no_call = subst (λ ss. NextIsNoCall (first_rest ss)) (sym lies.spots) (no_call_left fr.top.rest fr.top.ops (length fr.outer) above h.leaves);
+            wants = subst MayWant (sym at) (inr (above, h));
+            running_on = λ vs is_below empty none. record {
+              linked = l;
+              keeps = subst (λ c. KeepsConfiguration m s c empty memory globals) (next vs is_below) (none, subst (λ st. KeepsStore inst st memory globals) (sym (env_store inst e.phase e (Returned vs))) store);
+            };
+            ends_with = λ vs is_below. subst (λ c. EndsWith inst (Returned vs) c (run_of m s (made + 1))) (sym at)
+                (subst (λ c. EndsWith inst (Returned vs) (configuration e (fr ∷ below)) c) (next vs is_below) (record { outside = λ h. h; told = record { phase = refl; started = refl; answers = refl } }));
+          }
 
   -- what a step leads to: a function runs on, or the last frame has left its values
   abbrev pub LeadsTo : Configuration → Configuration → Flat → Type 0
-  LeadsTo c (configuration e []) t = (vs : List Value) × EndsWith inst (Returned vs) c (configuration e []) × (t.bases ≡ []) × (t.values ≡ push vs []) × (length vs ≤ 1)
+  LeadsTo c (configuration e []) t = (vs : List Value) × EndsWith inst (Returned vs) c (configuration e []) × (t.bases ≡ []) × (t.values ≡ push vs []) × (((above : ℕ) → LeavesFrom f above → ⊥) → length vs ≤ 4)
   LeadsTo c (configuration e (fr ∷ below)) t = RunsOn c (configuration e (fr ∷ below)) × (0 < length t.bases)
 
   -- what a step leaves
@@ -80,18 +143,18 @@ module _ (m : Module) (s : Script) (made : ℕ) (f : Flat) (memory : Held) (glob
     went e fr below n follows room w = absurd w
 
     -- and leads there
-    leads : (e : Env) (fr : Frame) (below : List Frame) (n : Next) → (e.phase ≡ over → ⊥) → NextGoesOn e n → NextAnswers inst e n → Went inst e n t u g → LeadsTo (configuration e (fr ∷ below)) (after_step inst (configuration e (fr ∷ below)) n) t
-    leads e fr below (reduces (configuration x [])) busy on (us, p, few) (vs, q, ended, keeps) = (
+    leads : (e : Env) (fr : Frame) (below : List Frame) (n : Next) → IsStanding f memory globals inst e fr below → (e.phase ≡ over → ⊥) → NextGoesOn e n → NextLeaves inst e fr below fr.top.rest fr.top.ops n → Went inst e n t u g → LeadsTo (configuration e (fr ∷ below)) (after_step inst (configuration e (fr ∷ below)) n) t
+    leads e fr below (reduces (configuration x [])) st busy on left (vs, q, ended, keeps) = (
       vs,
       subst (λ x. EndsWith inst (Returned vs) (configuration e (fr ∷ below)) (configuration x [])) (sym q) (record { outside = λ h. h; told = record { phase = refl; started = refl; answers = refl } }),
       ended.bases,
       ended.values,
-      subst (λ (vs : List Value). length vs ≤ 1) (same_values inst e.phase e us vs busy (sym p ∙ q)) few,
+      λ none. subst (λ (vs : List Value). length vs ≤ 4) (same_values inst e.phase e left.results vs busy (sym left.is ∙ q)) (results_few f inst e fr below st.lies st.ready x left none),
     )
-    leads e fr below (reduces (configuration x (h ∷ hs))) busy on none (lies, keeps) =
+    leads e fr below (reduces (configuration x (h ∷ hs))) st busy on none (lies, keeps) =
         let bases = ap length lies.bases in
         (record { inside = tt; same = record { phase = on.phase; started = on.started; answers = on.answers } }, omega (arith, bases))
-    leads e fr below n busy on none w = absurd w
+    leads e fr below n st busy on none w = absurd w
 
     -- or trapped
     trapped : (e : Env) (fr : Frame) (below : List Frame) (n : Next) (trap : Trap) → HasTrapped inst e n trap u g → ((empty : Flat) → empty.bases ≡ [] → KeepsConfiguration m s (after_step inst (configuration e (fr ∷ below)) n) empty u g) × (n ≡ traps trap)
@@ -103,21 +166,20 @@ module _ (m : Module) (s : Script) (made : ℕ) (f : Flat) (memory : Held) (glob
     same_running h =
         subst (λ t. IsRunning m s made t u g) (sym h.stack) (subst (λ u. IsRunning m s made f u g) (sym h.memory_is) (subst (λ g. IsRunning m s made f memory g) (sym h.globals_are) running))
 
-    step_leaves : (e : Env) (fr : Frame) (below : List Frame) (r : Result Did AllocError) → run_of m s made ≡ configuration e (fr ∷ below) → HaveRoom m f.value_room f.spot_room (fr ∷ below)
+    step_leaves : (e : Env) (fr : Frame) (below : List Frame) (r : Result Did AllocError) → run_of m s made ≡ configuration e (fr ∷ below) → IsStanding f memory globals inst e fr below → HaveRoom m f.value_room f.spot_room (fr ∷ below)
         → GoesAtNoCall r fr.top.rest → Advances inst e fr below r f memory globals t u g → Leaves r (configuration e (fr ∷ below)) t u g
-    step_leaves e fr below (Ok dids.Went) at room none w =
+    step_leaves e fr below (Ok dids.Went) at st room none w =
         let l = running.linked in
         let live : IsLive m s e (fr ∷ below) = subst (IsStateLive m s) at (always_live m s l.valid l.complete l.range l.links made) in
-        let few = few_live m fr below l.valid live.frames in
         let there = sym (next_state m s l.valid l.complete l.range l.links made (configuration e (fr ∷ below)) at) in (
           record {
             linked = l;
             keeps = subst (λ c. KeepsConfiguration m s c t u g) there (went e fr below (step inst (configuration e (fr ∷ below))) (step_follows inst e fr below none) room w);
           },
           subst (λ c. LeadsTo (configuration e (fr ∷ below)) c t) there
-              (leads e fr below (step inst (configuration e (fr ∷ below))) (busy_phase inst e fr below e.phase live.phase) (step_goes_on inst e fr below none) (step_answers inst e fr below none few) w),
+              (leads e fr below (step inst (configuration e (fr ∷ below))) st (busy_phase inst e fr below e.phase live.phase) (step_goes_on inst e fr below none) (left_by inst e fr below none) w),
         )
-    step_leaves e fr below (Ok (dids.Trapped trap)) at room none w =
+    step_leaves e fr below (Ok (dids.Trapped trap)) at st room none w =
         let l = running.linked in
         let h = trapped e fr below (step inst (configuration e (fr ∷ below))) trap w in (
           λ empty unframed. record {
@@ -126,12 +188,12 @@ module _ (m : Module) (s : Script) (made : ℕ) (f : Flat) (memory : Held) (glob
           },
           h.1,
         )
-    step_leaves e fr below (Ok dids.Calls) at room none (call, same) = (same_running same, call)
-    step_leaves e fr below (Err v) at room none (grow, same) = (same_running same, grow)
+    step_leaves e fr below (Ok dids.Calls) at st room none (call, same) = (same_running same, call)
+    step_leaves e fr below (Err v) at st room none (grow, same) = (same_running same, grow)
 
     -- what the machine keeps behind the next step
     pub leaves : (r : Result Did AllocError) → IsInside (run_of m s made) → GoesAtNoCall r (first_rest f.spots)
-        → ((i : Instance) (e : Env) (fr : Frame) (below : List Frame) → IsStanding f memory globals i e fr below → Advances i e fr below r f memory globals t u g)
+        → ((i : Instance) (e : Env) (fr : Frame) (below : List Frame) → i.types ≡ m.types → IsStanding f memory globals i e fr below → Advances i e fr below r f memory globals t u g)
         → Leaves r (run_of m s made) t u g
     leaves r inside none advances = go (run_of m s made) refl running.keeps inside
       where
@@ -139,8 +201,8 @@ module _ (m : Module) (s : Script) (made : ℕ) (f : Flat) (memory : Held) (glob
         go (configuration e []) at keeps inside = absurd inside
         go (configuration e (fr ∷ below)) at (lies, store, room) inside =
             let l = running.linked in
-            step_leaves e fr below r at room (subst (λ ss. GoesAtNoCall r (first_rest ss)) lies.spots none)
-            (advances inst e fr below (standing_at m s l.valid l.complete l.range l.links f memory globals made e fr below at lies store room))
+            let st = standing_at m s l.valid l.complete l.range l.links f memory globals made e fr below at lies store room in
+            step_leaves e fr below r at st room (subst (λ ss. GoesAtNoCall r (first_rest ss)) lies.spots none) (advances inst e fr below refl st)
 
 -- what the machine answers behind a step that went on
 pub went_moves : (m : Module) (s : Script) (made : ℕ) (c d : Configuration) (f g : Flat) (memory : Held) (globals : List Value) (running : IsRunning m s made f memory globals) (a : Option Answer)
@@ -155,9 +217,9 @@ went_moves m s made c d f g memory globals running (Some Unfinished) h l = absur
 
 -- there are few values where the last frame has been left
 pub left_few : (m : Module) (s : Script) (made : ℕ) (c d : Configuration) (f g : Flat) (memory : Held) (globals : List Value) (running : IsRunning m s made f memory globals)
-    → LeadsTo m s made f memory globals running c d g → g.bases ≡ [] → length g.values ≤ 4
-left_few m s made c (configuration e []) f g memory globals running (vs, ends_so, bases, values, few) none = let n = ap length values in omega (arith, n, few, push_length vs [])
-left_few m s made c (configuration e (fr ∷ below)) f g memory globals running (on, some) none = let n = ap length none in absurd (omega (arith, some, n))
+    → LeadsTo m s made f memory globals running c d g → ((above : ℕ) → LeavesFrom f above → ⊥) → g.bases ≡ [] → length g.values ≤ 4
+left_few m s made c (configuration e []) f g memory globals running (vs, ends_so, bases, values, few) many none = let n = ap length values in let k = few many in omega (arith, n, k, push_length vs [])
+left_few m s made c (configuration e (fr ∷ below)) f g memory globals running (on, some) many none = let n = ap length none in absurd (omega (arith, some, n))
 
 -- where it traps
 pub trap_ends : (inst : Instance) (c : Configuration) (t : Trap) → step inst c ≡ traps t → EndsWith inst (Trapped t) c (after_step inst c (step inst c))
@@ -198,7 +260,7 @@ trap_running m s made f memory globals running t h empty unframed = go (run_of m
 -- memory is wanting at `memory.grow`
 pub wants_at_grow : (c : Configuration) → Innermost IsAtGrow c → MayWant c
 wants_at_grow (configuration e []) h = absurd h
-wants_at_grow (configuration e (fr ∷ below)) h = subst CallsOrGrows (sym h.at) tt
+wants_at_grow (configuration e (fr ∷ below)) h = inl (subst CallsOrGrows (sym h.at) tt)
 
 -- a label is there where a frame is
 pub label_there : (m : Module) (s : Script) (f : Flat) (memory : Held) (globals : List Value) (c : Configuration) → KeepsConfiguration m s c f memory globals → IsInside c → 0 < length f.spots

@@ -178,7 +178,8 @@ module _ (s : Flat) (memory : Held) (globals : List Value) (inst : Instance) (e 
   pub plain_of : (i : Instr) → IsSimple i → IsPlain i
   plain_of (instrs.Block ty a) h = absurd h
   plain_of (instrs.Loop ty a) h = absurd h
-  plain_of (instrs.If ty a b) h = absurd h
+  plain_of (instrs.If ty a) h = absurd h
+  plain_of (instrs.IfElse ty a b) h = absurd h
   plain_of (instrs.Br n) h = absurd h
   plain_of (instrs.BrIf n) h = absurd h
   plain_of (instrs.BrTable ns n) h = absurd h
@@ -215,8 +216,8 @@ module _ (s : Flat) (memory : Held) (globals : List Value) (inst : Instance) (e 
 
   -- what they come to, the innermost label standing behind
   same_step : (i : Instr) (k : Tree) (o : List Value) → IsControl i → reduce_code inst e fr below (before i k) o ≡ reduce_code inst e (moved k) below (before i k) o
-  same_step (instrs.If ty a None) k (I32 n ∷ o) h = refl
-  same_step (instrs.If ty a (Some b)) k (I32 n ∷ o) h = refl
+  same_step (instrs.If ty a) k (I32 n ∷ o) h = refl
+  same_step (instrs.IfElse ty a b) k (I32 n ∷ o) h = refl
   same_step i k o h = refl
 
   module _ (i : Instr) (k : Tree) (kind : IsControl i) (at : fr.top.rest ≡ before i k) where
@@ -226,7 +227,6 @@ module _ (s : Flat) (memory : Held) (globals : List Value) (inst : Instance) (e 
     control_room : (i : Instr) → IsControl i → HasStepRoom s.value_room s.spot_room (before i k) the_step → HasRoomFor s.value_room s.spot_room the_step
     control_room (instrs.Call f) kind h = absurd kind
     control_room (instrs.CallIndirect x) kind h = absurd kind
-    control_room (instrs.If ty a None) kind h = h
     control_room i kind h = h
 
     labels : (n : Next) (room : ℕ) → HasRoomFor s.value_room room n → HasLabelRoom room n

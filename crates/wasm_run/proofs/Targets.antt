@@ -1,5 +1,5 @@
 -- Where a call leads: the function of a direct call, the slot of one through the table, and what is told of a call of a hook.
-use Rattle.std.proofs.Common.{◌≡◌, ◌≢◌, ℕ, ◌-◌, ◌<◌, ◌≤◌, List, [], ◌∷◌, ◌++◌, length, take, drop, slice_index_or, Option, Some, None, Bool, true, false, cond, ◌&&◌, refl, sym, ap, ap₂, subst, ◌∙◌, arith, slice_get}
+use Rattle.std.proofs.Common.{inl, ◌≡◌, ◌≢◌, ℕ, ◌-◌, ◌<◌, ◌≤◌, List, [], ◌∷◌, ◌++◌, length, take, drop, slice_index_or, Option, Some, None, Bool, true, false, cond, ◌&&◌, refl, sym, ap, ap₂, subst, ◌∙◌, arith, slice_get}
 use Rattle.std.proofs.lemmas.Option.{slice_get_within, same_Some}
 use Rattle.wasm_num.specs.declared.ValType.{ValType}
 use Rattle.wasm_num.specs.declared.Value.{Value}
@@ -49,7 +49,6 @@ same_params a b h = same_length a.params b.params (and_true (have_same_types a.p
 no_call_before : (i : Instr) (k : Tree) → ((func : ℕ) → i ≡ instrs.Call func → ⊥) → ((ty : ℕ) → i ≡ instrs.CallIndirect ty → ⊥) → NextIsNoCall (before i k)
 no_call_before (instrs.Call func) k h g = absurd (h func refl)
 no_call_before (instrs.CallIndirect ty) k h g = absurd (g ty refl)
-no_call_before (instrs.If ty a None) k h g = tt
 no_call_before i k h g = tt
 
 pub no_call_there : (c : Configuration) (i : Instr) (k : Tree) → ((func : ℕ) → i ≡ instrs.Call func → ⊥) → ((ty : ℕ) → i ≡ instrs.CallIndirect ty → ⊥) → Innermost (λ (fr : Frame). fr.top.rest ≡ before i k) c
@@ -291,4 +290,4 @@ call_wants _ k h = absurd h
 -- at a call memory may be wanting
 pub reaches_wants : (inst : Instance) (c : Configuration) (slot : Option ℕ) (func : ℕ) (k : Tree) (called : Callee) → Reaches inst c slot func k called → MayWant c
 reaches_wants inst (configuration e []) slot func k called h = absurd h
-reaches_wants inst (configuration e (fr ∷ below)) slot func k called h = subst CallsOrGrows (sym h.at.at) (call_wants h.at.instr h.at.rest h.at.call)
+reaches_wants inst (configuration e (fr ∷ below)) slot func k called h = inl (subst CallsOrGrows (sym h.at.at) (call_wants h.at.instr h.at.rest h.at.call))

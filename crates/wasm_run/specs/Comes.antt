@@ -53,7 +53,8 @@ pub record IsMoving (s : Flat) (place : Tree) (i : Instr) (inst : Instance) (e :
 abbrev pub IsControl : Instr → Type 0
 IsControl (instrs.Block ty a) = Unit {0}
 IsControl (instrs.Loop ty a) = Unit {0}
-IsControl (instrs.If ty a b) = Unit {0}
+IsControl (instrs.If ty a) = Unit {0}
+IsControl (instrs.IfElse ty a b) = Unit {0}
 IsControl (instrs.Br l) = Unit {0}
 IsControl (instrs.BrIf l) = Unit {0}
 IsControl (instrs.BrTable ls l) = Unit {0}

@@ -14,6 +14,7 @@ pub mod Turns
 pub mod Moves
 pub mod Reaching
 pub mod Below
+pub mod Leaving
 pub mod Entries
 pub mod Progress
 pub mod Exported

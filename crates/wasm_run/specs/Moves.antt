@@ -1,10 +1,11 @@
 -- What a step of a run comes to: a function runs on, or what ran has ended; and where memory may be wanting.
-use Rattle.std.specs.Prelude.{◌≡◌, [], ◌∷◌, Result, Ok, Err, Option, Some, None, false}
+use Rattle.std.specs.Prelude.{◌≡◌, ℕ, ◌⊎◌, [], ◌∷◌, Result, Ok, Err, Option, Some, None, false}
 use Rattle.std.specs.declared.alloc.AllocError.{AllocError}
 use Rattle.module_ast.specs.Tree.{Tree, plain, call, call_indirect, memory_grow}
 use Rattle.wasm_sem.specs.declared.Answer.{Answer}
 use Rattle.wasm_sem.specs.Link.{Instance, instance}
 use Rattle.wasm_sem.specs.Machine.{Env, Configuration, configuration, env_after, is_last}
+use Rattle.wasm_run.specs.Leaving.{LeavesMany}
 use Rattle.wasm_run.specs.Running.{Run, configuration_of, one_more, IsInside}
 
 -- what stands beside the frames
@@ -34,10 +35,11 @@ CallsOrGrows (plain (call_indirect x) k) = Unit {0}
 CallsOrGrows (plain memory_grow k) = Unit {0}
 CallsOrGrows _ = ⊥
 
--- Memory may be wanting only where the start or a call of the script is entered, or at a call or a `memory.grow`.
+-- Memory may be wanting only where the start or a call of the script is entered, at a call or a `memory.grow`, or where the
+-- last frame is left with more than four values.
 abbrev pub MayWant : Configuration → Type 0
 MayWant (configuration e []) = is_last e.phase ≡ false
-MayWant (configuration e (fr ∷ below)) = CallsOrGrows fr.top.rest
+MayWant (configuration e (fr ∷ below)) = CallsOrGrows fr.top.rest ⊎ ((above : ℕ) × LeavesMany above fr below)
 
 -- a function runs on, or what ran has ended with this answer
 abbrev pub MovesBy : Instance → Option Answer → (old new : Configuration) → Type 0

@@ -16,6 +16,7 @@ use crate::control::{control, fall};
 use crate::stack::Stack;
 use crate::straight::straight;
 use module_ast::code::Instr;
+use module_ast::module::Module;
 use run_store::globals::Globals;
 use run_store::memory::Memory;
 use std::alloc::AllocError;
@@ -53,16 +54,22 @@ fn go_straight<'m>(
 }
 
 // An instruction that opens a block or branches, with the sequence from it on and the one behind it.
-fn go_control<'m>(stack: &mut Stack<'m>, place: &'m [Instr], instr: &'m Instr, rest: &'m [Instr])
+fn go_control<'m>(
+    stack: &mut Stack<'m>,
+    module: &Module,
+    place: &'m [Instr],
+    instr: &'m Instr,
+    rest: &'m [Instr],
+)
     requires kind { IsControl instr.now }
     requires place { code_of place.now ≡ before instr.now (code_of rest.now) }
-    requires standing { (m : Held) × (g : List number) × (inst : Instance) × (e : Env) × (fr : Frame) × (below : List Frame) × IsAtPlace stack.old m g (code_of place.now) inst e fr below }
-    ensures advances { (m : Held) (g : List number) (inst : Instance) (e : Env) (fr : Frame) (below : List Frame) → IsAtPlace stack.old m g (code_of place.now) inst e fr below → Went inst e (step inst (configuration e (fr ∷ below))) stack.new m g }
+    requires standing { (m : Held) × (g : List number) × (inst : Instance) × (e : Env) × (fr : Frame) × (below : List Frame) × (inst.types ≡ «module».now.types) × IsAtPlace stack.old m g (code_of place.now) inst e fr below }
+    ensures advances { (m : Held) (g : List number) (inst : Instance) (e : Env) (fr : Frame) (below : List Frame) → inst.types ≡ «module».now.types → IsAtPlace stack.old m g (code_of place.now) inst e fr below → Went inst e (step inst (configuration e (fr ∷ below))) stack.new m g }
     ensures value_room { stack.new.value_room ≡ stack.old.value_room }
     ensures spot_room { stack.new.spot_room ≡ stack.old.spot_room }
 {
     stack.go_on(rest);
-    control(stack, place, instr);
+    control(stack, module, place, instr);
 }
 
 // One instruction, with the sequence from it on and the one behind it.
@@ -70,13 +77,14 @@ fn instruction<'m>(
     stack: &mut Stack<'m>,
     memory: &mut Memory,
     globals: &mut Globals,
+    module: &Module,
     place: &'m [Instr],
     instr: &'m Instr,
     rest: &'m [Instr],
 ) -> Result<Did, AllocError>
     requires place { code_of place.now ≡ before instr.now (code_of rest.now) }
-    requires standing { (inst : Instance) × (e : Env) × (fr : Frame) × (below : List Frame) × IsAtPlace stack.old memory.old globals.old (code_of place.now) inst e fr below }
-    ensures advances { (inst : Instance) (e : Env) (fr : Frame) (below : List Frame) → IsAtPlace stack.old memory.old globals.old (code_of place.now) inst e fr below → Advances inst e fr below result stack.old memory.old globals.old stack.new memory.new globals.new }
+    requires standing { (inst : Instance) × (e : Env) × (fr : Frame) × (below : List Frame) × (inst.types ≡ «module».now.types) × IsAtPlace stack.old memory.old globals.old (code_of place.now) inst e fr below }
+    ensures advances { (inst : Instance) (e : Env) (fr : Frame) (below : List Frame) → inst.types ≡ «module».now.types → IsAtPlace stack.old memory.old globals.old (code_of place.now) inst e fr below → Advances inst e fr below result stack.old memory.old globals.old stack.new memory.new globals.new }
     ensures calls { GoesAtNoCall result (code_of place.now) }
     ensures value_room { stack.new.value_room ≡ stack.old.value_room }
     ensures spot_room { stack.new.spot_room ≡ stack.old.spot_room }
@@ -85,12 +93,13 @@ fn instruction<'m>(
         Instr::Call(_) | Instr::CallIndirect(_) => Ok(Did::Calls),
         Instr::Block(_, _)
         | Instr::Loop(_, _)
-        | Instr::If(_, _, _)
+        | Instr::If(_, _)
+        | Instr::IfElse(_, _, _)
         | Instr::Br(_)
         | Instr::BrIf(_)
         | Instr::BrTable(_, _)
         | Instr::Return => {
-            go_control(stack, place, instr, rest);
+            go_control(stack, module, place, instr, rest);
             Ok(Did::Went)
         }
         Instr::Unreachable
@@ -118,9 +127,10 @@ pub(crate) fn advance(
     stack: &mut Stack,
     memory: &mut Memory,
     globals: &mut Globals,
+    module: &Module,
 ) -> Result<Did, AllocError>
-    requires { (inst : Instance) × (e : Env) × (fr : Frame) × (below : List Frame) × IsStanding stack.old memory.old globals.old inst e fr below }
-    ensures advances { (inst : Instance) (e : Env) (fr : Frame) (below : List Frame) → IsStanding stack.old memory.old globals.old inst e fr below → Advances inst e fr below result stack.old memory.old globals.old stack.new memory.new globals.new }
+    requires { (inst : Instance) × (e : Env) × (fr : Frame) × (below : List Frame) × (inst.types ≡ «module».now.types) × IsStanding stack.old memory.old globals.old inst e fr below }
+    ensures advances { (inst : Instance) (e : Env) (fr : Frame) (below : List Frame) → inst.types ≡ «module».now.types → IsStanding stack.old memory.old globals.old inst e fr below → Advances inst e fr below result stack.old memory.old globals.old stack.new memory.new globals.new }
     ensures calls { GoesAtNoCall result (first_rest stack.old.spots) }
     ensures value_room { stack.new.value_room ≡ stack.old.value_room }
     ensures spot_room { stack.new.spot_room ≡ stack.old.spot_room }
@@ -131,6 +141,6 @@ pub(crate) fn advance(
             fall(stack);
             Ok(Did::Went)
         }
-        [instr, rest @ ..] => instruction(stack, memory, globals, place, instr, rest),
+        [instr, rest @ ..] => instruction(stack, memory, globals, module, place, instr, rest),
     }
 }

@@ -1,29 +1,83 @@
 // Instructions that open a block, or branch.
 
-ghost use Rattle.std.specs.Prelude.{◌≡◌, ◌∷◌, List, length, slice_index_or};
+ghost use Rattle.std.specs.Prelude.{◌≡◌, ◌∷◌, ◌<◌, ◌≤◌, List, length, slice_index_or, Some, None};
 ghost use Rattle.module_ast.specs.Seen.{code_of};
-ghost use Rattle.module_ast.specs.Typing.{block_results};
+ghost use Rattle.module_ast.specs.Typing.{block_type};
+ghost use Rattle.module_ast.specs.declared.module.FuncType.{FuncType as func_type};
+ghost use Rattle.wasm_run.specs.Flat.{opened};
 ghost use Rattle.wasm_sem.specs.Link.{Instance};
 ghost use Rattle.wasm_sem.specs.Machine.{Env, Frame, exit_label};
 ghost use Rattle.wasm_run.specs.Kept.{Lies};
 ghost use Rattle.wasm_run.specs.Comes.{IsUnstuck, IsMoving, IsControl, Comes, next_of};
 
 use crate::stack::Stack;
-use module_ast::code::{BlockType, Instr};
+use module_ast::code::{BlockType, Code, Instr};
 use module_ast::labels::Labels;
+use module_ast::module::Module;
 
-// How many results a block has.
-fn results(ty: BlockType) -> usize
-    ensures { result ≡ length (block_results ty) }
+// How many values a block takes, and how many it leaves.
+#[derive(Clone, Copy)]
+struct Counts {
+    starts: usize,
+    results: usize,
+}
+
+// The counts of a block's type. (Standard, 3.2.2)
+fn counts_of(module: &Module, ty: BlockType) -> Counts
+    requires { (t : func_type) × (block_type «module».now.types ty ≡ Some t) }
+    ensures { (t : func_type) → block_type «module».now.types ty ≡ Some t → result ≡ record { starts = length t.params; results = length t.results } }
 {
     match ty {
-        BlockType::Empty => 0,
-        BlockType::Value(_) => 1,
+        BlockType::Empty => Counts {
+            starts: 0,
+            results: 0,
+        },
+        BlockType::Value(_) => Counts {
+            starts: 0,
+            results: 1,
+        },
+        BlockType::Indexed(index) => {
+            let ty = &module.types.as_slice()[index as usize];
+            Counts {
+                starts: ty.params.as_slice().len(),
+                results: ty.results.as_slice().len(),
+            }
+        }
     }
 }
 
-// The label of this number in a table; past its end the default.
-fn label_at(labels: &Labels, default: u32, index: u32) -> u32
+// A block or a part of an `if` is entered: what it takes stays on top.
+fn enter_block<'m>(stack: &mut Stack<'m>, module: &Module, ty: BlockType, body: &'m Code)
+    requires typed { (t : func_type) × (block_type «module».now.types ty ≡ Some t) × (length t.params ≤ length stack.old.values) }
+    requires room { length stack.old.spots < stack.old.spot_room }
+    ensures opens { (t : func_type) → block_type «module».now.types ty ≡ Some t → stack.new ≡ opened body.now None (length t.params) (length t.results) stack.old }
+    ensures value_room { stack.new.value_room ≡ stack.old.value_room }
+    ensures spot_room { stack.new.spot_room ≡ stack.old.spot_room }
+{
+    let counts = counts_of(module, ty);
+    stack.open(body.as_slice(), None, counts.starts, counts.results);
+}
+
+// A loop is entered, with the sequence from it on: a branch to it takes what it takes.
+fn enter_loop<'m>(
+    stack: &mut Stack<'m>,
+    module: &Module,
+    place: &'m [Instr],
+    ty: BlockType,
+    body: &'m Code,
+)
+    requires typed { (t : func_type) × (block_type «module».now.types ty ≡ Some t) × (length t.params ≤ length stack.old.values) }
+    requires room { length stack.old.spots < stack.old.spot_room }
+    ensures opens { (t : func_type) → block_type «module».now.types ty ≡ Some t → stack.new ≡ opened body.now (Some (code_of place.now)) (length t.params) (length t.params) stack.old }
+    ensures value_room { stack.new.value_room ≡ stack.old.value_room }
+    ensures spot_room { stack.new.spot_room ≡ stack.old.spot_room }
+{
+    let starts = counts_of(module, ty).starts;
+    stack.open(body.as_slice(), Some(place), starts, starts);
+}
+
+/// The label of this number in a table; past its end the default.
+pub(crate) fn label_at(labels: &Labels, default: u32, index: u32) -> u32
     ensures { result ≡ slice_index_or labels.now index default }
 {
     labels
@@ -34,21 +88,31 @@ fn label_at(labels: &Labels, default: u32, index: u32) -> u32
 }
 
 /// A block is entered, or a branch made. It takes no memory. (Standard, 4.4.5)
-pub(crate) fn control<'m>(stack: &mut Stack<'m>, place: &'m [Instr], instr: &'m Instr)
+pub(crate) fn control<'m>(
+    stack: &mut Stack<'m>,
+    module: &Module,
+    place: &'m [Instr],
+    instr: &'m Instr,
+)
     requires kind { IsControl instr.now }
-    requires before { (inst : Instance) × (e : Env) × (fr : Frame) × (below : List Frame) × IsMoving stack.old (code_of place.now) instr.now inst e fr below }
-    ensures comes { (inst : Instance) (e : Env) (fr : Frame) (below : List Frame) → IsMoving stack.old (code_of place.now) instr.now inst e fr below → Comes inst e (next_of inst e fr below instr.now) stack.new }
+    requires before { (inst : Instance) × (e : Env) × (fr : Frame) × (below : List Frame) × (inst.types ≡ «module».now.types) × IsMoving stack.old (code_of place.now) instr.now inst e fr below }
+    ensures comes { (inst : Instance) (e : Env) (fr : Frame) (below : List Frame) → inst.types ≡ «module».now.types → IsMoving stack.old (code_of place.now) instr.now inst e fr below → Comes inst e (next_of inst e fr below instr.now) stack.new }
     ensures value_room { stack.new.value_room ≡ stack.old.value_room }
     ensures spot_room { stack.new.spot_room ≡ stack.old.spot_room }
 {
     match instr {
-        Instr::Block(ty, body) => stack.open(body.as_slice(), None, results(*ty)),
-        Instr::Loop(_, body) => stack.open(body.as_slice(), Some(place), 0),
-        Instr::If(ty, body, other) => {
+        Instr::Block(ty, body) => enter_block(stack, module, *ty, body),
+        Instr::Loop(ty, body) => enter_loop(stack, module, place, *ty, body),
+        Instr::If(ty, body) => {
             if stack.pop_i32() != 0 {
-                stack.open(body.as_slice(), None, results(*ty));
-            } else if let Some(other) = other {
-                stack.open(other.as_slice(), None, results(*ty));
+                enter_block(stack, module, *ty, body);
+            }
+        }
+        Instr::IfElse(ty, body, other) => {
+            if stack.pop_i32() != 0 {
+                enter_block(stack, module, *ty, body);
+            } else {
+                enter_block(stack, module, *ty, other);
             }
         }
         Instr::Br(label) => stack.branch(*label as usize),

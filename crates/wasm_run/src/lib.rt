@@ -7,6 +7,7 @@ mod control;
 mod exports;
 mod functions;
 mod host;
+mod leaving;
 mod machine;
 mod note;
 mod progress;

@@ -96,8 +96,8 @@ impl<'m> Machine<'m> {
     }
 
     /// Makes one step, and says what it did: the call of a hook, with its words, or another. After the end of the run nothing
-    /// changes. An `Err` comes only where the start or a call of the script is entered, or at a call or a `memory.grow`, and
-    /// leaves the machine as it was. (Standard, 4.4)
+    /// changes. An `Err` comes only where the start or a call of the script is entered, at a call or a `memory.grow`, or where
+    /// the last frame is left with more than four values, and leaves the machine as it was. (Standard, 4.4)
     pub fn step(&mut self) -> Result<Turn, NoMemory>
         requires few { self.old.made < 2 ^ 64 - 1 }
         ensures turns { MakesTurn result self.old self.new }
@@ -109,8 +109,8 @@ impl<'m> Machine<'m> {
     }
 
     /// Makes steps until the run is over or so many were made. `OutOfSteps` says that the run goes on then. An `Err` comes
-    /// only where the start or a call of the script is entered, or at a call or a `memory.grow`, and leaves the machine
-    /// before it, behind the steps made so far.
+    /// only where the start or a call of the script is entered, at a call or a `memory.grow`, or where the last frame is left
+    /// with more than four values, and leaves the machine before it, behind the steps made so far.
     pub fn run(&mut self, steps: u64) -> Result<Stop, NoMemory>
         requires few { self.old.made + steps < 2 ^ 64 }
         ensures ran { RunsFor steps result self.old self.new }

@@ -14,6 +14,7 @@ ghost use Rattle.wasm_run.specs.Running.{Run, configuration_of, HoldsIf, IsInsid
 ghost use Rattle.wasm_run.specs.Beside.{hosts_in, pages_in};
 ghost use Rattle.wasm_run.specs.Advances.{IsAtCall};
 ghost use Rattle.wasm_run.specs.Entries.{EntersNext};
+ghost use Rattle.wasm_run.specs.Leaving.{LeavesLast};
 ghost use Rattle.wasm_run.specs.Moves.{MayWant, MakesStep};
 ghost use Rattle.wasm_run.specs.Reaching.{IsAtSlot, Reaches, IsInvocation, IsTarget};
 ghost use Rattle.run_opening.specs.Resolved.{callee_for, HasSize, IsSizeOf};
@@ -24,6 +25,7 @@ use crate::advance::{Did, advance};
 use crate::call::{call_own, enter_alone};
 use crate::functions::{Invocation, Target, index_count};
 use crate::host::{answer, answer_entry, next_answer, return_numbers, values_of};
+use crate::leaving::above_many;
 use crate::note::{HostNote, Note, Noted, host_note, noted_entry};
 use crate::stack::Stack;
 use module_ast::code::Instr;
@@ -159,13 +161,22 @@ impl<'m> Running<'m> {
     }
 
     /// The next step of the innermost frame. Where it leaves the last one, or traps, what ran has ended. An `Err` comes at a
-    /// call or at `memory.grow` alone, and leaves all as it was. (Standard, 4.4)
+    /// call, at `memory.grow`, or where the last frame is left with more than four values, and leaves all as it was.
+    /// (Standard, 4.4)
     pub fn step_inside(&mut self) -> Result<Option<Answer>, AllocError>
         requires inside { IsInside (configuration_of self.old) }
         requires few { self.old.made < 2 ^ 64 - 1 }
         ensures { MakesStep result self.old self.new }
     {
-        match advance(&mut self.stack, &mut self.memory, &mut self.globals)? {
+        if let Some(above) = above_many(&self.stack) {
+            return self.leave_last(above);
+        }
+        match advance(
+            &mut self.stack,
+            &mut self.memory,
+            &mut self.globals,
+            self.module,
+        )? {
             Did::Went => {
                 self.made += 1;
                 Ok(self.stack.answer(self.alloc))
@@ -177,6 +188,20 @@ impl<'m> Running<'m> {
             }
             Did::Calls => self.call(),
         }
+    }
+
+    // The step leaves the last frame with more than four values, above which so many operands stand. They are read first: where
+    // there is no memory for them, the step is not made.
+    fn leave_last(&mut self, above: usize) -> Result<Option<Answer>, AllocError>
+        requires few { self.old.made < 2 ^ 64 - 1 }
+        requires leaves { LeavesLast above (configuration_of self.old) }
+        ensures { MakesStep result self.old self.new }
+    {
+        let count = self.stack.lowest_arity();
+        let results = self.stack.values_below(self.alloc, count, above)?;
+        self.stack.clear();
+        self.made += 1;
+        Ok(Some(Answer::Returned(results)))
     }
 
     /// The call of a hook that comes next, with its words; none where another step comes. An `Err` comes at a call alone.

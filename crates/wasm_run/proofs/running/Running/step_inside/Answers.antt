@@ -3,14 +3,28 @@ use Rattle.wasm_sem.specs.declared.Answer.TheVariants.{Trapped}
 use Rattle.wasm_sem.specs.Link.{instance}
 use Rattle.wasm_run.specs.Advances.{IsAtGrow, GoesAtNoCall}
 use Rattle.wasm_run.specs.Flat.{Flat, first_rest}
+use Rattle.wasm_run.specs.Leaving.{LeavesLast}
 use Rattle.wasm_run.specs.Moves.{MovesBy, EndsWith}
 use Rattle.wasm_run.specs.Running.{Run, one_more, configuration_of, IsInside, Innermost}
 use Rattle.wasm_run.specs.declared.advance.Did.{Did}
 use Rattle.wasm_run.proofs.Hosts.{inside_hosts, trap_hosts}
-use Rattle.wasm_run.proofs.Moments.{standing, Leaves, leaves, went_moves, left_few, trap_ends, wanting}
+use Rattle.wasm_run.proofs.Moments.{standing, readable, leaves_last, Leaves, leaves, went_moves, left_few, trap_ends, wanting}
 use Rattle.wasm_run.proofs.Rooms.{next_state}
 use Rattle.wasm_run.proofs.Noting.{quiet_note}
 use Rattle.wasm_run.proofs.running.Running.step_inside.Goals as goal
+
+pub above_many-requires-clause-some : goal.above_many-requires-clause-some
+above_many-requires-clause-some c = (readable c.self.inside.module.now c.self.inside.script.now c.self.inside.made c.self.inside.stack c.self.inside.memory c.self.inside.globals c.self.invariant.running (subst (λ (r : Run). IsInside (configuration_of r)) (sym c.self.view_is) c.requires.inside)).some
+
+pub above_many-requires-clause-own : goal.above_many-requires-clause-own
+above_many-requires-clause-own c = (readable c.self.inside.module.now c.self.inside.script.now c.self.inside.made c.self.inside.stack c.self.inside.memory c.self.inside.globals c.self.invariant.running (subst (λ (r : Run). IsInside (configuration_of r)) (sym c.self.view_is) c.requires.inside)).own
+
+pub above_many-requires-clause-number : goal.above_many-requires-clause-number
+above_many-requires-clause-number c = (readable c.self.inside.module.now c.self.inside.script.now c.self.inside.made c.self.inside.stack c.self.inside.memory c.self.inside.globals c.self.invariant.running (subst (λ (r : Run). IsInside (configuration_of r)) (sym c.self.view_is) c.requires.inside)).number
+
+pub leave_last-requires-clause-leaves : goal.leave_last-requires-clause-leaves
+leave_last-requires-clause-leaves c =
+    subst (λ (r : Run). LeavesLast c.in-Some.above (configuration_of r)) c.self.view_is (leaves_last c.self.inside.module.now c.self.inside.script.now c.self.inside.made c.self.inside.stack c.self.inside.memory c.self.inside.globals c.self.invariant.running (subst (λ (r : Run). IsInside (configuration_of r)) (sym c.self.view_is) c.requires.inside) c.in-Some.above c.in-Some.ensures)
 
 pub advance-requires : goal.advance-requires
 advance-requires c = standing c.self.inside.module.now c.self.inside.script.now c.self.inside.made c.self.inside.stack c.self.inside.memory c.self.inside.globals c.self.invariant.running (subst (λ (r : Run). IsInside (configuration_of r)) (sym c.self.view_is) c.requires.inside)
@@ -38,6 +52,7 @@ answer-requires c =
     ((subst (λ (d : Did). Leaves c.self.inside.module.now c.self.inside.script.now c.self.inside.made c.self.inside.stack c.self.inside.memory c.self.inside.globals c.self.invariant.running (Ok d) (configuration_of (record { «module» = c.self.inside.module.now; script = c.self.inside.script.now; made = c.self.inside.made })) c.advance.new.stack c.advance.new.memory c.advance.new.globals) c.in-Went.is
     (leaves c.self.inside.module.now c.self.inside.script.now c.self.inside.made c.self.inside.stack c.self.inside.memory c.self.inside.globals c.self.invariant.running c.advance.new.stack c.advance.new.memory c.advance.new.globals c.in_ok-advance.ensures.value_room c.in_ok-advance.ensures.spot_room (Ok c.in_ok-advance.field-0)
     (subst (λ (r : Run). IsInside (configuration_of r)) (sym c.self.view_is) c.requires.inside) c.in_ok-advance.ensures.calls c.in_ok-advance.ensures.advances))).1
+    c.in_default.ensures
 
 pub invariant_of-self-in-Went : goal.invariant_of-self-in-Went
 invariant_of-self-in-Went c =
