@@ -113,22 +113,25 @@ exchange_stands n ms os os2 ss bs st h e k g =
 
 -- ---- labels
 
-open_lies : (s : KeptLabel) (vs : List Value) (ss : List KeptLabel) (bs : List KeptFrame) (fs : List ShadowFrame) → Has 0 fs → s.height ≡ length vs → AreFramesKept vs ss bs fs → AreFramesKept vs (s ∷ ss) bs (label_opened_in s.kind s.begin s.arity fs)
-open_lies s vs ss bs [] k e h = absurd k
-open_lies s vs ss [] (fr ∷ below) k e h = absurd h.frames
-open_lies s vs ss (b ∷ bs) (fr ∷ below) k e h =
-    let size : s.height ≡ length (fr.top.ops ++ operands_in (fr.outer ++ labels_in below)) = e ∙ ap length h.values in
+open_lies : (n : ℕ) (s : KeptLabel) (vs : List Value) (ss : List KeptLabel) (bs : List KeptFrame) (fs : List ShadowFrame) → Has n fs → s.height ≡ length vs - n → AreFramesKept vs ss bs fs
+    → AreFramesKept vs (s ∷ ss) bs (label_opened_in s.kind s.begin n s.arity fs)
+open_lies n s vs ss bs [] k e h = absurd k
+open_lies n s vs ss [] (fr ∷ below) k e h = absurd h.frames
+open_lies n s vs ss (b ∷ bs) (fr ∷ below) k e h =
+    let rest = operands_in (fr.outer ++ labels_in below) in
+    let left = drop n fr.top.ops in
+    let size : s.height ≡ length (left ++ rest) = omega (arith, e, ap length h.values, length-append fr.top.ops rest, length-append left rest, length-drop n fr.top.ops, k) in
     record {
-      values = h.values;
-      labels = ap (λ height. record s { height = height } ∷ ss) size ∙ ap (λ ss. record s { height = length (fr.top.ops ++ operands_in (fr.outer ++ labels_in below)) } ∷ ss) h.labels;
+      values = h.values ∙ ap (λ ops. ops ++ rest) (sym (take-append-drop n fr.top.ops)) ∙ append_assoc (take n fr.top.ops) left rest;
+      labels = ap (λ height. record s { height = height } ∷ ss) size ∙ ap (λ ss. record s { height = length (left ++ rest) } ∷ ss) h.labels;
       frames = h.frames;
     }
 
-pub open_stands : (s : KeptLabel) (os : List Marked) (ss ss2 : List KeptLabel) (bs : List KeptFrame) (st : Standing) → AreWellKept os ss bs → standing os ss bs ≡ st → Has 0 st.frames → s.height ≡ length os → ss2 ≡ s ∷ ss
-    → Stands os ss2 bs (label_opened s.kind s.begin s.arity st)
-open_stands s os ss ss2 bs st h e k g q =
-    let l = open_lies s (values_in os) ss bs st.frames k (g ∙ sym (length-map os (λ (m : Marked). m.value))) (lying os ss bs st h e) in
-    stands os ss2 bs (label_opened_in s.kind s.begin s.arity st.frames) st.operands st.locals (subst (λ ss. AreFramesKept (values_in os) ss bs (label_opened_in s.kind s.begin s.arity st.frames)) (sym q) l)
+pub open_stands : (n : ℕ) (s : KeptLabel) (os : List Marked) (ss ss2 : List KeptLabel) (bs : List KeptFrame) (st : Standing) → AreWellKept os ss bs → standing os ss bs ≡ st → Has n st.frames → s.height ≡ length os - n → ss2 ≡ s ∷ ss
+    → Stands os ss2 bs (label_opened s.kind s.begin n s.arity st)
+open_stands n s os ss ss2 bs st h e k g q =
+    let l = open_lies n s (values_in os) ss bs st.frames k (g ∙ ap (λ k. k - n) (sym (length-map os (λ (m : Marked). m.value)))) (lying os ss bs st h e) in
+    stands os ss2 bs (label_opened_in s.kind s.begin n s.arity st.frames) st.operands st.locals (subst (λ ss. AreFramesKept (values_in os) ss bs (label_opened_in s.kind s.begin n s.arity st.frames)) (sym q) l)
     (ap (λ (st : Standing). st.operands) e) (ap (λ (st : Standing). st.locals) e)
 
 -- the frame and the labels around its innermost one

@@ -1,11 +1,21 @@
 -- The blocks of a module, function by function and position by position.
-use Rattle.std.specs.Prelude.{List, [], ◌∷◌, ◌++◌, map, ℤ, pos, negsuc, Option, None, slice_index_or}
+use Rattle.std.specs.Prelude.{List, [], ◌∷◌, ◌++◌, map, ℤ, pos, negsuc, Option, None, Some, slice_index_or}
 use Rattle.wasm_num.specs.declared.BlockKind.TheVariants as kinds
 use Rattle.module_ast.specs.declared.module.Module.{Module}
 use Rattle.module_ast.specs.Tree.{Tree, done, plain, block, loop, if_then, if_else}
 use Rattle.wasm_sem.specs.Link.{Callee, host, hook, own, callees_of}
 use Rattle.shadow_replay.specs.Blocks.{of_kind}
+use Rattle.module_ast.specs.declared.code.BlockType.TheVariants.{Empty, Value, Indexed}
+use Rattle.shadow_replay.specs.declared.blocks.Begun.{Begun}
+use Rattle.shadow_replay.specs.declared.blocks.Begun.TheVariants as begins
 use Rattle.shadow_replay.specs.declared.blocks.Block.{Block}
+
+-- the block that a place has, if one begins there
+abbrev pub begun_block : Begun → Option Block
+begun_block begins.Nothing = None
+begun_block (begins.Written kind None) = of_kind kind Empty
+begun_block (begins.Written kind (Some t)) = of_kind kind (Value t)
+begun_block (begins.Indexed kind x) = of_kind kind (Indexed x)
 
 -- the block that begins at each position of code, where one does
 abbrev pub code_row : Tree → List (Option Block)

@@ -132,13 +132,16 @@ label_closed st = record st { frames = label_closed_in st.frames }
 abbrev pub label_landed : List Marked → Standing → Standing
 label_landed ms st = exchanged 0 ms (label_closed (exchanged (operand_count st.frames) [] st))
 
-abbrev pub label_opened_in : BlockKind → (begin : ℤ) → (arity : ℕ) → List ShadowFrame → List ShadowFrame
-label_opened_in kind begin a [] = []
-label_opened_in kind begin a (fr ∷ below) = record fr { top = record { kind = kind; begin = begin; arity = a; ops = [] }; outer = fr.top ∷ fr.outer } ∷ below
+abbrev pub label_opened_in : BlockKind → (begin : ℤ) → (starts arity : ℕ) → List ShadowFrame → List ShadowFrame
+label_opened_in kind begin n a [] = []
+label_opened_in kind begin n a (fr ∷ below) = record fr {
+  top = record { kind = kind; begin = begin; arity = a; ops = take n fr.top.ops };
+  outer = record fr.top { ops = drop n fr.top.ops } ∷ fr.outer;
+} ∷ below
 
--- a block begins, with no operands
-abbrev pub label_opened : BlockKind → (begin : ℤ) → (arity : ℕ) → Standing → Standing
-label_opened kind begin a st = record st { frames = label_opened_in kind begin a st.frames }
+-- a block begins, with so many operands of the label around it
+abbrev pub label_opened : BlockKind → (begin : ℤ) → (starts arity : ℕ) → Standing → Standing
+label_opened kind begin n a st = record st { frames = label_opened_in kind begin n a st.frames }
 
 -- a function begins, with these locals
 abbrev pub frame_entered : (func arity : ℕ) → List Marked → Standing → Standing

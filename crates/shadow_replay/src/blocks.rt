@@ -1,21 +1,22 @@
 // The blocks of a module by the places where they begin.
 
-ghost use Rattle.std.specs.Prelude.{◌≡◌, ◌++◌, ◌∷◌, [], None, IfOk, OnOk, map};
-ghost use Rattle.module_ast.specs.declared.module.Module.{Module};
+ghost use Rattle.std.specs.Prelude.{◌≡◌, ◌++◌, ◌∷◌, [], None, Some, IfOk, OnOk, length, map};
+ghost use Rattle.module_ast.specs.declared.module.Module.{Module as valid_module};
 ghost use Rattle.module_ast.specs.Seen.{before};
-ghost use Rattle.module_ast.specs.Typing.{block_results};
+ghost use Rattle.module_ast.specs.Typing.{block_type};
+ghost use Rattle.module_ast.specs.declared.module.FuncType.{FuncType as func_type};
 ghost use Rattle.module_ast.specs.Tree.{Tree};
 ghost use Rattle.run_opening.specs.Resolved.{callee_for};
 ghost use Rattle.shadow_replay.specs.BlockRows.{code_row, callee_row, block_rows, row_block};
 ghost use Rattle.shadow_replay.specs.Blocks.{of_kind, block_at, label_arity};
 
 use module_ast::code::{BlockType, Code, Instr};
-use module_ast::module::Loc;
+use module_ast::module::{Loc, Module};
 use run_opening::Function;
 use std::alloc::Global;
 use std::marker::Model;
 use std::mem::size_of;
-use wasm_num::{BlockKind, NoMemory};
+use wasm_num::{BlockKind, NoMemory, ValType};
 
 /// A block, a loop or a part of an `if`: its kind, and its type as it is written.
 #[derive(Clone, Copy, Debug)]
@@ -24,47 +25,139 @@ pub struct Block {
     pub ty: BlockType,
 }
 
-// A row has one place for each position.
-const _: () = prove!(size_of::<Option<Block>>() <= 4);
+/// How many values a block takes, and how many a branch to its label. (Standard, 4.4.6)
+#[derive(Clone, Copy, Debug)]
+pub(crate) struct Counts {
+    pub starts: usize,
+    pub arity: usize,
+}
+
+// How many values a block of this kind takes, and how many a branch to its label, where it leaves so many.
+fn counts_for(kind: BlockKind, starts: usize, results: usize) -> Counts
+    ensures { (t : func_type) → starts ≡ length t.params → results ≡ length t.results → result ≡ record { starts = length t.params; arity = label_arity kind t } }
+{
+    let arity = match kind {
+        BlockKind::Loop => starts,
+        BlockKind::Function | BlockKind::Block | BlockKind::If | BlockKind::Else => results,
+    };
+    Counts { starts, arity }
+}
 
 impl Block {
-    /// How many values a branch to its label takes. (Standard, 4.4.6)
-    pub fn arity(&self) -> usize
-        ensures { result ≡ label_arity self.now.kind (record { params = []; results = block_results self.now.ty }) }
+    /// The counts of a block whose type is there.
+    pub fn counts(&self, module: &Module) -> Counts
+        requires { (t : func_type) × (block_type «module».now.types self.now.ty ≡ Some t) }
+        ensures { (t : func_type) → block_type «module».now.types self.now.ty ≡ Some t → result ≡ record { starts = length t.params; arity = label_arity self.now.kind t } }
     {
-        match (self.kind, self.ty) {
-            (BlockKind::Loop, _) | (_, BlockType::Empty) => 0,
-            (_, BlockType::Value(_)) => 1,
+        match self.ty {
+            BlockType::Empty => counts_for(self.kind, 0, 0),
+            BlockType::Value(_) => counts_for(self.kind, 0, 1),
+            BlockType::Indexed(index) => {
+                let ty = &module.types.as_slice()[index as usize];
+                let starts = ty.params.as_slice().len();
+                counts_for(self.kind, starts, ty.results.as_slice().len())
+            }
+        }
+    }
+}
+
+// What begins at a position. Types that are written out stand apart from those of an index, so that it has eight bytes.
+#[derive(Clone, Copy, Debug)]
+pub(crate) enum Begun {
+    Nothing,
+    Written(BlockKind, Option<ValType>),
+    Indexed(BlockKind, u32),
+}
+
+// A position of a function. Contracts see the block that begins there, if one does.
+#[derive(Drop)]
+pub(crate) struct Place {
+    begun: Begun,
+}
+
+impl Model for Place {
+    ghost use Rattle.std.specs.Prelude.{Option};
+    ghost use Rattle.shadow_replay.specs.declared.blocks.Block.{Block as block_there};
+    ghost use Rattle.shadow_replay.specs.BlockRows.{begun_block};
+
+    ghost Value = { Option block_there };
+
+    ghost view = { λ a. begun_block a.begun };
+}
+
+// A row has one place for each position.
+const _: () = prove!(size_of::<Place>() <= 8);
+
+impl Place {
+    // No block begins.
+    fn none() -> Place
+        ensures { result ≡ None }
+    {
+        Place {
+            begun: Begun::Nothing,
+        }
+    }
+
+    // A block of this kind and type begins.
+    fn new(kind: BlockKind, ty: BlockType) -> Place
+        ensures { result ≡ of_kind kind ty }
+    {
+        let begun = match ty {
+            BlockType::Empty => Begun::Written(kind, None),
+            BlockType::Value(ty) => Begun::Written(kind, Some(ty)),
+            BlockType::Indexed(index) => Begun::Indexed(kind, index),
+        };
+        Place { begun }
+    }
+
+    // The block that begins, if one does.
+    fn block(&self) -> Option<Block>
+        ensures { result ≡ self.now }
+    {
+        match self.begun {
+            Begun::Nothing => None,
+            Begun::Written(kind, None) => Some(Block {
+                kind,
+                ty: BlockType::Empty,
+            }),
+            Begun::Written(kind, Some(ty)) => Some(Block {
+                kind,
+                ty: BlockType::Value(ty),
+            }),
+            Begun::Indexed(kind, index) => Some(Block {
+                kind,
+                ty: BlockType::Indexed(index),
+            }),
         }
     }
 }
 
 // Notes a position where no block begins.
-fn note_none(row: &mut Vec<Option<Block>>) -> Result<(), NoMemory>
+fn note_none(row: &mut Vec<Place>) -> Result<(), NoMemory>
     ensures { OnOk result (row.new.items ≡ row.old.items ++ None ∷ []) }
 {
-    row.push(None)?;
+    row.push(Place::none())?;
     Ok(())
 }
 
 // Notes where a block, a loop or a part of an `if` begins, and the positions inside.
 #[cycle(rows)]
 fn note_part(
-    row: &mut Vec<Option<Block>>,
+    row: &mut Vec<Place>,
     kind: BlockKind,
     ty: BlockType,
     body: &Code,
 ) -> Result<(), NoMemory>
     ensures { OnOk result (row.new.items ≡ row.old.items ++ of_kind kind ty ∷ code_row body.now) }
 {
-    row.push(Some(Block { kind, ty }))?;
+    row.push(Place::new(kind, ty))?;
     note_code(row, body)
 }
 
 // Notes a block or a loop, or an `if` with one part, and its end.
 #[cycle(rows)]
 fn note_block(
-    row: &mut Vec<Option<Block>>,
+    row: &mut Vec<Place>,
     kind: BlockKind,
     ty: BlockType,
     body: &Code,
@@ -77,14 +170,14 @@ fn note_block(
 
 // Notes the positions of an instruction.
 #[cycle(rows)]
-fn note_instr(row: &mut Vec<Option<Block>>, instr: &Instr) -> Result<(), NoMemory>
+fn note_instr(row: &mut Vec<Place>, instr: &Instr) -> Result<(), NoMemory>
     ensures { OnOk result ((t : Tree) → row.new.items ++ code_row t ≡ row.old.items ++ code_row (before instr.now t)) }
 {
     match instr {
         Instr::Block(ty, body) => note_block(row, BlockKind::Block, *ty, body),
         Instr::Loop(ty, body) => note_block(row, BlockKind::Loop, *ty, body),
-        Instr::If(ty, body, None) => note_block(row, BlockKind::If, *ty, body),
-        Instr::If(ty, body, Some(other)) => {
+        Instr::If(ty, body) => note_block(row, BlockKind::If, *ty, body),
+        Instr::IfElse(ty, body, other) => {
             note_part(row, BlockKind::If, *ty, body)?;
             note_block(row, BlockKind::Else, *ty, other)
         }
@@ -94,7 +187,7 @@ fn note_instr(row: &mut Vec<Option<Block>>, instr: &Instr) -> Result<(), NoMemor
 
 // Notes the positions of code.
 #[cycle(rows)]
-fn note_code(row: &mut Vec<Option<Block>>, code: &Code) -> Result<(), NoMemory>
+fn note_code(row: &mut Vec<Place>, code: &Code) -> Result<(), NoMemory>
     ensures { OnOk result (row.new.items ≡ row.old.items ++ code_row code.now) }
 {
     for instr in code.as_slice() {
@@ -106,7 +199,7 @@ fn note_code(row: &mut Vec<Option<Block>>, code: &Code) -> Result<(), NoMemory>
 // The block that begins at each position of a function, which contracts see as a list.
 #[derive(Drop)]
 struct Row {
-    places: Vec<Option<Block>>,
+    places: Vec<Place>,
 }
 
 impl Model for Row {
@@ -127,7 +220,7 @@ impl Row {
             return None;
         };
         match self.places.as_slice().get(place) {
-            Some(begun) => *begun,
+            Some(place) => place.block(),
             None => None,
         }
     }
@@ -173,7 +266,7 @@ impl Blocks {
 
     /// The block that begins at a place of the module, if one does. It takes constant time.
     pub fn at(&self, loc: Loc) -> Option<Block>
-        ensures { (m : Module) → self.now ≡ block_rows m → result ≡ block_at m loc }
+        ensures { (m : valid_module) → self.now ≡ block_rows m → result ≡ block_at m loc }
     {
         match self.rows.as_slice().get(loc.func as usize) {
             Some(row) => row.at(loc.instr),

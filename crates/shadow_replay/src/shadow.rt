@@ -569,7 +569,9 @@ impl<'m> Shadow<'m> {
         let Some(block) = self.blocks.at(loc) else {
             unreachable!();
         };
-        self.stack.open(block.kind, loc.instr, block.arity())
+        let counts = block.counts(self.valid.module());
+        self.stack
+            .open(block.kind, loc.instr, counts.starts, counts.arity)
     }
 
     // The event of a function or a block that begins.

@@ -123,17 +123,23 @@ impl Stack {
         Ok(())
     }
 
-    /// A block begins, with no operands.
-    pub fn open(&mut self, kind: BlockKind, begin: i32, arity: usize) -> Result<(), NoMemory>
-        requires { Has 0 self.old.frames }
-        ensures ok { OnOk result (self.new ≡ label_opened kind begin arity self.old) }
+    /// A block begins, with so many operands of the label around it.
+    pub fn open(
+        &mut self,
+        kind: BlockKind,
+        begin: i32,
+        starts: usize,
+        arity: usize,
+    ) -> Result<(), NoMemory>
+        requires { Has starts self.old.frames }
+        ensures ok { OnOk result (self.new ≡ label_opened kind begin starts arity self.old) }
         ensures err { OnErr result (self.new ≡ self.old) }
     {
         self.labels.push(Label {
             kind,
             begin,
             arity,
-            height: self.operands.len(),
+            height: self.operands.len() - starts,
         })?;
         Ok(())
     }
