@@ -28,7 +28,7 @@ fn body(alloc: Global) -> Result<Code, AllocError>
         alloc,
         [
             Instr::LocalGet(0),
-            Instr::If(BlockType::Empty, then_part, Some(else_part)),
+            Instr::IfElse(BlockType::Empty, then_part, else_part),
             Instr::LocalGet(0),
             Instr::BrTable(labels, 1),
         ],

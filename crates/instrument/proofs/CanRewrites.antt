@@ -17,7 +17,7 @@ use Rattle.module_ast.specs.Marks.{func_type_or}
 use Rattle.module_ast.specs.Profile.{locals_of, IsWithin}
 use Rattle.module_ast.specs.Spaces.{imported_funcs, funcs_of}
 use Rattle.module_ast.specs.Tree.{Tree, done, plain, block, loop, if_then, if_else, Plain, call}
-use Rattle.module_ast.specs.Typing.{Context, block_results, push, TypesPlain, TypesCode}
+use Rattle.module_ast.specs.Typing.{Context, push, TypesPlain, TypesCode}
 use Rattle.module_ast.specs.Validity.{function_types, export_indices, start_index, element_funcs, declared_locals, count_of, body_context, IsValid}
 use Rattle.module_ast.proofs.Each.{all_at}
 use Rattle.module_ast.proofs.Indexed.{each_in}
@@ -49,14 +49,16 @@ module _ (r : Remap) (c : Context) (few : length c.funcs + r.added ≤ 2 ^ 32) w
   code_maps : (labels : List (List ValType)) (k : Tree) (a b : List ValType) → TypesCode (labelled c labels) k a b → Maps r k
   code_maps labels done a b h = tt
   code_maps labels (plain i k) a b (m, t, h) = (plain_maps labels i a m t, code_maps labels k m b h)
-  code_maps labels (block ty body k) a b (h, t) =
-      (code_maps (block_results ty ∷ labels) body [] (push (block_results ty) []) h, code_maps labels k (push (block_results ty) a) b t)
-  code_maps labels (loop ty body k) a b (h, t) = (code_maps ([] ∷ labels) body [] (push (block_results ty) []) h, code_maps labels k (push (block_results ty) a) b t)
-  code_maps labels (if_then ty body k) a b (e, below, f, h, t) = (code_maps ([] ∷ labels) body [] [] h, code_maps labels k below b t)
-  code_maps labels (if_else ty body other k) a b (below, f, h, o, t) = (
-    code_maps (block_results ty ∷ labels) body [] (push (block_results ty) []) h,
-    code_maps (block_results ty ∷ labels) other [] (push (block_results ty) []) o,
-    code_maps labels k (push (block_results ty) below) b t,
+  code_maps labels (block ty body k) a b (t, below, e, at, h, rest) =
+      (code_maps (t.results ∷ labels) body (push t.params []) (push t.results []) h, code_maps labels k (push t.results below) b rest)
+  code_maps labels (loop ty body k) a b (t, below, e, at, h, rest) =
+      (code_maps (t.params ∷ labels) body (push t.params []) (push t.results []) h, code_maps labels k (push t.results below) b rest)
+  code_maps labels (if_then ty body k) a b (t, below, e, at, alike, h, rest) =
+      (code_maps (t.results ∷ labels) body (push t.params []) (push t.results []) h, code_maps labels k (push t.results below) b rest)
+  code_maps labels (if_else ty body other k) a b (t, below, e, at, h, o, rest) = (
+    code_maps (t.results ∷ labels) body (push t.params []) (push t.results []) h,
+    code_maps (t.results ∷ labels) other (push t.params []) (push t.results []) o,
+    code_maps labels k (push t.results below) b rest,
   )
 
 -- ---- how many hooks there are

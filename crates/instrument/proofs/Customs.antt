@@ -1,5 +1,5 @@
 -- Names of custom sections change nothing of what a module is and does.
-use Rattle.std.proofs.Common.{◌≡◌, ◌<◌, ℕ, suc, nat_le, List, [], ◌∷◌, Option, Some, None, refl, sym, ap, subst, ◌∙◌, All, IfSome, slice_get}
+use Rattle.std.proofs.Common.{◌≡◌, ◌<◌, ℕ, suc, nat_le, List, [], ◌∷◌, Option, Some, None, refl, sym, ap, subst, ◌∙◌, IfSome, slice_get}
 use Rattle.std.specs.List.{AllZip}
 use Rattle.std.proofs.lemmas.List.Elements.{All-weaker}
 use Rattle.module_ast.specs.declared.module.Export.{Export}
@@ -8,7 +8,6 @@ use Rattle.module_ast.specs.declared.module.ExportKind.TheVariants.{Func, Table,
 use Rattle.module_ast.specs.declared.module.FuncType.{FuncType}
 use Rattle.module_ast.specs.declared.module.Limits.{Limits}
 use Rattle.module_ast.specs.declared.module.Module.{Module}
-use Rattle.module_ast.specs.declared.module.Which.{Which}
 use Rattle.module_ast.specs.declared.module.Which.TheVariants.{Functions, Types, Parameters, Locals, Nesting}
 use Rattle.module_ast.specs.Limits.{wide}
 use Rattle.module_ast.specs.Profile.{IsWithin}

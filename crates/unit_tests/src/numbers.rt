@@ -1,6 +1,6 @@
 // Spellings that are known from elsewhere, read and written.
 
-use leb_binary::{Bad, Cursor, put_s32, put_s64, put_u32};
+use leb_binary::{Bad, Cursor, put_s32, put_s33, put_s64, put_u32};
 use std::test::Fail;
 
 // Unsigned numbers at the front of bytes, and how many bytes they take.
@@ -37,7 +37,7 @@ fn refuses_unsigned(rt: HostRuntime) {
     }
 }
 
-// Signed numbers, each the same in 32 bits and in 64.
+// Signed numbers, each the same in 32 bits, in 33 and in 64.
 static SIGNED: [(&[u8], i32); 6] = [
     (&[0xC0, 0xBB, 0x78], -123_456),
     (&[0x7F], -1),
@@ -47,15 +47,16 @@ static SIGNED: [(&[u8], i32); 6] = [
     (&[0x80, 0x80, 0x80, 0x80, 0x78], i32::MIN),
 ];
 
-fn reads_both(bytes: &[u8], want: i32) -> bool {
+fn reads_all(bytes: &[u8], want: i32) -> bool {
     Cursor::new(bytes).read_s32() == Ok(want)
+        && Cursor::new(bytes).read_s33() == Ok(i64::from(want))
         && Cursor::new(bytes).read_s64() == Ok(i64::from(want))
 }
 
 #[test]
 fn reads_signed(rt: HostRuntime) {
     for &(bytes, want) in &SIGNED {
-        assert!(rt; reads_both(bytes, want), "{want}");
+        assert!(rt; reads_all(bytes, want), "{want}");
     }
 }
 
@@ -71,6 +72,30 @@ fn is_long(bytes: &[u8]) -> bool {
 fn reads_the_least(rt: HostRuntime) {
     assert!(rt; Cursor::new(&LEAST).read_s64() == Ok(i64::MIN));
     assert!(rt; is_long(&LEAST) && is_long(&[0x80, 0x80, 0x80, 0x80, 0x70]));
+}
+
+// The greatest number of 33 bits, and the least.
+static PAST: [(&[u8], i64); 2] = [
+    (&[0xFF, 0xFF, 0xFF, 0xFF, 0x0F], 4_294_967_295),
+    (&[0x80, 0x80, 0x80, 0x80, 0x70], -4_294_967_296),
+];
+
+// Whether these bytes are a number of 33 bits, and none of 32.
+fn reads_past(bytes: &[u8], want: i64) -> bool {
+    Cursor::new(bytes).read_s33() == Ok(want) && is_long(bytes)
+}
+
+// Whether these bytes are no number of 33 bits.
+fn is_longer(bytes: &[u8]) -> bool {
+    Cursor::new(bytes).read_s33() == Err(Bad)
+}
+
+#[test]
+fn reads_a_bit_more(rt: HostRuntime) {
+    for &(bytes, want) in &PAST {
+        assert!(rt; reads_past(bytes, want), "{want}");
+    }
+    assert!(rt; is_longer(&LEAST) && is_longer(&[0x80, 0x80, 0x80, 0x80, 0x10]));
 }
 
 // Whether a name, a byte and no name are read, up to place 4.
@@ -104,11 +129,13 @@ fn writes_shortest(rt: HostRuntime) -> Result<(), Fail> {
     put_u32(&mut out, u32::MAX)?;
     put_s32(&mut out, -123_456)?;
     put_s32(&mut out, 64)?;
+    put_s33(&mut out, 64)?;
+    put_s33(&mut out, 4_294_967_295)?;
     put_s64(&mut out, -1)?;
     put_s64(&mut out, i64::from(i32::MIN))?;
     let want = [
-        0xE5, 0x8E, 0x26, 0x00, 0xFF, 0xFF, 0xFF, 0xFF, 0x0F, 0xC0, 0xBB, 0x78, 0xC0, 0x00, 0x7F,
-        0x80, 0x80, 0x80, 0x80, 0x78,
+        0xE5, 0x8E, 0x26, 0x00, 0xFF, 0xFF, 0xFF, 0xFF, 0x0F, 0xC0, 0xBB, 0x78, 0xC0, 0x00, 0xC0,
+        0x00, 0xFF, 0xFF, 0xFF, 0xFF, 0x0F, 0x7F, 0x80, 0x80, 0x80, 0x80, 0x78,
     ];
     assert_eq!(rt; out.as_slice(), want.as_slice());
     Ok(())
