@@ -28,10 +28,10 @@ use Rattle.instrument.specs.Same.{IsPrefix, env_in, told_so_far}
 use Rattle.instrument.specs.Shell.{Shell, with_customs}
 use Rattle.instrument.proofs.Customs.{hooks_same}
 use Rattle.instrument.proofs.Reports as runs
+use Rattle.app_runs.specs.ToldNames.{original_names}
+use Rattle.app_runs.specs.Reporting.{events_told, reports_text}
 use Rattle.wasabi_app.specs.Composing.{selected_events, ReportsOriginal, SameRunsReport, OutputsReport, KeptNamesComeBack}
 use Rattle.wasabi_app.specs.KeptNames.{output_names}
-use Rattle.wasabi_app.specs.ToldNames.{original_names}
-use Rattle.wasabi_app.specs.Reporting.{events_told, reports_text}
 use Rattle.app_plan.proofs.Files.{one_module}
 use Rattle.app_plan.proofs.Infos.{one_info}
 

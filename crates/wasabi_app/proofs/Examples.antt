@@ -15,7 +15,7 @@ use Rattle.shadow_replay.specs.Laws.{tainted_shadow_after}
 use Rattle.shadow_replay.specs.Taint.{Watch}
 use Rattle.shadow_replay.specs.Tainted.{TaintedShadow}
 use Rattle.instrument.specs.Output.{output}
-use Rattle.wasabi_app.specs.Reporting.{items_told}
+use Rattle.app_runs.specs.Reporting.{items_told}
 use Rattle.wasabi_app.specs.Modes.Trial.{all_hooks}
 
 -- its function stores this number as a byte

@@ -10,10 +10,10 @@ use Rattle.run_session.specs.declared.link.LinkFault.TheVariants.{NoExport, BadA
 use Rattle.run_session.specs.Linking.{TellsRefusal}
 use Rattle.analyses.specs.Tools.{ToolState}
 use Rattle.app_plan.specs.Printing.{ShelfState}
-use Rattle.wasabi_app.specs.RunTexts.{has_trapped, run_status, run_text}
-use Rattle.wasabi_app.specs.Linking.{link_reason, link_text, IsUnlinkedBy, IsUnlinked}
+use Rattle.app_runs.specs.RunTexts.{has_trapped, run_status, run_text}
+use Rattle.app_runs.specs.Linking.{link_reason, link_text, IsUnlinkedBy, IsUnlinked}
 use Rattle.app_plan.proofs.Contents.{unchanged_same}
-use Rattle.wasabi_app.proofs.RunEnds.{call_within}
+use Rattle.app_runs.proofs.RunEnds.{call_within}
 use Rattle.app_plan.specs.declared.told.Printed.{Printed}
 use Rattle.app_plan.specs.declared.told.Refusal.{Refusal}
 use Rattle.app_plan.specs.declared.told.Refusal.TheVariants as refusals

@@ -24,11 +24,11 @@ use Rattle.call_tree.proofs.Following.{got}
 use Rattle.call_tree.proofs.Nested.{open_append}
 use Rattle.app_plan.proofs.Files.{one_module}
 use Rattle.app_plan.proofs.Infos.{one_info}
+use Rattle.app_runs.specs.Reporting.{items_told}
+use Rattle.app_runs.specs.Treeing.{tells_brackets, end_place, first_unnested}
 use Rattle.wasabi_app.specs.Nesting.{NodesCountPaths, BadAreRefused, OutputsNest}
-use Rattle.wasabi_app.specs.Reporting.{items_told}
-use Rattle.wasabi_app.specs.Treeing.{tells_brackets, end_place, first_unnested}
+use Rattle.app_runs.proofs.Nested.{bad_has, has_bad, is_end, unnested_first}
 use Rattle.wasabi_app.proofs.Composed.{slots_of_env}
-use Rattle.wasabi_app.proofs.Nested.{bad_has, has_bad, is_end, unnested_first}
 
 pub nodes_count : NodesCountPaths
 nodes_count is path = got path (paths is)

@@ -34,7 +34,7 @@ use Rattle.static_info.specs.Read.{value_number, numbers, values_from, value_at,
 use Rattle.trace_file.specs.Fields.{FitsNumber, FitsSigned, FitsLocation, FitsValue, FitsCallee, FitValues}
 use Rattle.trace_file.specs.Rows.{FitsEvent}
 use Rattle.hook_events.specs.Words.{IsWord, AreWords}
-use Rattle.wasabi_app.proofs.FewEvents.{few_label, table_labels, formed_there}
+use Rattle.app_runs.proofs.FewEvents.{few_label, table_labels, formed_there}
 
 -- ---- signed numbers
 

@@ -16,12 +16,12 @@ use Rattle.app_plan.specs.Files.{trace_most}
 use Rattle.app_plan.specs.Outcomes.{Yields}
 use Rattle.app_plan.specs.Printing.{ShelfState}
 use Rattle.app_plan.proofs.Contents.{unchanged_same}
-use Rattle.wasabi_app.specs.declared.feeding.Tally.{Tally}
-use Rattle.wasabi_app.specs.Feeding.{tally_of, tallied}
+use Rattle.app_runs.specs.declared.feeding.Tally.{Tally}
+use Rattle.app_runs.specs.Feeding.{tally_of, tallied}
+use Rattle.app_runs.specs.Reporting.{tools_text, reports_text}
 use Rattle.wasabi_app.specs.Modes.Replay.{replay_effect, replayed_plan}
-use Rattle.wasabi_app.specs.Reporting.{tools_text, reports_text}
-use Rattle.wasabi_app.proofs.Fed.{none_part, all_part, all_then, parts_then, tally_then}
-use Rattle.wasabi_app.proofs.FedReports.{fed_few, fed_reports, tally_few}
+use Rattle.app_runs.proofs.Fed.{none_part, all_part, all_then, parts_then, tally_then}
+use Rattle.app_runs.proofs.FedReports.{fed_few, fed_reports, tally_few}
 use Rattle.wasabi_app.proofs.Modes.Record.{events_longer}
 
 -- what was read so far was taken

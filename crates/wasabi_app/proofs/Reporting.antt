@@ -11,25 +11,25 @@ use Rattle.name_map.specs.declared.Names.{Names}
 use Rattle.static_info.specs.declared.Info.{Info}
 use Rattle.analyses.specs.Tools.{ToolState}
 use Rattle.app_plan.specs.declared.kinds.Kinds.{Kinds}
-use Rattle.wasabi_app.specs.declared.feeding.Tally.{Tally}
+use Rattle.app_runs.specs.declared.feeding.Tally.{Tally}
 use Rattle.app_plan.specs.declared.told.Printed.{Printed}
 use Rattle.app_plan.specs.declared.told.Refusal.{Refusal}
 use Rattle.app_plan.specs.declared.told.Refusal.TheVariants as refusals
-use Rattle.wasabi_app.specs.Reporting.{tools_text, events_told, reports_text}
+use Rattle.app_runs.specs.Reporting.{tools_text, events_told, reports_text}
 use Rattle.app_plan.specs.Feeding.{fed, AreFedPart, fresh_tools}
-use Rattle.wasabi_app.specs.Feeding.{tally_of}
+use Rattle.app_runs.specs.Feeding.{tally_of}
 use Rattle.app_plan.specs.Printing.{ShelfState}
-use Rattle.wasabi_app.specs.RunTexts.{run_status, run_text}
-use Rattle.wasabi_app.specs.ToldNames.{functions_told, names_among, original_names, tools_functions, with_kept}
+use Rattle.app_runs.specs.RunTexts.{run_status, run_text}
+use Rattle.app_runs.specs.ToldNames.{functions_told, names_among, original_names, tools_functions, with_kept}
 use Rattle.wasabi_app.specs.Modes.Report.{report_effect, reported_plan}
 use Rattle.app_plan.specs.Ends.{memory_ended}
-use Rattle.wasabi_app.specs.Linking.{IsUnlinked}
+use Rattle.app_runs.specs.Linking.{IsUnlinked}
 use Rattle.app_plan.specs.Outcomes.{Yields}
 use Rattle.app_plan.specs.Plans.{does, ends}
 use Rattle.wasabi_app.specs.Playing.{ending_of}
 use Rattle.app_plan.proofs.Contents.{unchanged_same}
-use Rattle.wasabi_app.proofs.Fed.{all_part}
-use Rattle.wasabi_app.proofs.FedReports.{fed_reports, fed_functions}
+use Rattle.app_runs.proofs.Fed.{all_part}
+use Rattle.app_runs.proofs.FedReports.{fed_reports, fed_functions}
 use Rattle.wasabi_app.proofs.Linked.{was_unlinked, played_links, finish_statuses}
 
 -- ---- what the analyses took

@@ -38,20 +38,20 @@ use Rattle.instrument.specs.Output.{output}
 use Rattle.instrument.specs.Same.{IsPrefix, SameRuns, env_in}
 use Rattle.instrument.proofs.OutputSame.{same}
 use Rattle.app_plan.specs.Plans.{Effect, does, LeadsTo, Plan, prints}
-use Rattle.wasabi_app.specs.Following.{AreFitFor}
-use Rattle.wasabi_app.specs.Reporting.{items_told}
+use Rattle.app_runs.specs.Following.{AreFitFor}
+use Rattle.app_runs.specs.Reporting.{items_told}
+use Rattle.app_runs.specs.Watching.{import_names}
 use Rattle.wasabi_app.specs.Making.{output_length}
 use Rattle.wasabi_app.specs.Playing.{ending_finish, linked}
 use Rattle.wasabi_app.specs.Tagging.{hosts_made, warned_by, AreTagged, WarningsAreTagged, TaintsTell}
 use Rattle.wasabi_app.specs.Tainting.{warnings_in, warnings_told}
 use Rattle.wasabi_app.specs.Warning.{IsFollowable}
-use Rattle.wasabi_app.specs.Watching.{import_names}
 use Rattle.wasabi_app.specs.Modes.Taint.{watch_of, unknown_in, known, taint_text, warned_plan}
 use Rattle.wasabi_app.specs.Modes.Trial.{all_hooks}
+use Rattle.app_runs.proofs.StepEvents.{trace_next}
 use Rattle.wasabi_app.proofs.Composed.{slots_of_env}
 use Rattle.wasabi_app.proofs.HostCounts.{host_count, count_append, step_few, hosts_counted}
 use Rattle.wasabi_app.proofs.Modes.Instrument.{hooked_leads}
-use Rattle.wasabi_app.proofs.StepEvents.{trace_next}
 use Rattle.wasabi_app.proofs.Warned.{front_some, warned_more, warned_alike}
 
 -- ---- what is read

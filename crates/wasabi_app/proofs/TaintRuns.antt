@@ -18,13 +18,13 @@ use Rattle.instrument.specs.Made.{IsMade, longest_output}
 use Rattle.instrument.specs.Output.{output}
 use Rattle.instrument.proofs.OutputSame.{same}
 use Rattle.app_plan.specs.Files.{IsFit}
-use Rattle.wasabi_app.specs.Following.{AreFitFor, TakesAll}
-use Rattle.wasabi_app.specs.Reporting.{items_told}
+use Rattle.app_runs.specs.Following.{AreFitFor, TakesAll}
+use Rattle.app_runs.specs.Reporting.{items_told}
+use Rattle.app_runs.specs.Watching.{import_names}
 use Rattle.wasabi_app.specs.Making.{output_length}
 use Rattle.wasabi_app.specs.Tainting.{warnings_in, warnings_told}
 use Rattle.wasabi_app.specs.Trying.{IsTriable}
 use Rattle.wasabi_app.specs.Warning.{ArePaired, IsFollowable}
-use Rattle.wasabi_app.specs.Watching.{import_names}
 use Rattle.wasabi_app.specs.Modes.Trial.{all_hooks}
 use Rattle.wasabi_app.proofs.Tagged.{told_fit}
 use Rattle.wasabi_app.proofs.TrialPairs.{output_read, output_belongs}

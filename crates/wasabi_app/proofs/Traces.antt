@@ -9,7 +9,7 @@ use Rattle.module_ast.specs.declared.module.FuncType.{FuncType}
 use Rattle.module_ast.specs.declared.module.Module.{Module}
 use Rattle.module_ast.specs.declared.module.Which.TheVariants.{Functions, Parameters}
 use Rattle.module_ast.specs.Limits.{IsComplete, wide}
-use Rattle.module_ast.specs.Profile.{IsWithin}
+use Rattle.module_ast.specs.Profile.{most_values, IsWithin}
 use Rattle.module_ast.specs.Spaces.{funcs_of}
 use Rattle.module_ast.specs.Validity.{IsValid}
 use Rattle.module_ast.proofs.Sizes.{within_all}
@@ -44,21 +44,21 @@ use Rattle.name_map.specs.Names.{no_names}
 use Rattle.app_plan.specs.Plans.{does, Effect, LeadsTo, Plan, ends}
 use Rattle.app_plan.proofs.Going.{leads_by}
 use Rattle.app_plan.proofs.Leading.{leads_once}
+use Rattle.app_runs.specs.Recording.{recorded_bytes}
+use Rattle.app_runs.specs.Reporting.{events_told}
 use Rattle.wasabi_app.specs.Modes.Record.{RecordLine, record_effect, kept_within, recorded_plan}
 use Rattle.wasabi_app.specs.Modes.Replay.{replay_effect, replay_plan}
 use Rattle.wasabi_app.specs.Modes.Report.{report_effect, reported_plan}
 use Rattle.wasabi_app.specs.Playing.{linked}
-use Rattle.wasabi_app.specs.Recording.{recorded_bytes}
 use Rattle.wasabi_app.specs.Replaying.{EventsHaveTrace, IsRecordLine, IsReplayed, LeadsOnlyTo, RecordingsReplay, report_with}
-use Rattle.wasabi_app.specs.Reporting.{events_told}
 use Rattle.wasabi_app.specs.ToldRuns.{RunNames, run_names}
+use Rattle.app_runs.proofs.HookCalled.{CallsHook, run_calls_hook}
+use Rattle.app_runs.proofs.HookWords.{call_readable, hook_imported}
+use Rattle.app_runs.proofs.StepEvents.{call_told, events_next}
 use Rattle.wasabi_app.proofs.WordLines.{given_bound}
-use Rattle.wasabi_app.proofs.HookCalled.{CallsHook, run_calls_hook}
-use Rattle.wasabi_app.proofs.HookWords.{call_readable, hook_imported}
 use Rattle.wasabi_app.proofs.Linked.{played_links}
 use Rattle.wasabi_app.proofs.Modes.Record.{events_longer}
 use Rattle.wasabi_app.proofs.Ranges.{Fit, numbers_fit, FitSlots, read_fits}
-use Rattle.wasabi_app.proofs.StepEvents.{call_told, events_next}
 
 -- ---- the numbers of a run's events
 
@@ -80,9 +80,9 @@ module _ (info : Info) (m : Module) (s : Script) (formed : IsWellFormed info) (b
   -- a hook's parameters are those of a type
   params_few : (h : HookCall) → CallsHook m h → length h.args ≤ 900
   params_few h calls =
-      let P : FuncType → Type 0 = λ t. length t.params ≤ 900 in
+      let P : FuncType → Type 0 = λ t. most_values t ≤ 900 in
       let there = hook_imported m valid h.import calls.type calls.at in
-      let few = every_at P m.types there.item.ty calls.type (within_all (λ (t : FuncType). length t.params) 900 m.types (within Parameters)) there.type in
+      let few = every_at P m.types there.item.ty calls.type (within_all most_values 900 m.types (within Parameters)) there.type in
       omega (arith, few, have_length calls.type.params h.args calls.types)
 
   module _ (slots : List (Option ℕ)) (table : FitSlots slots) where

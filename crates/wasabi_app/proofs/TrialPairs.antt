@@ -26,15 +26,15 @@ use Rattle.app_plan.specs.Files.{IsFit}
 use Rattle.app_plan.specs.declared.kinds.Kinds.{Kinds}
 use Rattle.app_plan.specs.Kinds.{all_reports}
 use Rattle.app_plan.proofs.Files.{one_module}
-use Rattle.wasabi_app.specs.declared.feeding.Tally.{Tally}
-use Rattle.wasabi_app.specs.Feeding.{tally_of}
+use Rattle.app_runs.specs.declared.feeding.Tally.{Tally}
+use Rattle.app_runs.specs.Feeding.{tally_of}
+use Rattle.app_runs.specs.Reporting.{events_told}
+use Rattle.app_runs.specs.RunTexts.{run_status, run_text}
 use Rattle.wasabi_app.specs.Making.{output_length}
-use Rattle.wasabi_app.specs.Reporting.{events_told}
-use Rattle.wasabi_app.specs.RunTexts.{run_status, run_text}
 use Rattle.wasabi_app.specs.Trying.{AreTried, IsRun, IsTold, IsTriable}
 use Rattle.wasabi_app.specs.Modes.Trial.{all_hooks, front_text, pair_front, runs_text, sizes_text, told_of_run, trial_script}
+use Rattle.app_runs.proofs.Fed.{all_part, none_part}
 use Rattle.wasabi_app.proofs.Composed.{shell_belongs}
-use Rattle.wasabi_app.proofs.Fed.{all_part, none_part}
 use Rattle.wasabi_app.proofs.Linked.{finish_statuses}
 use Rattle.wasabi_app.proofs.TrialLinks.{made_free}
 

@@ -24,9 +24,9 @@ use Rattle.app_plan.specs.Files.{IsFit}
 use Rattle.app_plan.specs.Kinds.{all_reports, every_kind}
 use Rattle.app_plan.specs.Wants.{AreKept}
 use Rattle.module_gen.specs.Made.{made}
+use Rattle.app_runs.specs.Reporting.{events_told, reports_text}
+use Rattle.app_runs.specs.ToldNames.{original_names}
 use Rattle.wasabi_app.specs.KeptNames.{IsOutput}
-use Rattle.wasabi_app.specs.Reporting.{events_told, reports_text}
-use Rattle.wasabi_app.specs.ToldNames.{original_names}
 use Rattle.wasabi_app.specs.Modes.Trial.{all_hooks, first_steps, second_steps, told_of_run, trial_events, trial_output, trial_script}
 
 -- the events of the selected groups that the original shows in so many steps

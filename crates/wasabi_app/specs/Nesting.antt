@@ -18,9 +18,9 @@ use Rattle.static_info.specs.Json.{HoldInfo}
 use Rattle.call_tree.specs.Paths.{paths, HasBadEnd}
 use Rattle.call_tree.specs.State.{path_counts_in}
 use Rattle.app_plan.specs.Files.{IsFit}
+use Rattle.app_runs.specs.Reporting.{items_told}
+use Rattle.app_runs.specs.Treeing.{tells_brackets, end_place, first_unnested}
 use Rattle.wasabi_app.specs.KeptNames.{IsOutput}
-use Rattle.wasabi_app.specs.Reporting.{items_told}
-use Rattle.wasabi_app.specs.Treeing.{tells_brackets, end_place, first_unnested}
 
 -- how often a path is among these, where it is
 abbrev pub times_among : (path : List ℕ) → List (List ℕ) → Option ℕ

@@ -5,8 +5,8 @@ use Rattle.wasm_sem.specs.declared.Script.{Script}
 use Rattle.wasm_sem.specs.Link as linking
 use Rattle.wasm_sem.specs.Link.{link}
 use Rattle.wasm_sem.specs.Answers.{Summary, summary_of}
-use Rattle.wasabi_app.specs.RunTexts.{has_trapped, run_text}
-use Rattle.wasabi_app.specs.Linking.{link_reason, link_text}
+use Rattle.app_runs.specs.RunTexts.{has_trapped, run_text}
+use Rattle.app_runs.specs.Linking.{link_reason, link_text}
 use Rattle.app_plan.specs.Plans.{Finish, done, trapped, unfinished, Plan, refusing}
 
 abbrev pub linked : Script → Option linking.Refusal → Plan → Plan

@@ -15,10 +15,10 @@ use Rattle.trace_file.specs.Files.{trace_bytes, IsTrace}
 use Rattle.app_plan.specs.declared.kinds.Kinds.{Kinds}
 use Rattle.app_plan.specs.Files.{trace_most}
 use Rattle.app_plan.specs.Plans.{file, Effect, Ending, does, Plan, LeadsTo}
+use Rattle.app_runs.specs.Reporting.{events_told}
 use Rattle.wasabi_app.specs.Modes.Record.{RecordLine, record_line, record_plan}
 use Rattle.wasabi_app.specs.Modes.Replay.{replay_effect, replay_plan}
 use Rattle.wasabi_app.specs.Modes.Report.{report_plan}
-use Rattle.wasabi_app.specs.Reporting.{events_told}
 use Rattle.wasabi_app.specs.ToldRuns.{RunNames}
 use Rattle.wasabi_app.specs.Words.{Given, given}
 

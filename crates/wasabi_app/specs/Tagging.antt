@@ -16,9 +16,10 @@ use Rattle.instrument.specs.Output.{output}
 use Rattle.instrument.specs.Same.{IsOver, IsPrefix}
 use Rattle.app_plan.specs.Plans.{Effect, does, LeadsTo}
 use Rattle.app_plan.specs.Wants.{Gives, module_read, script_read}
+use Rattle.app_runs.specs.WarningTexts.{warnings_text}
+use Rattle.app_runs.specs.Watching.{import_names}
 use Rattle.wasabi_app.specs.Playing.{ending_text}
-use Rattle.wasabi_app.specs.Tainting.{warnings_told, warnings_text}
-use Rattle.wasabi_app.specs.Watching.{import_names}
+use Rattle.wasabi_app.specs.Tainting.{warnings_told}
 use Rattle.wasabi_app.specs.Modes.Taint.{TaintLine, taint_plan, watch_of}
 use Rattle.wasabi_app.specs.Modes.Trial.{all_hooks}
 

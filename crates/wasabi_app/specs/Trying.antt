@@ -21,9 +21,9 @@ use Rattle.app_plan.specs.declared.told.Refusal.{Refusal}
 use Rattle.app_plan.specs.declared.told.Refusal.TheVariants.{NoMemory}
 use Rattle.app_plan.specs.Outcomes.{IsRefusal}
 use Rattle.app_plan.specs.Plans.{finish_status}
+use Rattle.app_runs.specs.Reporting.{events_told}
 use Rattle.wasabi_app.specs.Making.{output_length}
 use Rattle.wasabi_app.specs.Playing.{finish_of}
-use Rattle.wasabi_app.specs.Reporting.{events_told}
 use Rattle.wasabi_app.specs.Texts.{too_large_text}
 use Rattle.wasabi_app.specs.Modes.Trial.{all_hooks, pair_front, runs_text, told_of_run, trial_script}
 

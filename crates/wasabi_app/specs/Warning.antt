@@ -21,10 +21,10 @@ use Rattle.app_plan.specs.declared.told.Refusal.{Refusal}
 use Rattle.app_plan.specs.Outcomes.{Yields}
 use Rattle.app_plan.specs.Plans.{Plan, finish_status}
 use Rattle.app_plan.specs.Printing.{ShelfState}
+use Rattle.app_runs.specs.Watching.{import_names, listed, numbers_named}
 use Rattle.wasabi_app.specs.declared.taint_mode.Watched.{Watched}
 use Rattle.wasabi_app.specs.Making.{output_length}
 use Rattle.wasabi_app.specs.Playing.{ending_finish}
-use Rattle.wasabi_app.specs.Watching.{import_names, listed, numbers_named}
 use Rattle.wasabi_app.specs.Modes.Instrument.{hooked}
 use Rattle.wasabi_app.specs.Modes.Taint.{TaintLine, unknown_in, known, taint_text}
 use Rattle.wasabi_app.specs.Modes.Trial.{all_hooks}

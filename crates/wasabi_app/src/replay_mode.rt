@@ -8,15 +8,14 @@ ghost use Rattle.app_plan.specs.Feeding.{AreFedPart, fed, fresh_tools};
 ghost use Rattle.app_plan.specs.Files.{trace_most};
 ghost use Rattle.app_plan.specs.Outcomes.{Yields};
 ghost use Rattle.app_plan.specs.Printing.{ShelfState, shelf_state};
-ghost use Rattle.wasabi_app.specs.Feeding.{tallied, tally_of};
+ghost use Rattle.app_runs.specs.Feeding.{tallied, tally_of};
 ghost use Rattle.wasabi_app.specs.Modes.Replay.{replay_mode, replayed_plan};
 ghost use Rattle.wasabi_app.specs.Words.{given_of};
 
-use crate::feeding::{Tally, give_all};
-use crate::report_text::{Reports, with_reports};
 use crate::words::Given;
 use analyses::Analysis;
 use app_plan::{Kinds, Printed, Refusal, load_trace};
+use app_runs::{Reports, Tally, give_all, with_reports};
 use hook_select::Event;
 use outside_io::Shelf;
 use std::alloc::Global;

@@ -8,25 +8,24 @@ ghost use Rattle.instrument.specs.Made.{IsMade, longest_output};
 ghost use Rattle.analyses.specs.Tools.{ToolState};
 ghost use Rattle.app_plan.specs.Outcomes.{Yields};
 ghost use Rattle.app_plan.specs.Printing.{ShelfState, shelf_state};
+ghost use Rattle.app_runs.specs.RunTexts.{run_status, run_text};
+ghost use Rattle.app_runs.specs.WarningTexts.{warnings_text};
+ghost use Rattle.app_runs.specs.Watching.{import_names};
 ghost use Rattle.wasabi_app.specs.Making.{output_length};
 ghost use Rattle.wasabi_app.specs.Modes.Taint.{followed_plan, ran_plan, taint_line, taint_line_of, taint_mode, taint_plan, unknown_in, warned_plan};
 ghost use Rattle.wasabi_app.specs.Modes.Trial.{all_hooks};
-ghost use Rattle.wasabi_app.specs.RunTexts.{run_status, run_text};
-ghost use Rattle.wasabi_app.specs.Tainting.{warnings_text};
 ghost use Rattle.wasabi_app.specs.Texts.{no_import_text};
 ghost use Rattle.wasabi_app.specs.Warning.{AreKnown, ArePaired, GetsHooks, GetsNone, IsFollowable, IsUnknown, IsWarned, IsWatched, IsWatchedOf, watch_in};
-ghost use Rattle.wasabi_app.specs.Watching.{import_names};
 ghost use Rattle.wasabi_app.specs.Words.{given_of};
 
-use crate::following::follow_out;
 use crate::instrument_mode::{taken_line, too_large_line};
-use crate::links::unlinked;
-use crate::run_text::{run_text, status_of};
 use crate::trial_mode::output;
-use crate::warnings_text::push_warnings;
-use crate::watching::{first_unknown, import_names, numbers_named};
 use crate::words::Given;
 use app_plan::{Printed, Refusal, bad_words, load, load_script, refused};
+use app_runs::{
+    first_unknown, follow_out, import_names, numbers_named, push_warnings, run_text, status_of,
+    unlinked,
+};
 use hook_select::Hooks;
 use instrument::{InstrumentFault, Made, instrument};
 use module_ast::module::Limits;

@@ -9,20 +9,18 @@ ghost use Rattle.analyses.specs.Tools.{ToolState};
 ghost use Rattle.app_plan.specs.Outcomes.{Yields};
 ghost use Rattle.app_plan.specs.Printing.{ShelfState, shelf_state};
 ghost use Rattle.app_plan.specs.Texts.{few_groups_text, not_nested_text};
+ghost use Rattle.app_runs.specs.RunTexts.{run_status, run_text};
+ghost use Rattle.app_runs.specs.Treeing.{node_text, nodes_text, tells_brackets, tree_line};
 ghost use Rattle.wasabi_app.specs.Modes.Tree.{tree_mode, tree_plan, treed_plan};
-ghost use Rattle.wasabi_app.specs.RunTexts.{run_status, run_text};
 ghost use Rattle.wasabi_app.specs.ToldRuns.{names_of};
-ghost use Rattle.wasabi_app.specs.Treeing.{node_text, nodes_text, tells_brackets, tree_line};
 ghost use Rattle.wasabi_app.specs.Words.{given_of};
 
-use crate::links::unlinked;
-use crate::run_text::{run_text, status_of};
 use crate::told_run::{RunNames, names_in};
-use crate::treeing::{Treed, TreedFault, tree_run};
 use crate::words::Given;
 use app_plan::{
     LONGEST_SUBJECT, Printed, Refusal, bad_words, load, load_info, load_script, refused,
 };
+use app_runs::{Treed, TreedFault, run_text, status_of, tree_run, unlinked};
 use call_tree::Node;
 use hook_select::GroupName;
 use module_ast::module::{Limits, Loc};

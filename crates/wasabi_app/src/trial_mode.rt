@@ -14,20 +14,17 @@ ghost use Rattle.app_plan.specs.Feeding.{fresh_tools};
 ghost use Rattle.app_plan.specs.Files.{IsFit};
 ghost use Rattle.app_plan.specs.Outcomes.{Yields};
 ghost use Rattle.app_plan.specs.Printing.{ShelfState};
+ghost use Rattle.app_runs.specs.RunTexts.{run_status, run_text};
 ghost use Rattle.wasabi_app.specs.Making.{output_length};
 ghost use Rattle.wasabi_app.specs.Modes.Trial.{all_hooks, front_text, main_call, number_in, pair_plan, runs_text, sizes_text, told_of_run, trial_mode, trial_plan, trial_script};
 ghost use Rattle.wasabi_app.specs.Trying.{AreTried, IsRun, IsTriable, IsUntried};
-ghost use Rattle.wasabi_app.specs.RunTexts.{run_status, run_text};
 ghost use Rattle.wasabi_app.specs.Words.{given_of};
 
-use crate::feeding::Tally;
 use crate::instrument_mode::too_large_line;
-use crate::playing::{Played, play};
-use crate::run_mode;
-use crate::run_text::{run_text, status_of};
 use crate::words::Given;
 use analyses::Analysis;
 use app_plan::{Kinds, Printed, Refusal, bad_words, refused};
+use app_runs::{Played, Tally, play, run_script, run_text, status_of};
 use hook_select::Hooks;
 use instrument::{InstrumentFault, Made, instrument};
 use module_ast::module::Limits;
@@ -296,7 +293,7 @@ fn original_text(
     ensures { IfOk result (λ text. string_bytes text ≡ told_of_run number steps m.now) }
 {
     let script = script(alloc, number, steps)?;
-    match run_mode::play(alloc, m, &script) {
+    match run_script(alloc, m, &script) {
         Ok(outcome) => run_text(alloc, script.calls.as_slice(), &outcome),
         Err(_) => Err(AllocError),
     }

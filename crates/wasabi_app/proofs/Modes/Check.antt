@@ -6,7 +6,7 @@ use Rattle.module_ast.specs.Limits.{wide}
 use Rattle.analyses.specs.Tools.{ToolState}
 use Rattle.app_plan.specs.Files.{wide_file}
 use Rattle.app_plan.specs.Printing.{ShelfState}
-use Rattle.wasabi_app.specs.Texts.{ok_text, counts_of}
+use Rattle.app_runs.specs.Texts.{ok_text, counts_of}
 use Rattle.app_plan.specs.declared.told.Printed.{Printed}
 use Rattle.app_plan.specs.declared.told.Refusal.{Refusal}
 use Rattle.app_plan.specs.Wants.{module_read, Gives}

@@ -21,11 +21,11 @@ use Rattle.app_plan.proofs.Contents.{unchanged_same}
 use Rattle.app_plan.proofs.Going.{leads_by, was_refused}
 use Rattle.app_plan.proofs.Shelves.{fed_none}
 use Rattle.app_plan.proofs.Within.{Within, FeedsNone, MakesNone, mapped_within}
+use Rattle.app_runs.specs.Recording.{recorded_bytes, HasNoTrace}
+use Rattle.app_runs.specs.Reporting.{events_told}
+use Rattle.app_runs.specs.RunTexts.{run_status, run_text}
 use Rattle.wasabi_app.specs.Modes.Record.{record_effect, kept_within, recorded_plan, record_plan, record_line, record_mode}
 use Rattle.wasabi_app.specs.Playing.{ending_of}
-use Rattle.wasabi_app.specs.Recording.{recorded_bytes, HasNoTrace}
-use Rattle.wasabi_app.specs.Reporting.{events_told}
-use Rattle.wasabi_app.specs.RunTexts.{run_status, run_text}
 use Rattle.wasabi_app.specs.Words.{Given}
 use Rattle.wasabi_app.proofs.Hooking.{IsAnswered, test_of}
 use Rattle.wasabi_app.proofs.Linked.{feeds_plain, makes_plain, played_links, played_within, finish_statuses}

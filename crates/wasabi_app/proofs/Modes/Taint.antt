@@ -24,15 +24,16 @@ use Rattle.app_plan.specs.Wants.{Gives, script_read, module_read}
 use Rattle.app_plan.proofs.Contents.{unchanged_same}
 use Rattle.app_plan.proofs.Going.{leads_by, no_memory, stopped, took_text, was_refused, went_on}
 use Rattle.app_plan.proofs.Within.{Within, WritesNone, FeedsNone, mapped_within}
+use Rattle.app_runs.specs.Linking.{IsUnlinked}
+use Rattle.app_runs.specs.RunTexts.{run_status, run_text}
+use Rattle.app_runs.specs.WarningTexts.{warnings_text}
+use Rattle.app_runs.specs.Watching.{import_names}
 use Rattle.wasabi_app.specs.declared.taint_mode.Watched.{Watched}
-use Rattle.wasabi_app.specs.Linking.{IsUnlinked}
 use Rattle.wasabi_app.specs.Making.{output_length}
 use Rattle.wasabi_app.specs.Playing.{ending_of, ending_finish, ending_text}
-use Rattle.wasabi_app.specs.RunTexts.{run_status, run_text}
-use Rattle.wasabi_app.specs.Tainting.{warnings_told, warnings_text}
+use Rattle.wasabi_app.specs.Tainting.{warnings_told}
 use Rattle.wasabi_app.specs.Texts.{no_import_text, taken_text, too_large_text}
 use Rattle.wasabi_app.specs.Warning.{AreKnown, GetsHooks, GetsNone, IsUnknown, IsWarned, IsWatched, watch_in}
-use Rattle.wasabi_app.specs.Watching.{import_names}
 use Rattle.wasabi_app.specs.Words.{Given}
 use Rattle.wasabi_app.specs.Modes.Instrument.{hooked}
 use Rattle.wasabi_app.specs.Modes.Taint.{TaintLine, unknown_in, known, taint_text, taint_line, taint_plan, taint_mode, followed_plan, ran_plan, warned_plan, watch_of}

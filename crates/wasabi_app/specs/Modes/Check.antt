@@ -2,7 +2,7 @@
 use Rattle.std.specs.Prelude.{ℕ, List, codes, Some}
 use Rattle.module_ast.specs.Limits.{wide}
 use Rattle.app_plan.specs.Files.{wide_file}
-use Rattle.wasabi_app.specs.Texts.{ok_text, counts_of}
+use Rattle.app_runs.specs.Texts.{ok_text, counts_of}
 use Rattle.app_plan.specs.Wants.{module_read}
 use Rattle.app_plan.specs.Plans.{done, Plan, reads, printing}
 use Rattle.wasabi_app.specs.Words.{Given}

@@ -6,9 +6,9 @@ use Rattle.static_info.specs.declared.Info.{Info}
 use Rattle.app_plan.specs.Kinds.{no_kinds}
 use Rattle.app_plan.specs.Plans.{long_trace, file, Effect, does, Plan, ends, refusing}
 use Rattle.app_plan.specs.Texts.{long_trace_text}
+use Rattle.app_runs.specs.Recording.{recorded_bytes}
 use Rattle.wasabi_app.specs.declared.record_mode.RecordLine.{RecordLine as ReadRecordLine}
 use Rattle.wasabi_app.specs.Playing.{played, ending_text, ending_finish}
-use Rattle.wasabi_app.specs.Recording.{recorded_bytes}
 use Rattle.wasabi_app.specs.ToldRuns.{RunNames, names_of, run_names, told_run}
 use Rattle.wasabi_app.specs.Words.{Given}
 use Rattle.wasabi_app.specs.Mode.{Mode}

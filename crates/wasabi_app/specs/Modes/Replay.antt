@@ -4,7 +4,7 @@ use Rattle.hook_select.specs.declared.Event.{Event}
 use Rattle.app_plan.specs.declared.kinds.Kinds.{Kinds}
 use Rattle.app_plan.specs.Plans.{done, Effect, does, Plan, reads, ends}
 use Rattle.app_plan.specs.Wants.{trace_read}
-use Rattle.wasabi_app.specs.Reporting.{reports_text}
+use Rattle.app_runs.specs.Reporting.{reports_text}
 use Rattle.wasabi_app.specs.Words.{Given}
 use Rattle.wasabi_app.specs.Mode.{Mode}
 

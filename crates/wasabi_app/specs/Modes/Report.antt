@@ -5,11 +5,11 @@ use Rattle.wasm_sem.specs.declared.Script.{Script}
 use Rattle.name_map.specs.declared.Names.{Names}
 use Rattle.static_info.specs.declared.Info.{Info}
 use Rattle.app_plan.specs.declared.kinds.Kinds.{Kinds}
-use Rattle.wasabi_app.specs.Reporting.{events_told, reports_text}
+use Rattle.app_runs.specs.Reporting.{events_told, reports_text}
 use Rattle.wasabi_app.specs.declared.report_mode.ReportLine.{ReportLine as ReadReportLine}
 use Rattle.app_plan.specs.Plans.{Effect, does, Plan, ends}
+use Rattle.app_runs.specs.ToldNames.{functions_told, names_among, original_names, with_kept}
 use Rattle.wasabi_app.specs.Playing.{played, ending_text, ending_finish}
-use Rattle.wasabi_app.specs.ToldNames.{functions_told, names_among, original_names, with_kept}
 use Rattle.wasabi_app.specs.ToldRuns.{RunNames, names_of, run_names, named_run}
 use Rattle.wasabi_app.specs.Words.{Given}
 use Rattle.wasabi_app.specs.Mode.{Mode}

@@ -8,12 +8,13 @@ use Rattle.instrument.specs.Output.{output}
 use Rattle.shadow_replay.specs.Taint.{Watch}
 use Rattle.app_plan.specs.Plans.{no_import, Plan, reads, printing, refusing}
 use Rattle.app_plan.specs.Wants.{module_read, script_read}
+use Rattle.app_runs.specs.WarningTexts.{warnings_text}
+use Rattle.app_runs.specs.Watching.{import_names, listed, first_unknown, numbers_named}
 use Rattle.wasabi_app.specs.declared.taint_mode.TaintLine.{TaintLine as ReadTaintLine}
 use Rattle.wasabi_app.specs.Making.{output_length}
 use Rattle.wasabi_app.specs.Playing.{played, ending_text, ending_finish}
-use Rattle.wasabi_app.specs.Tainting.{warnings_told, warnings_text}
+use Rattle.wasabi_app.specs.Tainting.{warnings_told}
 use Rattle.wasabi_app.specs.Texts.{no_import_text}
-use Rattle.wasabi_app.specs.Watching.{import_names, listed, first_unknown, numbers_named}
 use Rattle.wasabi_app.specs.Words.{Given}
 use Rattle.wasabi_app.specs.Mode.{Mode}
 use Rattle.wasabi_app.specs.Modes.Instrument.{hooked}

@@ -19,9 +19,9 @@ use Rattle.report.specs.Text.{events_line}
 use Rattle.app_plan.specs.Kinds.{all_reports}
 use Rattle.app_plan.specs.Plans.{Finish, Effect, does, Plan, ends}
 use Rattle.app_plan.specs.Texts.{concat_texts}
+use Rattle.app_runs.specs.Reporting.{events_told}
+use Rattle.app_runs.specs.RunTexts.{run_text}
 use Rattle.wasabi_app.specs.Making.{hook_count, output_length}
-use Rattle.wasabi_app.specs.Reporting.{events_told}
-use Rattle.wasabi_app.specs.RunTexts.{run_text}
 use Rattle.wasabi_app.specs.Playing.{finish_of}
 use Rattle.wasabi_app.specs.Modes.Instrument.{bounded}
 use Rattle.wasabi_app.specs.Words.{Given}

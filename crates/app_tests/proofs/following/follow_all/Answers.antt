@@ -1,7 +1,7 @@
 -- What a step tells is fit where all that the run tells is.
 use Rattle.std.proofs.Common.{◌∙◌}
-use Rattle.wasabi_app.proofs.FollowTurns.{next_fit, next_taken}
-use Rattle.wasabi_app.proofs.RunEnds.{not_over, step_taken}
+use Rattle.app_runs.proofs.FollowTurns.{next_fit, next_taken}
+use Rattle.app_runs.proofs.RunEnds.{not_over, step_taken}
 use Rattle.app_tests.proofs.following.follow_all.Goals as goal
 
 pub follow-requires-clause-fit : goal.follow-requires-clause-fit

@@ -1,6 +1,6 @@
 use Rattle.std.proofs.Common.{◌≡◌, ◌≤◌, ◌-◌}
-use Rattle.wasabi_app.specs.Following.{TakesAll}
-use Rattle.wasabi_app.specs.Treeing.{items_so_far}
+use Rattle.app_runs.specs.Following.{TakesAll}
+use Rattle.app_runs.specs.Treeing.{items_so_far}
 use Rattle.app_tests.proofs.following.follow_all.Given as goal
 
 abbrev pub invariant-loop-session : goal.invariant-loop-session

@@ -2,7 +2,7 @@
 use Rattle.std.proofs.Common.{◌≡◌, ap, ◌∙◌, arith, refl, rules, string_bytes, subst, sym}
 use Rattle.std.proofs.lemmas.Result.{err_from_is_err_and}
 use Rattle.module_ast.specs.Limits.{IsWhole, wide}
-use Rattle.wasabi_app.specs.Texts.{counts_of, ok_text}
+use Rattle.app_runs.specs.Texts.{counts_of, ok_text}
 use Rattle.module_ast.proofs.Wholes.{read_whole}
 use Rattle.app_plan.proofs.Going.{no_memory}
 use Rattle.wasabi_app.proofs.Modes.Check.{unchecked, checked}

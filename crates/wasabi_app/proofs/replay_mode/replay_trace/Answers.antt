@@ -1,7 +1,7 @@
 -- What the events of a trace tell, or want of memory.
 use Rattle.std.proofs.Common.{refl, Err}
 use Rattle.std.proofs.lemmas.Result.{err_from_is_err_and}
-use Rattle.wasabi_app.proofs.FedReports.{whole_tagged}
+use Rattle.app_runs.proofs.FedReports.{whole_tagged}
 use Rattle.wasabi_app.proofs.Replayed.{replay_no_memory, replayed_as, untold_replay, was_replayed}
 use Rattle.wasabi_app.proofs.replay_mode.replay_trace.Goals as goal
 

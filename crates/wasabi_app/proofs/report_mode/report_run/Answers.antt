@@ -1,7 +1,7 @@
 -- A module and a script that do not link, or that were run.
+use Rattle.app_runs.specs.Reporting.{events_told}
+use Rattle.app_runs.proofs.FedReports.{whole_tagged}
 use Rattle.wasabi_app.proofs.Linked.{fault_within}
-use Rattle.wasabi_app.specs.Reporting.{events_told}
-use Rattle.wasabi_app.proofs.FedReports.{whole_tagged}
 use Rattle.wasabi_app.proofs.Reporting.{was_reported, not_reported}
 use Rattle.wasabi_app.proofs.report_mode.report_run.Goals as goal
 

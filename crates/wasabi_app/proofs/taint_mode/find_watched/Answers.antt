@@ -2,8 +2,8 @@
 use Rattle.std.proofs.Common.{◌∙◌, length, map, ap, sym, arith, string_bytes}
 use Rattle.std.proofs.lemmas.List.{length-map}
 use Rattle.module_ast.specs.declared.module.Module.{Module}
+use Rattle.app_runs.specs.Watching.{import_names}
 use Rattle.wasabi_app.specs.Modes.Taint.{taint_line_of, unknown_in}
-use Rattle.wasabi_app.specs.Watching.{import_names}
 use Rattle.wasabi_app.proofs.Modes.Taint.{unknown_name, unknown_no_memory}
 use Rattle.wasabi_app.proofs.TaintRuns.{names_few}
 use Rattle.wasabi_app.proofs.taint_mode.find_watched.Goals as goal

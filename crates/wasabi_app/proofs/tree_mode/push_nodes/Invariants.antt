@@ -1,6 +1,6 @@
 use Rattle.std.proofs.Common.{◌≡◌, ◌++◌, drop}
 use Rattle.std.specs.Prelude.{flat_map, string_bytes}
-use Rattle.wasabi_app.specs.Treeing.{node_text}
+use Rattle.app_runs.specs.Treeing.{node_text}
 use Rattle.wasabi_app.proofs.tree_mode.push_nodes.Given as goal
 
 -- the lines so far, and those to come

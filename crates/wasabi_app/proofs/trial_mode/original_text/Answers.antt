@@ -4,5 +4,5 @@ use Rattle.wasm_sem.specs.Link.{IsScriptInRange}
 use Rattle.wasabi_app.proofs.TrialLinks.{trial_in_range}
 use Rattle.wasabi_app.proofs.trial_mode.original_text.Goals as goal
 
-pub play-requires : goal.play-requires
-play-requires c = record { range = subst IsScriptInRange (sym c.in_ok-script.ensures) (trial_in_range c.args.number c.args.steps c.requires.0 c.requires.1) }
+pub run_script-requires : goal.run_script-requires
+run_script-requires c = record { range = subst IsScriptInRange (sym c.in_ok-script.ensures) (trial_in_range c.args.number c.args.steps c.requires.0 c.requires.1) }

@@ -1,6 +1,5 @@
 -- A made module can be tried.
 use Rattle.std.proofs.Common.{Some, arith, subst, sym}
-use Rattle.module_gen.specs.Made.{made}
 use Rattle.app_plan.proofs.Contents.{unchanged_same}
 use Rattle.app_plan.proofs.Going.{no_memory}
 use Rattle.wasabi_app.specs.Trying.{IsTriable}

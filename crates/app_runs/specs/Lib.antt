@@ -1,0 +1,11 @@
+pub mod Texts
+pub mod RunTexts
+pub mod Linking
+pub mod Reporting
+pub mod ToldNames
+pub mod Recording
+pub mod Treeing
+pub mod Feeding
+pub mod Watching
+pub mod WarningTexts
+pub mod Following
