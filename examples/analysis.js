@@ -67,8 +67,8 @@ for (const {module, name} of WebAssembly.Module.imports(program)) {
     const letters = lettersOf(name);
     outside[module][name] = (func, at, ...words) => take(name, func, at, valuesOf(letters, words));
   } else {
-    const zero = functions[hosts++][1] === "l" ? 0n : 0;
-    outside[module][name] = () => zero;
+    const zeros = [...functions[hosts++][1]].map(letter => (letter === "l" ? 0n : 0));
+    outside[module][name] = () => (zeros.length === 1 ? zeros[0] : zeros);
   }
 }
 const exported = new WebAssembly.Instance(program, outside).exports;

@@ -44,8 +44,8 @@ for (const {module, name} of WebAssembly.Module.imports(program)) {
   if (module === "__wasabi_hooks") {
     outside[module][name] = listener(name);
   } else {
-    const zero = functions[hosts++][1] === "l" ? 0n : 0;
-    outside[module][name] = () => zero;
+    const zeros = [...functions[hosts++][1]].map(letter => (letter === "l" ? 0n : 0));
+    outside[module][name] = () => (zeros.length === 1 ? zeros[0] : zeros);
   }
 }
 const exported = new WebAssembly.Instance(program, outside).exports;
