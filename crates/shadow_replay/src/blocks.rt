@@ -12,7 +12,7 @@ ghost use Rattle.shadow_replay.specs.Blocks.{of_kind, block_at, label_arity};
 
 use module_ast::code::{BlockType, Code, Instr};
 use module_ast::module::{Loc, Module};
-use run_opening::Function;
+use run_opening::{Function, block_counts};
 use std::alloc::Global;
 use std::marker::Model;
 use std::mem::size_of;
@@ -49,15 +49,8 @@ impl Block {
         requires { (t : func_type) × (block_type «module».now.types self.now.ty ≡ Some t) }
         ensures { (t : func_type) → block_type «module».now.types self.now.ty ≡ Some t → result ≡ record { starts = length t.params; arity = label_arity self.now.kind t } }
     {
-        match self.ty {
-            BlockType::Empty => counts_for(self.kind, 0, 0),
-            BlockType::Value(_) => counts_for(self.kind, 0, 1),
-            BlockType::Indexed(index) => {
-                let ty = &module.types.as_slice()[index as usize];
-                let starts = ty.params.as_slice().len();
-                counts_for(self.kind, starts, ty.results.as_slice().len())
-            }
-        }
+        let counts = block_counts(module, self.ty);
+        counts_for(self.kind, counts.starts, counts.results)
     }
 }
 
