@@ -11,15 +11,15 @@ use Rattle.wasm_sem.specs.Link.{Instance}
 use Rattle.wasm_sem.specs.Machine.{Label, Frame, Env, Configuration, configuration, Next, reduces, pop_values, branch_with, branch, exit_label, frame_behind, reduce_code, env_after, return_to}
 use Rattle.wasm_sem.specs.declared.Answer.TheVariants.{Returned}
 use Rattle.wasm_sem.proofs.Rules.{Jumps, lands, leaves, crosses, unfed, unheld, Branches, by_br, by_br_if, by_table, by_return, Rule, computes, halts, jumps, stays, calls, misses, opens, skips, falls, finishes, enters, rests, lacks, rule_of, by_index, by_slot, frame_before, frame_after}
-use Rattle.wasm_run.specs.Calls.{NextIsNoCall}
-use Rattle.wasm_run.specs.Comes.{IsUnstuck}
-use Rattle.wasm_run.specs.Below.{IsBelow}
-use Rattle.wasm_run.specs.Flat.{Spot, Flat, first_rest, lowest_arity, outermost_number}
-use Rattle.wasm_run.specs.Kept.{under, low_of, spots_of, all_spots, all_bases, Lies}
-use Rattle.wasm_run.specs.Leaving.{above_outermost, above_results, HasNumber, LeavesFrom, LeavesMany}
-use Rattle.wasm_run.proofs.Controls.{labels_are}
-use Rattle.wasm_run.proofs.Entering.{parts, pop_over}
-use Rattle.wasm_run.proofs.Jumps.{popped_top}
+use Rattle.run_stack.specs.Calls.{NextIsNoCall}
+use Rattle.run_stack.specs.Comes.{IsUnstuck}
+use Rattle.run_stack.specs.Below.{IsBelow}
+use Rattle.run_stack.specs.Flat.{Spot, Flat, first_rest, lowest_arity, outermost_number}
+use Rattle.run_stack.specs.Kept.{under, low_of, spots_of, all_spots, all_bases, Lies}
+use Rattle.run_stack.specs.Leaving.{above_outermost, above_results, HasNumber, LeavesFrom, LeavesMany}
+use Rattle.run_stack.proofs.Lying.{labels_are}
+use Rattle.run_stack.proofs.Popped.{parts, pop_over}
+use Rattle.run_stack.proofs.Popped.{popped_top}
 use Rattle.wasm_sem.proofs.Runs.{pop_push}
 
 -- ---- numbers
@@ -239,7 +239,7 @@ module _ (f : Flat) (inst : Instance) (e : Env) (fr : Frame) (below : List Frame
 
   above_is : above_results (first_rest f.spots) f.values (outermost_number f) ≡ above_results fr.top.rest fr.top.ops (length fr.outer)
   above_is =
-      let labels = labels_are f inst e fr below lies in
+      let labels = labels_are f fr below lies in
       let last : outermost_number f ≡ length fr.outer = omega (arith, labels) in
       ap (λ (ss : List Spot). above_results (first_rest ss) f.values (outermost_number f)) lies.spots
       ∙ ap (λ vs. above_results fr.top.rest vs (outermost_number f)) lies.values

@@ -15,11 +15,12 @@ use Rattle.wasm_sem.specs.Machine.{Env, run_of}
 use Rattle.wasm_sem.specs.Store.{Store, zeros, values_of, no_answer, answer_at, writes_done, written_memory, answered_store}
 use Rattle.wasm_run.specs.Answering.{returned_with}
 use Rattle.wasm_run.specs.Beside.{hosts_in, HasMadeHosts}
-use Rattle.wasm_run.specs.Flat.{Flat}
+use Rattle.run_stack.specs.Flat.{Flat}
 use Rattle.wasm_run.specs.Moves.{RunsOn}
-use Rattle.wasm_run.specs.Reaching.{index_count, behind_call, Reaches}
+use Rattle.run_stack.specs.Slots.{index_count, behind_call}
+use Rattle.wasm_run.specs.Reaching.{Reaches}
 use Rattle.wasm_run.specs.Running.{IsRunning}
-use Rattle.wasm_run.specs.Standing.{KeepsStore}
+use Rattle.run_stack.specs.Standing.{KeepsStore}
 use Rattle.wasm_run.proofs.Invoking.{Invoker, invoker, index_fits, some_label, enough}
 use Rattle.wasm_run.proofs.Answering.{values_none, results_fit, answered_at, answered_on, answered_running}
 

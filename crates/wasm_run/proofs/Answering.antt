@@ -13,15 +13,15 @@ use Rattle.wasm_sem.specs.Machine.{Frame, Env, configuration, reduces, with_ops,
 use Rattle.wasm_sem.specs.Store.{zero_of, zeros, values_of}
 use Rattle.wasm_sem.proofs.Heights.{stays_within}
 use Rattle.wasm_run.specs.Answering.{returned_with}
-use Rattle.wasm_run.specs.Flat.{Flat}
-use Rattle.wasm_run.specs.Kept.{under, all_values, Lies}
+use Rattle.run_stack.specs.Flat.{Flat}
+use Rattle.run_stack.specs.Kept.{under, all_values, Lies}
 use Rattle.wasm_run.specs.Moves.{HasSameAnswers, RunsOn}
-use Rattle.wasm_run.specs.Reaching.{behind_call}
+use Rattle.run_stack.specs.Slots.{behind_call}
 use Rattle.wasm_run.specs.Rooms.{HaveRoom}
 use Rattle.wasm_run.specs.Running.{KeepsConfiguration, IsLinked, IsRunning}
-use Rattle.wasm_run.specs.Standing.{KeepsStore}
+use Rattle.run_stack.specs.Standing.{KeepsStore}
 use Rattle.wasm_run.proofs.Invoking.{Invoker, behind, lies_behind, left_are, room_behind}
-use Rattle.wasm_run.proofs.Pushed.{push_length, push_append}
+use Rattle.run_stack.proofs.Pushed.{push_length, push_append}
 use Rattle.wasm_run.proofs.Rooms.{next_state, same_room, frames_fit}
 
 -- ---- lists

@@ -10,9 +10,9 @@ use Rattle.module_ast.specs.Typing.{push}
 use Rattle.module_ast.specs.Validity.{declared_locals}
 use Rattle.wasm_sem.specs.Store.{values_of, zeros}
 use Rattle.wasm_run.specs.Entering.{StandsAlone}
-use Rattle.wasm_run.specs.Flat.{Spot, Base, Flat, Enters}
+use Rattle.run_stack.specs.Flat.{Spot, Base, Flat, Enters}
 use Rattle.wasm_run.proofs.Answered.{values_count}
-use Rattle.wasm_run.proofs.Pushed.{push_length, push_reversed}
+use Rattle.run_stack.proofs.Pushed.{push_length, push_reversed}
 use Rattle.wasm_run.proofs.Rooms.{zeros_count}
 
 -- the arguments are there

@@ -8,7 +8,7 @@ use Rattle.wasm_sem.specs.Link.{Instance}
 use Rattle.wasm_sem.specs.Machine.{Frame, Env, Phase, starting, calling, over, configuration, Next, reduces, env_after, return_to, reduce_code}
 use Rattle.wasm_sem.specs.Rules.{HasSameRest}
 use Rattle.wasm_run.specs.Beside.{GoesOnBeside}
-use Rattle.wasm_run.specs.Calls.{NextIsNoCall}
+use Rattle.run_stack.specs.Calls.{NextIsNoCall}
 use Rattle.wasm_run.proofs.Within.{Within, moves, returns, fails, starves, within}
 
 same_rest : (st : Store) → HasSameRest st st

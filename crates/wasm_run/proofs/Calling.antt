@@ -14,13 +14,13 @@ use Rattle.wasm_sem.specs.declared.Trap.TheVariants.{Depth}
 use Rattle.wasm_sem.specs.Link.{own, Instance, instance}
 use Rattle.wasm_sem.specs.Machine.{Frame, Env, Configuration, configuration, Next, reduces, traps, with_ops, new_frame, env_after, after_step, run_of}
 use Rattle.wasm_sem.specs.Store.{zeros}
-use Rattle.wasm_run.specs.Flat.{Flat, Enters}
+use Rattle.run_stack.specs.Flat.{Flat, Enters}
 use Rattle.wasm_run.specs.Entering.{IsCalling, entered_next, HasEntered}
 use Rattle.wasm_run.specs.Moves.{RunsOn, EndsWith}
-use Rattle.wasm_run.specs.Reaching.{behind_call}
+use Rattle.run_stack.specs.Slots.{behind_call}
 use Rattle.run_opening.specs.Resolved.{IsSizeOf}
 use Rattle.wasm_run.specs.Running.{KeepsConfiguration, IsLinked, IsRunning}
-use Rattle.wasm_run.specs.Standing.{KeepsStore}
+use Rattle.run_stack.specs.Standing.{KeepsStore}
 use Rattle.wasm_run.proofs.Invoking.{Invoker, behind, lies_behind, room_behind}
 use Rattle.wasm_run.proofs.Moments.{env_store}
 use Rattle.wasm_run.proofs.Rooms.{next_state, enters_room}

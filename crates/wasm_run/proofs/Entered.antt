@@ -26,12 +26,12 @@ use Rattle.wasm_sem.proofs.Straight.{some_is}
 use Rattle.wasm_run.specs.Beside.{hosts_in, HasMadeHosts}
 use Rattle.wasm_run.specs.Entering.{StandsAlone}
 use Rattle.wasm_run.specs.Entries.{EntersWith, EntersNext}
-use Rattle.wasm_run.specs.Flat.{Flat}
+use Rattle.run_stack.specs.Flat.{Flat}
 use Rattle.wasm_run.specs.Moves.{HasSameAnswers, RunsOn, EndsWith}
 use Rattle.wasm_run.specs.Rooms.{HaveRoom}
 use Rattle.run_opening.specs.Resolved.{IsSizeOf}
 use Rattle.wasm_run.specs.Running.{KeepsConfiguration, IsRunning}
-use Rattle.wasm_run.specs.Standing.{KeepsStore}
+use Rattle.run_stack.specs.Standing.{KeepsStore}
 use Rattle.wasm_run.proofs.Answered.{written_store}
 use Rattle.wasm_run.proofs.Answering.{values_none}
 use Rattle.wasm_run.proofs.Hooks.{hook_told, hook_there, no_hook}

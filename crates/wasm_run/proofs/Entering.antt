@@ -1,5 +1,5 @@
 -- How a frame lies when its function has been entered.
-use Rattle.std.proofs.Common.{◌≡◌, ℕ, zero, suc, ◌+◌, ◌-◌, ◌<◌, ◌≤◌, List, [], ◌∷◌, ◌++◌, length, Some, None, refl, sym, ap, subst, ◌∙◌, arith, append_assoc, length-append}
+use Rattle.std.proofs.Common.{◌≡◌, ℕ, suc, ◌+◌, ◌-◌, ◌<◌, ◌≤◌, List, [], ◌∷◌, ◌++◌, length, Some, None, refl, sym, ap, subst, ◌∙◌, arith, append_assoc, length-append}
 use Rattle.std.specs.Prelude.{reverse, Bool, cond}
 use Rattle.std.proofs.lemmas.Bool.{lt-ltb, le-ltb}
 use Rattle.module_ast.specs.declared.module.Body.{Body}
@@ -8,34 +8,15 @@ use Rattle.wasm_sem.specs.declared.Trap.TheVariants.{Depth}
 use Rattle.wasm_sem.specs.Link.{Instance}
 use Rattle.wasm_run.specs.Entering.{IsCalling, entered_next, HasEntered}
 use Rattle.std.proofs.lemmas.List.{reverse-append, length-reverse}
-use Rattle.std.proofs.lemmas.Option.{same_Some, none-some}
 use Rattle.wasm_num.specs.declared.Value.{Value}
 use Rattle.wasm_num.specs.declared.ValType.{ValType}
 use Rattle.module_ast.specs.declared.module.FuncType.{FuncType}
 use Rattle.module_ast.specs.Tree.{Tree}
 use Rattle.wasm_sem.specs.Store.{zeros}
 use Rattle.wasm_sem.specs.Machine.{Frame, Env, configuration, Next, reduces, traps, pop_values, with_ops, new_frame}
-use Rattle.wasm_run.specs.Flat.{Flat, Enters}
-use Rattle.wasm_run.specs.Kept.{under, all_values, all_spots, all_bases, Lies}
-
--- what is popped, from the top, and what is left
-pub record Parts (n : ℕ) (o acc taken rest : List Value) : Type 0 where
-  pub whole : reverse acc ++ o ≡ reverse taken ++ rest
-  pub count : length taken ≡ length acc + n
-
-pub parts : (n : ℕ) (o acc taken rest : List Value) → pop_values n o acc ≡ Some (taken, rest) → Parts n o acc taken rest
-parts zero o acc taken rest e =
-    subst (λ (p : List Value × List Value). Parts 0 o acc p.0 p.1) (same_Some (acc, o) (taken, rest) e) (record { whole = refl; count = omega arith })
-parts (suc n) [] acc taken rest e = absurd (none-some (taken, rest) e)
-parts (suc n) (v ∷ o) acc taken rest e =
-    let h = parts n o (v ∷ acc) taken rest e in
-    record { whole = sym (append_assoc (reverse acc) (v ∷ []) o) ∙ ap (λ xs. xs ++ o) (sym (reverse-append (v ∷ []) acc)) ∙ h.whole; count = omega (arith, h.count) }
-
--- what is popped stands on top of what is below
-pub pop_over : (n : ℕ) (o taken below a r : List Value) → pop_values n o taken ≡ Some (a, r) → pop_values n (o ++ below) taken ≡ Some (a, r ++ below)
-pop_over zero o taken below a r h = ap (λ (p : List Value × List Value). Some (p.0, p.1 ++ below)) (same_Some (taken, o) (a, r) h)
-pop_over (suc n) [] taken below a r h = absurd (none-some (a, r) h)
-pop_over (suc n) (v ∷ o) taken below a r h = pop_over n o (v ∷ taken) below a r h
+use Rattle.run_stack.specs.Flat.{Flat, Enters}
+use Rattle.run_stack.specs.Kept.{under, all_values, all_spots, all_bases, Lies}
+use Rattle.run_stack.proofs.Popped.{Parts, parts}
 
 module _ (s u : Flat) (fr : Frame) (below : List Frame) (f : ℕ) (ty : FuncType) (locals : List ValType) (code : Tree) (args rest : List Value) (height nesting : ℕ) (lies : Lies s (fr ∷ below))
     (popped : pop_values (length ty.params) fr.top.ops [] ≡ Some (args, rest)) (enters : Enters (length ty.params) (zeros locals) code (length ty.results) height nesting s u) where

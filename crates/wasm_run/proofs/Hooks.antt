@@ -20,17 +20,18 @@ use Rattle.wasm_sem.specs.Machine.{Frame, Env, Configuration, configuration, pop
 use Rattle.wasm_sem.specs.Trace.{told_invoke, told_code, told_items, items_by, items}
 use Rattle.wasm_sem.proofs.AllChosen.{HaveGroups, step_has}
 use Rattle.wasm_sem.proofs.Runs.{pop_push}
-use Rattle.wasm_run.specs.Below.{IsBelow}
-use Rattle.wasm_run.specs.Calls.{IsNoCall, NextIsNoCall}
-use Rattle.wasm_run.specs.Flat.{Flat}
-use Rattle.wasm_run.specs.Kept.{under}
+use Rattle.run_stack.specs.Below.{IsBelow}
+use Rattle.run_stack.specs.Calls.{IsNoCall, NextIsNoCall}
+use Rattle.run_stack.specs.Flat.{Flat}
+use Rattle.run_stack.specs.Kept.{under}
 use Rattle.wasm_run.specs.Moves.{env_beside}
-use Rattle.wasm_run.specs.Reaching.{index_count, with_index, Reaches}
+use Rattle.run_stack.specs.Slots.{index_count, with_index}
+use Rattle.wasm_run.specs.Reaching.{Reaches}
 use Rattle.run_opening.specs.Resolved.{callee_for}
 use Rattle.run_opening.specs.declared.functions.Function.{Function}
 use Rattle.run_opening.specs.declared.functions.Function.TheVariants as functions
 use Rattle.wasm_run.specs.Running.{Innermost, IsRunning}
-use Rattle.wasm_run.proofs.Entering.{parts, pop_over}
+use Rattle.run_stack.proofs.Popped.{parts, pop_over}
 use Rattle.wasm_run.proofs.Invoking.{index_dropped, index_there, Invoker, invoker}
 
 -- ---- modules without hooks

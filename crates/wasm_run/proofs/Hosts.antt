@@ -13,8 +13,8 @@ use Rattle.wasm_sem.specs.declared.Trap.TheVariants.{Depth}
 use Rattle.wasm_sem.specs.Link.{own, Instance, instance}
 use Rattle.wasm_sem.specs.Machine.{Frame, Env, Configuration, configuration, Next, reduces, traps, ends, stuck, with_ops, frame_behind, step, after_step, run_of}
 use Rattle.wasm_run.specs.Beside.{hosts_in, HasMadeHosts}
-use Rattle.wasm_run.specs.Calls.{NextIsNoCall}
-use Rattle.wasm_run.specs.Flat.{Flat, first_rest}
+use Rattle.run_stack.specs.Calls.{NextIsNoCall}
+use Rattle.run_stack.specs.Flat.{Flat, first_rest}
 use Rattle.wasm_run.specs.Running.{IsLinked, KeepsConfiguration, IsRunning, IsInside}
 use Rattle.wasm_run.proofs.Invoking.{Invoker}
 use Rattle.wasm_run.proofs.Beside.{NextGoesOn, answer_stays, same_beside, step_goes_on}

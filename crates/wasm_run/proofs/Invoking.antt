@@ -14,13 +14,14 @@ use Rattle.wasm_sem.specs.Machine.{Frame, Env, Configuration, configuration, stu
 use Rattle.wasm_sem.specs.Trace.{told_invoke, told_popped, told_code}
 use Rattle.wasm_sem.proofs.Sound.{never_lacks}
 use Rattle.wasm_sem.proofs.Heights.{stays_within}
-use Rattle.wasm_run.specs.Flat.{Spot, Flat, moved_spots, first_rest, HasMoreRoom}
-use Rattle.wasm_run.specs.Kept.{under, Lies}
-use Rattle.wasm_run.specs.Reaching.{index_count, with_index, behind_call, before_call, Reaches}
+use Rattle.run_stack.specs.Flat.{Spot, Flat, moved_spots, first_rest, HasMoreRoom}
+use Rattle.run_stack.specs.Kept.{under, Lies}
+use Rattle.run_stack.specs.Slots.{index_count, with_index, behind_call, before_call}
+use Rattle.wasm_run.specs.Reaching.{Reaches}
 use Rattle.wasm_run.specs.Rooms.{HaveRoom}
 use Rattle.wasm_run.specs.Running.{KeepsConfiguration, IsLinked, IsRunning}
-use Rattle.wasm_run.specs.Standing.{KeepsStore}
-use Rattle.wasm_run.proofs.Entering.{Parts, parts}
+use Rattle.run_stack.specs.Standing.{KeepsStore}
+use Rattle.run_stack.proofs.Popped.{Parts, parts}
 use Rattle.wasm_run.proofs.Rooms.{same_room, more_room, frames_fit}
 
 -- ---- the number of the slot

@@ -14,27 +14,27 @@ use Rattle.wasm_sem.specs.declared.Trap.{Trap}
 use Rattle.wasm_sem.specs.Link.{Instance, instance}
 use Rattle.wasm_sem.specs.Machine.{Frame, Phase, starting, calling, over, Env, Configuration, configuration, Next, reduces, traps, env_after, step, after_step, run_of}
 use Rattle.wasm_run.proofs.Following.{NextFollows, step_follows}
-use Rattle.wasm_run.specs.Flat.{Flat, first_base, first_rest, lowest_arity}
-use Rattle.wasm_run.specs.Standing.{IsStanding, KeepsStore, Went, Trapped as HasTrapped}
-use Rattle.wasm_run.specs.Advances.{IsAtCall, IsAtGrow, IsSame, Advances, GoesAtNoCall}
+use Rattle.run_stack.specs.Flat.{Flat, first_base, first_rest, lowest_arity}
+use Rattle.run_stack.specs.Standing.{IsStanding, KeepsStore, Went, Trapped as HasTrapped}
+use Rattle.run_stack.specs.Advances.{IsAtCall, IsAtGrow, IsSame, Advances, GoesAtNoCall}
 use Rattle.wasm_run.specs.Rooms.{HaveRoom}
-use Rattle.wasm_run.specs.Below.{IsBelow, IsAnswerOf}
-use Rattle.wasm_run.specs.Calls.{NextIsNoCall}
-use Rattle.wasm_run.specs.Leaving.{HasNumber, LeavesFrom, LeavesLast}
+use Rattle.run_stack.specs.Below.{IsBelow, IsAnswerOf}
+use Rattle.run_stack.specs.Calls.{NextIsNoCall}
+use Rattle.run_stack.specs.Leaving.{HasNumber, LeavesFrom, LeavesLast}
 use Rattle.wasm_run.specs.Moves.{RunsOn, EndsWith, MovesBy, CallsOrGrows, MayWant, MakesStep}
 use Rattle.module_ast.specs.Tree.{Tree}
 use Rattle.wasm_run.specs.Running.{HoldsIf, Run, configuration_of, KeepsConfiguration, IsRunning, IsInside, Innermost}
 use Rattle.wasm_run.proofs.Beside.{NextGoesOn, step_goes_on}
-use Rattle.wasm_run.proofs.Controls.{labels_are}
+use Rattle.run_stack.proofs.Lying.{labels_are}
 use Rattle.wasm_run.proofs.Ending.{same_values}
 use Rattle.wasm_run.proofs.Ahead.{NextLeaves, step_leaves as left_by, has_number, leaves_many, results_there, left_with, results_few, no_call as no_call_left}
-use Rattle.wasm_run.proofs.Pushed.{push_length, pushed_same}
+use Rattle.run_stack.proofs.Pushed.{push_length, pushed_same}
 use Rattle.wasm_sem.specs.Typed.{IsPhaseTyped}
 use Rattle.wasm_sem.proofs.Live.{IsLive, IsStateLive}
 use Rattle.wasm_sem.proofs.LiveSteps.{always_live}
 use Rattle.module_ast.specs.Typing.{push}
-use Rattle.wasm_run.specs.declared.advance.Did.{Did}
-use Rattle.wasm_run.specs.declared.advance.Did.TheVariants as dids
+use Rattle.run_stack.specs.declared.steps.Did.{Did}
+use Rattle.run_stack.specs.declared.steps.Did.TheVariants as dids
 use Rattle.wasm_run.proofs.Rooms.{follows_room, next_state, standing_at}
 
 -- an answer leaves the store
@@ -72,7 +72,7 @@ module _ (m : Module) (s : Script) (made : ℕ) (f : Flat) (memory : Held) (glob
   readable inside =
       let (i, e, fr, below, types, st) = standing inside in
       let bases = ap length st.lies.bases in
-      let labels = labels_are f i e fr below st.lies in
+      let labels = labels_are f fr below st.lies in
       record { some = omega (arith, bases); own = omega (arith, labels); number = has_number f i e fr below st.lies st.ready }
 
   -- it does

@@ -27,12 +27,13 @@ use Rattle.wasm_run.specs.declared.note.HostNote.{HostNote}
 use Rattle.wasm_run.specs.declared.note.Note.{Note}
 use Rattle.wasm_run.specs.declared.note.Noted.{Noted}
 use Rattle.wasm_run.specs.Beside.{hosts_in, HasMadeHosts}
-use Rattle.wasm_run.specs.Below.{IsBelow}
+use Rattle.run_stack.specs.Below.{IsBelow}
 use Rattle.wasm_run.specs.Entries.{EntersNext}
-use Rattle.wasm_run.specs.Flat.{Flat}
+use Rattle.run_stack.specs.Flat.{Flat}
 use Rattle.wasm_run.specs.Moves.{env_beside}
 use Rattle.wasm_run.specs.Noting.{host_items, noted_items, outside_items, last_outside, KeepsNote}
-use Rattle.wasm_run.specs.Reaching.{index_count, Reaches}
+use Rattle.run_stack.specs.Slots.{index_count}
+use Rattle.wasm_run.specs.Reaching.{Reaches}
 use Rattle.wasm_run.specs.Running.{KeepsConfiguration, IsLinked, IsRunning, IsInside, Innermost}
 use Rattle.wasm_run.proofs.Beside.{answer_stays}
 use Rattle.wasm_run.proofs.Hooks.{told_with}

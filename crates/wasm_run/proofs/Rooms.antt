@@ -18,16 +18,16 @@ use Rattle.wasm_sem.specs.declared.Script.{Script}
 use Rattle.wasm_sem.specs.Link.{Callee, host, hook, own, Instance, instance, callees_of, IsScriptInRange, Links}
 use Rattle.wasm_sem.specs.Machine.{Label, Frame, Env, Configuration, configuration, Next, reduces, stuck, pop_values, with_ops, new_frame, step, after_step, run, run_of, opening_configuration}
 use Rattle.module_ast.specs.Limits.{IsComplete}
-use Rattle.wasm_run.specs.Calls.{NextIsNoCall}
+use Rattle.run_stack.specs.Calls.{NextIsNoCall}
 use Rattle.wasm_sem.specs.Heights.{function_context, operands_on, AreFramesWithin, IsConfigurationWithin}
 use Rattle.wasm_sem.proofs.Runs.{run_add}
 use Rattle.wasm_sem.proofs.Sound.{never_lacks}
 use Rattle.wasm_sem.proofs.Heights.{stays_within}
 use Rattle.wasm_run.proofs.Following.{Follows, stays, returns, leaves, NextFollows, step_follows}
-use Rattle.wasm_run.specs.Flat.{Flat, Enters}
-use Rattle.wasm_run.specs.Kept.{ops_of, spots_of, all_values, low_of, all_spots, Lies}
-use Rattle.wasm_run.specs.Comes.{IsUnstuck}
-use Rattle.wasm_run.specs.Standing.{HasRoomFor, HasStepRoom, IsStanding, KeepsStore}
+use Rattle.run_stack.specs.Flat.{Flat, Enters}
+use Rattle.run_stack.specs.Kept.{ops_of, spots_of, all_values, low_of, all_spots, Lies}
+use Rattle.run_stack.specs.Comes.{IsUnstuck}
+use Rattle.run_stack.specs.Standing.{HasRoomFor, HasStepRoom, IsStanding, KeepsStore}
 use Rattle.wasm_run.specs.Rooms.{HasOwnRoom, HaveRoom}
 
 -- ---- counts

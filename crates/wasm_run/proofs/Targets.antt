@@ -12,7 +12,7 @@ use Rattle.module_ast.specs.Seen.{before, code_of}
 use Rattle.std.proofs.lemmas.List.{take_all}
 use Rattle.wasm_run.specs.Moves.{CallsOrGrows, MayWant}
 use Rattle.module_ast.specs.Tree.{Tree, plain, call, call_indirect}
-use Rattle.wasm_run.specs.Calls.{NextIsNoCall}
+use Rattle.run_stack.specs.Calls.{NextIsNoCall}
 use Rattle.run_store.specs.Held.{Held}
 use Rattle.wasm_sem.specs.declared.Script.{Script}
 use Rattle.wasm_sem.specs.declared.Trap.TheVariants.{NoSlot, EmptySlot, WrongType}
@@ -22,11 +22,11 @@ use Rattle.wasm_sem.specs.Machine.{Frame, Env, Configuration, configuration, Nex
 use Rattle.wasm_sem.specs.Trace.{told_popped, told_call, told_matched, told_typed, told_slot, told_indirect, told_code, told_items}
 use Rattle.wasm_sem.specs.Events.{in_slot}
 use Rattle.wasm_sem.proofs.Sound.{never_lacks}
-use Rattle.wasm_run.specs.Flat.{Flat}
-use Rattle.wasm_run.specs.Kept.{under, Lies}
+use Rattle.run_stack.specs.Flat.{Flat}
+use Rattle.run_stack.specs.Kept.{under, Lies}
 use Rattle.wasm_run.specs.Reaching.{Reaches, IsAtSlot}
 use Rattle.wasm_run.specs.Running.{Innermost, KeepsConfiguration, IsRunning}
-use Rattle.wasm_run.specs.Standing.{IsCall}
+use Rattle.run_stack.specs.Standing.{IsCall}
 
 -- ---- the same types
 

@@ -7,7 +7,7 @@ use Rattle.wasm_sem.specs.Link.{Instance}
 use Rattle.wasm_sem.specs.Machine.{Label, Frame, Env, Configuration, configuration, Next, reduces, traps, stuck, pop_values, return_to, reduce_code}
 use Rattle.wasm_sem.specs.Events.{TraceItem, outermost}
 use Rattle.wasm_sem.proofs.Rules.{Jumps, lands, leaves, crosses, unfed, unheld, by_index, by_slot, Rule, computes, halts, jumps, stays, calls, misses, opens, skips, falls, finishes, enters, rests, lacks, rule_of}
-use Rattle.wasm_run.specs.Calls.{NextIsNoCall}
+use Rattle.run_stack.specs.Calls.{NextIsNoCall}
 use Rattle.wasm_sem.specs.Rules.{HasSameRest}
 
 -- The frame goes on, with another memory or other globals; or it returns what the outermost label takes; or it traps.

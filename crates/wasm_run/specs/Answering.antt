@@ -6,7 +6,7 @@ use Rattle.module_ast.specs.declared.module.FuncType.{FuncType}
 use Rattle.module_ast.specs.Typing.{push}
 use Rattle.wasm_sem.specs.declared.HostAnswer.{HostAnswer}
 use Rattle.wasm_sem.specs.Store.{no_answer}
-use Rattle.wasm_run.specs.Flat.{Flat}
+use Rattle.run_stack.specs.Flat.{Flat}
 
 -- the arguments are taken, and these results are on top
 abbrev pub returned_with : FuncType → (results : List Value) → Flat → Flat

@@ -12,7 +12,7 @@ use Rattle.run_store.specs.Held.{Held}
 use Rattle.run_opening.specs.declared.functions.Function.{Function}
 use Rattle.run_opening.specs.Resolved.{AreFunctionsOf}
 use Rattle.wasm_run.specs.declared.note.Noted.{Noted}
-use Rattle.wasm_run.specs.Flat.{Flat}
+use Rattle.run_stack.specs.Flat.{Flat}
 use Rattle.wasm_run.specs.Noting.{KeepsNote}
 use Rattle.wasm_run.specs.Running.{IsRunning}
 

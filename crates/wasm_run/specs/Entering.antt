@@ -8,8 +8,8 @@ use Rattle.wasm_sem.specs.declared.Trap.{Trap}
 use Rattle.wasm_sem.specs.Link.{Instance}
 use Rattle.wasm_sem.specs.Store.{values_of}
 use Rattle.wasm_sem.specs.Machine.{Frame, Env, configuration, Next, reduces, traps, pop_values, with_ops, new_frame, enter}
-use Rattle.wasm_run.specs.Flat.{Flat}
-use Rattle.wasm_run.specs.Kept.{Lies}
+use Rattle.run_stack.specs.Flat.{Flat}
+use Rattle.run_stack.specs.Kept.{Lies}
 
 -- a frame that calls a function of the module with the topmost operands
 pub record IsCalling (s : Flat) (inst : Instance) (fr : Frame) (below : List Frame) (ty : FuncType) (args rest : List Value) : Type 0 where

@@ -5,7 +5,7 @@ use Rattle.module_ast.specs.Tree.{Tree, plain, call, call_indirect, memory_grow}
 use Rattle.wasm_sem.specs.declared.Answer.{Answer}
 use Rattle.wasm_sem.specs.Link.{Instance, instance}
 use Rattle.wasm_sem.specs.Machine.{Env, Configuration, configuration, env_after, is_last}
-use Rattle.wasm_run.specs.Leaving.{LeavesMany}
+use Rattle.run_stack.specs.Leaving.{LeavesMany}
 use Rattle.wasm_run.specs.Running.{Run, configuration_of, one_more, IsInside}
 
 -- what stands beside the frames

@@ -1,5 +1,5 @@
 -- Where a call of the innermost frame leads.
-use Rattle.std.specs.Prelude.{◌≡◌, ℕ, List, [], ◌∷◌, length, drop, Option, Some, None, slice_get}
+use Rattle.std.specs.Prelude.{◌≡◌, ℕ, List, [], ◌∷◌, length, Option, Some, slice_get}
 use Rattle.wasm_num.specs.declared.Value.{Value}
 use Rattle.wasm_num.specs.declared.Value.TheVariants.{I32}
 use Rattle.module_ast.specs.Tree.{Tree, plain, call_indirect}
@@ -10,28 +10,11 @@ use Rattle.wasm_sem.specs.Trace.{told_popped, told_code, told_items}
 use Rattle.wasm_run.specs.declared.functions.Invocation.{Invocation}
 use Rattle.wasm_run.specs.declared.functions.Target.{Target}
 use Rattle.wasm_run.specs.declared.functions.Target.TheVariants as targets
-use Rattle.wasm_run.specs.Advances.{IsAtCall}
-use Rattle.wasm_run.specs.Calls.{NextIsNoCall}
-use Rattle.wasm_run.specs.Flat.{Flat, moved_spots}
+use Rattle.run_stack.specs.Advances.{IsAtCall}
+use Rattle.run_stack.specs.Calls.{NextIsNoCall}
+use Rattle.run_stack.specs.Slots.{with_index}
 use Rattle.run_opening.specs.Resolved.{callee_for, HasSize}
 use Rattle.wasm_run.specs.Running.{Run, configuration_of, Innermost}
-
--- how many operands stand above the arguments: the index of a slot, where the call goes through one
-abbrev pub index_count : Option ℕ → ℕ
-index_count None = 0
-index_count (Some i) = 1
-
-abbrev pub with_index : Option ℕ → List Value → List Value
-with_index None o = o
-with_index (Some i) o = I32 i ∷ o
-
--- the innermost label stands behind the call, and the index has been taken
-abbrev pub behind_call : Option ℕ → Tree → Flat → Flat
-behind_call slot k f = record f { values = drop (index_count slot) f.values; spots = moved_spots k f.spots }
-
--- the call is not made: the index is there again, and the innermost label stands before the call
-abbrev pub before_call : Option ℕ → Tree → Flat → Flat
-before_call slot place f = record f { values = with_index slot f.values; spots = moved_spots place f.spots }
 
 -- a frame stands before a call of this function, with this code behind
 pub record CallsFrom (inst : Instance) (e : Env) (fr : Frame) (below : List Frame) (slot : Option ℕ) (func : ℕ) (k : Tree) (called : Callee) : Type 0 where

@@ -9,7 +9,7 @@ use Rattle.module_ast.specs.Tree.{Tree}
 use Rattle.wasm_sem.specs.Link.{own, callees_of}
 use Rattle.wasm_sem.specs.Machine.{Frame}
 use Rattle.wasm_sem.specs.Heights.{function_context}
-use Rattle.wasm_run.specs.Kept.{all_values, all_spots}
+use Rattle.run_stack.specs.Kept.{all_values, all_spots}
 
 -- there is room for the locals and the greatest height of a frame's function, and for as many labels as its nesting and
 -- one, above what stands below the frame

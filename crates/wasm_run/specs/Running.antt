@@ -8,9 +8,9 @@ use Rattle.wasm_sem.specs.declared.Script.{Script}
 use Rattle.wasm_sem.specs.Link.{instance, IsScriptInRange, Links}
 use Rattle.wasm_sem.specs.Machine.{Frame, Configuration, configuration, run_of}
 use Rattle.module_ast.specs.Limits.{IsComplete}
-use Rattle.wasm_run.specs.Flat.{Flat}
-use Rattle.wasm_run.specs.Kept.{Lies}
-use Rattle.wasm_run.specs.Standing.{KeepsStore}
+use Rattle.run_stack.specs.Flat.{Flat}
+use Rattle.run_stack.specs.Kept.{Lies}
+use Rattle.run_stack.specs.Standing.{KeepsStore}
 use Rattle.wasm_run.specs.Rooms.{HaveRoom}
 
 -- what stands behind so many steps is `run_of «module» script made`

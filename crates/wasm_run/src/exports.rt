@@ -33,13 +33,13 @@ pub fn exported_functions<'m>(
 /// The function of each call of a script, in order, by its index. Names are sorted once, and each call looks its own up.
 pub(crate) fn called_functions(
     alloc: Global,
-    module: &Module,
+    linked: &Module,
     script: &Script,
 ) -> Result<Vec<u32>, NoMemory>
-    requires { Links module.now script.now }
-    ensures { IfOk result (λ functions. AreCalled module.now script.now functions.items) }
+    requires { Links linked.now script.now }
+    ensures { IfOk result (λ functions. AreCalled linked.now script.now functions.items) }
 {
-    let named = exported_functions(alloc, module.exports.as_slice())?;
+    let named = exported_functions(alloc, linked.exports.as_slice())?;
     let mut functions = Vec::new(alloc);
     for call in script.calls.as_slice() {
         match named.get(&call.export.as_str()) {

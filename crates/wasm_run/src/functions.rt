@@ -1,7 +1,7 @@
 // Where a call leads.
 
 ghost use Rattle.std.specs.Prelude.{◌≡◌};
-ghost use Rattle.wasm_run.specs.Reaching.{index_count};
+ghost use Rattle.run_stack.specs.Slots.{index_count};
 
 use module_ast::code::Instr;
 use run_opening::Function;

@@ -6,9 +6,9 @@ ghost use Rattle.wasm_sem.specs.Link.{IsWriteInRange};
 ghost use Rattle.wasm_sem.specs.Store.{values_of, answer_at, writes_done, written_memory};
 ghost use Rattle.wasm_run.specs.Answering.{returned_with, answer_given};
 
-use crate::stack::Stack;
 use module_ast::module::FuncType;
 use run_opening::value_of;
+use run_stack::Stack;
 use run_store::memory::Memory;
 use std::alloc::Global;
 use wasm_num::{NoMemory, ValType, Value, Values};

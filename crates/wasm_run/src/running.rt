@@ -12,27 +12,25 @@ ghost use Rattle.wasm_sem.specs.Trace.{items};
 ghost use Rattle.module_ast.specs.Validity.{declared_locals};
 ghost use Rattle.wasm_run.specs.Running.{Run, configuration_of, HoldsIf, IsInside, Innermost};
 ghost use Rattle.wasm_run.specs.Beside.{hosts_in, pages_in};
-ghost use Rattle.wasm_run.specs.Advances.{IsAtCall};
+ghost use Rattle.run_stack.specs.Advances.{IsAtCall};
 ghost use Rattle.wasm_run.specs.Entries.{EntersNext};
-ghost use Rattle.wasm_run.specs.Leaving.{LeavesLast};
+ghost use Rattle.run_stack.specs.Leaving.{LeavesLast};
 ghost use Rattle.wasm_run.specs.Moves.{MayWant, MakesStep};
 ghost use Rattle.wasm_run.specs.Reaching.{IsAtSlot, Reaches, IsInvocation, IsTarget};
 ghost use Rattle.run_opening.specs.Resolved.{callee_for, HasSize, IsSizeOf};
 ghost use Rattle.wasm_run.specs.Answering.{answer_given};
 ghost use Rattle.wasm_run.specs.Noting.{host_items, last_outside, IsNoteOf};
 
-use crate::advance::{Did, advance};
 use crate::call::{call_own, enter_alone};
 use crate::functions::{Invocation, Target, index_count};
 use crate::host::{answer, answer_entry, next_answer, return_numbers, values_of};
-use crate::leaving::above_many;
 use crate::note::{HostNote, Note, Noted, host_note, noted_entry};
-use crate::stack::Stack;
 use module_ast::code::Instr;
 use module_ast::module::{Body, FuncType, Module};
 use run_opening::{
     Function, Size, functions_of, open_globals, open_memory, open_table, same_func_type,
 };
+use run_stack::{Did, Stack, above_many, advance};
 use run_store::globals::Globals;
 use run_store::memory::Memory;
 use run_store::table::Table;
@@ -192,6 +190,7 @@ impl<'m> Running<'m> {
 
     // The step leaves the last frame with more than four values, above which so many operands stand. They are read first: where
     // there is no memory for them, the step is not made.
+    #[inline(never)]
     fn leave_last(&mut self, above: usize) -> Result<Option<Answer>, AllocError>
         requires few { self.old.made < 2 ^ 64 - 1 }
         requires leaves { LeavesLast above (configuration_of self.old) }

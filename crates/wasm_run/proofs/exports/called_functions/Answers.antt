@@ -10,7 +10,7 @@ use Rattle.wasm_run.proofs.exports.called_functions.Goals as goal
 
 pub unreachable-requires : goal.unreachable-requires
 unreachable-requires c =
-    let m = c.args.module.now in
+    let m = c.args.linked.now in
     let cs : List Call = c.as_slice-call-items.result.now in
     let x : Call = c.call-item.result in
     let none : exported_func x.export.bytes m.exports ≡ None = sym (c.in-None.ensures.value ∙ c.in_ok-named.ensures c.as_str.result.now ∙ ap (exported_func c.as_str.result.now) c.as_slice.ensures ∙ ap (λ bs. exported_func bs m.exports) c.as_str.ensures) in
@@ -19,7 +19,7 @@ unreachable-requires c =
 
 pub loop-call-preserved : goal.loop-call-preserved
 loop-call-preserved c =
-    let m = c.args.module.now in
+    let m = c.args.linked.now in
     let cs : List Call = c.as_slice-call-items.result.now in
     let x : Call = c.call-item.result in
     let i = c.loop-call.call-index in
@@ -33,6 +33,6 @@ loop-call-preserved c =
 
 pub returns : goal.returns
 returns c =
-    let m = c.args.module.now in
+    let m = c.args.linked.now in
     let cs : List Call = c.as_slice-call-items.result.now in
     c.loop-call.invariant ∙ ap (map (λ (c : Call). exported_func c.export.bytes m.exports)) (take_all c.loop-call.call-index cs (omega (arith, c.loop-call-test.false)) ∙ c.as_slice-call-items.ensures)

@@ -3,7 +3,7 @@ use Rattle.module_ast.specs.Seen.{code_of}
 use Rattle.module_ast.specs.Validity.{declared_locals}
 use Rattle.wasm_sem.specs.declared.Answer.TheVariants.{Trapped}
 use Rattle.wasm_sem.specs.Link.{own, instance}
-use Rattle.wasm_run.specs.Flat.{Flat}
+use Rattle.run_stack.specs.Flat.{Flat}
 use Rattle.wasm_run.specs.Moves.{RunsOn, EndsWith, MayWant}
 use Rattle.wasm_run.specs.Reaching.{Reaches}
 use Rattle.run_opening.specs.Resolved.{IsSizeOf}

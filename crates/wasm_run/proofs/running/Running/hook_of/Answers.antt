@@ -4,7 +4,7 @@ use Rattle.wasm_num.specs.declared.ValType.{ValType}
 use Rattle.wasm_sem.specs.Answers.{hook_in}
 use Rattle.wasm_sem.specs.Link.{hook, instance}
 use Rattle.wasm_sem.specs.Trace.{items}
-use Rattle.wasm_run.specs.Below.{IsBelow}
+use Rattle.run_stack.specs.Below.{IsBelow}
 use Rattle.wasm_run.specs.Reaching.{Reaches}
 use Rattle.run_opening.specs.Resolved.{callee_for}
 use Rattle.wasm_run.specs.Running.{Run, configuration_of}

@@ -7,7 +7,7 @@ use Rattle.wasm_sem.specs.Link.{host, instance}
 use Rattle.wasm_sem.specs.Store.{values_of, answer_at, writes_done}
 use Rattle.wasm_run.specs.declared.note.HostNote.{HostNote}
 use Rattle.wasm_run.specs.Answering.{answer_given}
-use Rattle.wasm_run.specs.Below.{IsBelow}
+use Rattle.run_stack.specs.Below.{IsBelow}
 use Rattle.wasm_run.specs.Beside.{hosts_in}
 use Rattle.wasm_run.specs.Noting.{host_items, last_outside}
 use Rattle.wasm_run.specs.Reaching.{Reaches}

@@ -1,9 +1,9 @@
 use Rattle.std.proofs.Common.{◌+◌, ◌≤◌, length, refl, sym, ap, subst}
 use Rattle.wasm_sem.specs.declared.Answer.TheVariants.{Returned}
 use Rattle.wasm_sem.specs.Link.{instance}
-use Rattle.wasm_run.specs.Below.{IsBelow}
-use Rattle.wasm_run.specs.Flat.{Flat}
-use Rattle.wasm_run.specs.Leaving.{LeavesLast}
+use Rattle.run_stack.specs.Below.{IsBelow}
+use Rattle.run_stack.specs.Flat.{Flat}
+use Rattle.run_stack.specs.Leaving.{LeavesLast}
 use Rattle.wasm_run.specs.Moves.{MayWant, EndsWith}
 use Rattle.wasm_run.specs.Running.{Run, one_more, configuration_of}
 use Rattle.wasm_run.proofs.Hosts.{inside_hosts}

@@ -1,12 +1,12 @@
 use Rattle.std.proofs.Common.{◌+◌, ◌<◌, Ok, Err, sym, ap, subst}
 use Rattle.wasm_sem.specs.declared.Answer.TheVariants.{Trapped}
 use Rattle.wasm_sem.specs.Link.{instance}
-use Rattle.wasm_run.specs.Advances.{IsAtGrow, GoesAtNoCall}
-use Rattle.wasm_run.specs.Flat.{Flat, first_rest}
-use Rattle.wasm_run.specs.Leaving.{LeavesLast}
+use Rattle.run_stack.specs.Advances.{IsAtGrow, GoesAtNoCall}
+use Rattle.run_stack.specs.Flat.{Flat, first_rest}
+use Rattle.run_stack.specs.Leaving.{LeavesLast}
 use Rattle.wasm_run.specs.Moves.{MovesBy, EndsWith}
 use Rattle.wasm_run.specs.Running.{Run, one_more, configuration_of, IsInside, Innermost}
-use Rattle.wasm_run.specs.declared.advance.Did.{Did}
+use Rattle.run_stack.specs.declared.steps.Did.{Did}
 use Rattle.wasm_run.proofs.Hosts.{inside_hosts, trap_hosts}
 use Rattle.wasm_run.proofs.Moments.{standing, readable, leaves_last, Leaves, leaves, went_moves, left_few, trap_ends, wanting}
 use Rattle.wasm_run.proofs.Rooms.{next_state}

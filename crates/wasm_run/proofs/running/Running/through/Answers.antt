@@ -8,7 +8,7 @@ use Rattle.wasm_sem.specs.Link.{instance}
 use Rattle.wasm_sem.specs.Machine.{Frame, step, traps, opening_configuration}
 use Rattle.wasm_sem.specs.Trace.{told_items}
 use Rattle.wasm_sem.proofs.Ended.{slots_stay}
-use Rattle.wasm_run.specs.Kept.{under}
+use Rattle.run_stack.specs.Kept.{under}
 use Rattle.wasm_run.specs.Reaching.{IsAtSlot}
 use Rattle.wasm_run.specs.Running.{Run, configuration_of, Innermost}
 use Rattle.wasm_run.proofs.Targets.{through, on_top, innermost_at, no_slot, empty_slot}

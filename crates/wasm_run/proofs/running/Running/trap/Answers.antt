@@ -2,9 +2,9 @@ use Rattle.std.proofs.Common.{◌≡◌, ap, sym, subst}
 use Rattle.wasm_sem.specs.Link.{instance}
 use Rattle.wasm_sem.specs.Machine.{step, traps}
 use Rattle.wasm_sem.specs.declared.Answer.TheVariants.{Trapped}
-use Rattle.wasm_run.specs.Flat.{Flat}
+use Rattle.run_stack.specs.Flat.{Flat}
 use Rattle.wasm_run.specs.Moves.{EndsWith}
-use Rattle.wasm_run.specs.Advances.{IsAtCall}
+use Rattle.run_stack.specs.Advances.{IsAtCall}
 use Rattle.wasm_run.specs.Running.{Run, one_more, configuration_of, Innermost}
 use Rattle.wasm_run.proofs.Hosts.{trap_hosts}
 use Rattle.wasm_run.proofs.Moments.{trap_ends, trap_running}

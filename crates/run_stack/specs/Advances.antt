@@ -1,0 +1,50 @@
+-- What a step inside a frame answers.
+use Rattle.std.specs.Prelude.{◌≡◌, List, ◌∷◌, Result, Ok, Err}
+use Rattle.std.specs.declared.alloc.AllocError.{AllocError}
+use Rattle.wasm_num.specs.declared.Value.{Value}
+use Rattle.module_ast.specs.declared.code.Instr.{Instr}
+use Rattle.module_ast.specs.declared.code.Instr.TheVariants as instrs
+use Rattle.module_ast.specs.Tree.{Tree}
+use Rattle.module_ast.specs.Seen.{before}
+use Rattle.run_store.specs.Held.{Held}
+use Rattle.wasm_sem.specs.Link.{Instance}
+use Rattle.wasm_sem.specs.Machine.{Frame, Env, configuration, step}
+use Rattle.run_stack.specs.Calls.{NextIsNoCall}
+use Rattle.run_stack.specs.Flat.{Flat}
+use Rattle.run_stack.specs.Standing.{IsStanding, Went, Trapped, IsCall}
+use Rattle.run_stack.specs.declared.steps.Did.{Did}
+use Rattle.run_stack.specs.declared.steps.Did.TheVariants as dids
+
+-- the innermost frame goes on with this code
+pub record IsAtPlace (s : Flat) (memory : Held) (globals : List Value) (place : Tree) (inst : Instance) (e : Env) (fr : Frame) (below : List Frame) : Type 0 where
+  pub standing : IsStanding s memory globals inst e fr below
+  pub at : fr.top.rest ≡ place
+
+-- at a call
+pub record IsAtCall (fr : Frame) : Type 0 where
+  pub instr : Instr
+  pub rest : Tree
+  pub at : fr.top.rest ≡ before instr rest
+  pub call : IsCall instr
+
+-- at a `memory.grow`
+pub record IsAtGrow (fr : Frame) : Type 0 where
+  pub rest : Tree
+  pub at : fr.top.rest ≡ before instrs.MemoryGrow rest
+
+-- all is as it was
+pub record IsSame (s : Flat) (memory : Held) (globals : List Value) (t : Flat) (m : Held) (g : List Value) : Type 0 where
+  pub stack : t ≡ s
+  pub memory_is : m ≡ memory
+  pub globals_are : g ≡ globals
+
+abbrev pub Advances : Instance → Env → Frame → List Frame → Result Did AllocError → Flat → Held → List Value → Flat → Held → List Value → Type 0
+Advances inst e fr below (Ok dids.Went) s memory globals t m g = Went inst e (step inst (configuration e (fr ∷ below))) t m g
+Advances inst e fr below (Ok (dids.Trapped u)) s memory globals t m g = Trapped inst e (step inst (configuration e (fr ∷ below))) u m g
+Advances inst e fr below (Ok dids.Calls) s memory globals t m g = IsAtCall fr × IsSame s memory globals t m g
+Advances inst e fr below (Err u) s memory globals t m g = IsAtGrow fr × IsSame s memory globals t m g
+
+-- where it went on, before this code, that is no call
+abbrev pub GoesAtNoCall : Result Did AllocError → Tree → Type 0
+GoesAtNoCall (Ok dids.Went) k = NextIsNoCall k
+GoesAtNoCall _ k = Unit {0}

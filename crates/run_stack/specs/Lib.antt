@@ -1,0 +1,10 @@
+pub mod Flat
+pub mod Slots
+pub mod Kept
+pub mod Below
+pub mod Straight
+pub mod Comes
+pub mod Standing
+pub mod Calls
+pub mod Advances
+pub mod Leaving

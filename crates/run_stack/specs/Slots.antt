@@ -1,0 +1,23 @@
+-- A call through a slot of the table, whose number stands on top of the arguments.
+use Rattle.std.specs.Prelude.{ℕ, List, ◌∷◌, drop, Option, Some, None}
+use Rattle.wasm_num.specs.declared.Value.{Value}
+use Rattle.wasm_num.specs.declared.Value.TheVariants.{I32}
+use Rattle.module_ast.specs.Tree.{Tree}
+use Rattle.run_stack.specs.Flat.{Flat, moved_spots}
+
+-- how many operands stand above the arguments: the index of a slot, where the call goes through one
+abbrev pub index_count : Option ℕ → ℕ
+index_count None = 0
+index_count (Some i) = 1
+
+abbrev pub with_index : Option ℕ → List Value → List Value
+with_index None o = o
+with_index (Some i) o = I32 i ∷ o
+
+-- the innermost label stands behind the call, and the index has been taken
+abbrev pub behind_call : Option ℕ → Tree → Flat → Flat
+behind_call slot k f = record f { values = drop (index_count slot) f.values; spots = moved_spots k f.spots }
+
+-- the call is not made: the index is there again, and the innermost label stands before the call
+abbrev pub before_call : Option ℕ → Tree → Flat → Flat
+before_call slot place f = record f { values = with_index slot f.values; spots = moved_spots place f.spots }

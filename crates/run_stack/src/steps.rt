@@ -1,0 +1,146 @@
+// A step inside a frame.
+
+ghost use Rattle.std.specs.Prelude.{◌≡◌, ◌∷◌, List};
+ghost use Rattle.module_ast.specs.Seen.{code_of, before};
+ghost use Rattle.wasm_sem.specs.Link.{Instance};
+ghost use Rattle.wasm_num.specs.declared.Value.{Value as number};
+ghost use Rattle.run_store.specs.Held.{Held};
+ghost use Rattle.wasm_sem.specs.Machine.{Env, Frame, configuration, step};
+ghost use Rattle.run_stack.specs.Straight.{IsSimple};
+ghost use Rattle.run_stack.specs.Comes.{IsControl};
+ghost use Rattle.run_stack.specs.Standing.{IsStanding, Went};
+ghost use Rattle.run_stack.specs.Advances.{IsAtPlace, Advances, GoesAtNoCall};
+ghost use Rattle.run_stack.specs.Flat.{first_rest};
+
+use crate::control::{control, fall};
+use crate::stack::Stack;
+use crate::straight::straight;
+use module_ast::code::Instr;
+use module_ast::module::Module;
+use run_store::globals::Globals;
+use run_store::memory::Memory;
+use std::alloc::AllocError;
+use wasm_sem::Trap;
+
+/// What a step inside a frame did. At a call it did nothing yet.
+#[derive(Drop)]
+pub enum Did {
+    Went,
+    Trapped(Trap),
+    Calls,
+}
+
+// An instruction that neither branches, nor calls, nor opens a block, with the sequence behind it.
+fn go_straight<'m>(
+    stack: &mut Stack<'m>,
+    memory: &mut Memory,
+    globals: &mut Globals,
+    instr: &'m Instr,
+    rest: &'m [Instr],
+) -> Result<Did, AllocError>
+    requires kind { IsSimple instr.now }
+    requires standing { (inst : Instance) × (e : Env) × (fr : Frame) × (below : List Frame) × IsAtPlace stack.old memory.old globals.old (before instr.now (code_of rest.now)) inst e fr below }
+    ensures advances { (inst : Instance) (e : Env) (fr : Frame) (below : List Frame) → IsAtPlace stack.old memory.old globals.old (before instr.now (code_of rest.now)) inst e fr below → Advances inst e fr below result stack.old memory.old globals.old stack.new memory.new globals.new }
+    ensures value_room { stack.new.value_room ≡ stack.old.value_room }
+    ensures spot_room { stack.new.spot_room ≡ stack.old.spot_room }
+{
+    match straight(stack, memory, globals, instr)? {
+        None => {
+            stack.go_on(rest);
+            Ok(Did::Went)
+        }
+        Some(trap) => Ok(Did::Trapped(trap)),
+    }
+}
+
+// An instruction that opens a block or branches, with the sequence from it on and the one behind it.
+fn go_control<'m>(
+    stack: &mut Stack<'m>,
+    module: &Module,
+    place: &'m [Instr],
+    instr: &'m Instr,
+    rest: &'m [Instr],
+)
+    requires kind { IsControl instr.now }
+    requires place { code_of place.now ≡ before instr.now (code_of rest.now) }
+    requires standing { (m : Held) × (g : List number) × (inst : Instance) × (e : Env) × (fr : Frame) × (below : List Frame) × (inst.types ≡ «module».now.types) × IsAtPlace stack.old m g (code_of place.now) inst e fr below }
+    ensures advances { (m : Held) (g : List number) (inst : Instance) (e : Env) (fr : Frame) (below : List Frame) → inst.types ≡ «module».now.types → IsAtPlace stack.old m g (code_of place.now) inst e fr below → Went inst e (step inst (configuration e (fr ∷ below))) stack.new m g }
+    ensures value_room { stack.new.value_room ≡ stack.old.value_room }
+    ensures spot_room { stack.new.spot_room ≡ stack.old.spot_room }
+{
+    stack.go_on(rest);
+    control(stack, module, place, instr);
+}
+
+// One instruction, with the sequence from it on and the one behind it.
+fn instruction<'m>(
+    stack: &mut Stack<'m>,
+    memory: &mut Memory,
+    globals: &mut Globals,
+    module: &Module,
+    place: &'m [Instr],
+    instr: &'m Instr,
+    rest: &'m [Instr],
+) -> Result<Did, AllocError>
+    requires place { code_of place.now ≡ before instr.now (code_of rest.now) }
+    requires standing { (inst : Instance) × (e : Env) × (fr : Frame) × (below : List Frame) × (inst.types ≡ «module».now.types) × IsAtPlace stack.old memory.old globals.old (code_of place.now) inst e fr below }
+    ensures advances { (inst : Instance) (e : Env) (fr : Frame) (below : List Frame) → inst.types ≡ «module».now.types → IsAtPlace stack.old memory.old globals.old (code_of place.now) inst e fr below → Advances inst e fr below result stack.old memory.old globals.old stack.new memory.new globals.new }
+    ensures calls { GoesAtNoCall result (code_of place.now) }
+    ensures value_room { stack.new.value_room ≡ stack.old.value_room }
+    ensures spot_room { stack.new.spot_room ≡ stack.old.spot_room }
+{
+    match instr {
+        Instr::Call(_) | Instr::CallIndirect(_) => Ok(Did::Calls),
+        Instr::Block(_, _)
+        | Instr::Loop(_, _)
+        | Instr::If(_, _)
+        | Instr::IfElse(_, _, _)
+        | Instr::Br(_)
+        | Instr::BrIf(_)
+        | Instr::BrTable(_, _)
+        | Instr::Return => {
+            go_control(stack, module, place, instr, rest);
+            Ok(Did::Went)
+        }
+        Instr::Unreachable
+        | Instr::Nop
+        | Instr::Drop
+        | Instr::Select
+        | Instr::LocalGet(_)
+        | Instr::LocalSet(_)
+        | Instr::LocalTee(_)
+        | Instr::GlobalGet(_)
+        | Instr::GlobalSet(_)
+        | Instr::Load(_, _)
+        | Instr::Store(_, _)
+        | Instr::MemorySize
+        | Instr::MemoryGrow
+        | Instr::I32Const(_)
+        | Instr::I64Const(_)
+        | Instr::Num(_) => go_straight(stack, memory, globals, instr, rest),
+    }
+}
+
+/// The next step of the innermost frame where that is no call: an instruction, or the end of a sequence. It takes memory
+/// for `memory.grow` alone, and then an `Err` leaves all as it was. (Standard, 4.4)
+pub fn advance(
+    stack: &mut Stack,
+    memory: &mut Memory,
+    globals: &mut Globals,
+    module: &Module,
+) -> Result<Did, AllocError>
+    requires { (inst : Instance) × (e : Env) × (fr : Frame) × (below : List Frame) × (inst.types ≡ «module».now.types) × IsStanding stack.old memory.old globals.old inst e fr below }
+    ensures advances { (inst : Instance) (e : Env) (fr : Frame) (below : List Frame) → inst.types ≡ «module».now.types → IsStanding stack.old memory.old globals.old inst e fr below → Advances inst e fr below result stack.old memory.old globals.old stack.new memory.new globals.new }
+    ensures calls { GoesAtNoCall result (first_rest stack.old.spots) }
+    ensures value_room { stack.new.value_room ≡ stack.old.value_room }
+    ensures spot_room { stack.new.spot_room ≡ stack.old.spot_room }
+{
+    let place = stack.place();
+    match place {
+        [] => {
+            fall(stack);
+            Ok(Did::Went)
+        }
+        [instr, rest @ ..] => instruction(stack, memory, globals, module, place, instr, rest),
+    }
+}
