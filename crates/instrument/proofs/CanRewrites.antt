@@ -30,7 +30,8 @@ use Rattle.index_remap.specs.Remap.{MapsIndex, MapsPlain, Maps, MapsReference, M
 use Rattle.wasm_sem.proofs.Straight.{none_some, some_is}
 use Rattle.wasm_sem.proofs.Variables.{get_within}
 use Rattle.rewrite.specs.Conditions.{HasNumbers, CanRewrite}
-use Rattle.rewrite.specs.Rewrite.{setting_of, rewritten_body, size_of}
+use Rattle.rewrite.specs.Rewrite.{setting_of, rewritten_body}
+use Rattle.rewrite_size.specs.Sizes.{size_of}
 use Rattle.rewrite.proofs.TypedPlains.{labelled}
 use Rattle.instrument.specs.Output.{hook_remap}
 use Rattle.instrument.proofs.OutputBodies.{site_is}

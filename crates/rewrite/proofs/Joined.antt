@@ -9,7 +9,7 @@ use Rattle.wasm_num.specs.declared.BlockKind.TheVariants as kinds
 use Rattle.module_ast.specs.Tree as tree
 use Rattle.hook_select.specs.declared.GroupName.TheVariants as groups
 use Rattle.hook_mono.specs.declared.HookKey.TheVariants as keys
-use Rattle.rewrite.specs.Temporaries.{plain_temps, open_temps}
+use Rattle.rewrite_needs.specs.Temporaries.{plain_temps, open_temps, code_temps}
 use Rattle.index_remap.specs.Remap.{map_tree}
 use Rattle.index_remap.specs.declared.Remap.{Remap}
 use Rattle.module_ast.specs.Lists.{when}
@@ -34,7 +34,7 @@ use Rattle.i64_split.specs.declared.Pool.{Pool}
 use Rattle.rewrite.specs.Setting.{Setting, remap, constant, tells, tell_end, tell_ends}
 use Rattle.rewrite.specs.Templates.{end_code, tell_results, tell_begin, tell_before, tee_code, target_code}
 use Rattle.rewrite.specs.Rewrite.{live_code, if_taken, br_if_before}
-use Rattle.rewrite.specs.Live.{rest_code, code_temps}
+use Rattle.rewrite.specs.Live.{rest_code}
 use Rattle.rewrite.specs.Emitted as emitted
 use Rattle.rewrite.specs.Emitted.{HasRoom, template_of, IsNoBranchIf}
 use Rattle.module_ast.proofs.Plains.{the_plain, before_plain, onto_append}

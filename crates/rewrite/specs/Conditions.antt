@@ -7,7 +7,7 @@ use Rattle.hook_mono.specs.declared.HookKey.{HookKey}
 use Rattle.hook_mono.specs.Needed.{Site, sites}
 use Rattle.index_remap.specs.Remap.{Maps}
 use Rattle.rewrite.specs.Setting.{Setting, remap}
-use Rattle.rewrite.specs.Temporaries.{pool_of}
+use Rattle.rewrite_needs.specs.Temporaries.{pool_of}
 use Rattle.rewrite.specs.Rewrite.{setting_of}
 
 -- the numbers of the hooks, of the functions that are called, and of the locals with the temporaries fit

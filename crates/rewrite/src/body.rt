@@ -9,7 +9,7 @@ ghost use Rattle.module_ast.specs.Tree.{done};
 ghost use Rattle.branch_resolve.specs.Scopes.{block_of};
 ghost use Rattle.hook_mono.specs.Needed.{sites};
 ghost use Rattle.i64_split.specs.Pushing.{instrs};
-ghost use Rattle.rewrite.specs.Temporaries.{close_temps};
+ghost use Rattle.rewrite_needs.specs.Temporaries.{close_temps};
 ghost use Rattle.rewrite.specs.Rewrite.{entry_code, rewritten_code, rewritten_body, setting_of};
 ghost use Rattle.rewrite.specs.Live.{rest_code};
 ghost use Rattle.rewrite.specs.Emitted.{HasRoom};
@@ -42,7 +42,7 @@ fn function_block(size: u32) -> Block
 }
 
 impl<'m> Setting<'m> {
-    /// Adds the calls of the hooks at the entry of the function.
+    /// Adds the calls of the hooks at the entry of the function. An `Err` comes where there is no memory.
     pub fn push_entry(&self, code: &mut Vec<Instr>) -> Result<(), NoMemory>
         ensures { OnOk result (code.new.items ≡ code.old.items ++ instrs (entry_code self.now)) }
     {

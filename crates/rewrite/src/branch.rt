@@ -9,7 +9,7 @@ ghost use Rattle.hook_select.specs.declared.GroupName.TheVariants as groups;
 ghost use Rattle.hook_select.specs.Groups.{has};
 ghost use Rattle.branch_resolve.specs.Scopes.{blocks_around};
 ghost use Rattle.rewrite.specs.Rewrite.{if_taken, br_if_before};
-ghost use Rattle.rewrite.specs.Temporaries.{plain_temps, watches_br_if};
+ghost use Rattle.rewrite_needs.specs.Temporaries.{plain_temps, watches_br_if};
 ghost use Rattle.rewrite.specs.Emitted.{HasRoom};
 
 use crate::setting::Setting;
@@ -22,7 +22,7 @@ use std::alloc::{AllocError, Global};
 use wasm_num::ValType;
 
 impl<'m> Setting<'m> {
-    // Whether a `br_if` has a template.
+    /// Whether a `br_if` has a template: branches on a condition or ends are selected.
     pub fn watches_br_if(&self) -> bool
         ensures { result ≡ watches_br_if self.now.hooks }
     {
@@ -52,7 +52,7 @@ impl<'m> Setting<'m> {
     }
 
     /// Adds a live `br_if` by its template.
-    pub fn push_br_if(
+    pub(crate) fn push_br_if(
         &self,
         alloc: Global,
         label: u32,

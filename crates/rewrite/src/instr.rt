@@ -15,9 +15,9 @@ ghost use Rattle.rewrite.specs.Setting.{remap, tell, constant};
 ghost use Rattle.i64_split.specs.Split.{words_code};
 ghost use Rattle.module_ast.specs.Lists.{when};
 ghost use Rattle.hook_select.specs.Groups.{has};
-ghost use Rattle.rewrite.specs.Temporaries.{plain_temps};
+ghost use Rattle.rewrite_needs.specs.Temporaries.{plain_temps};
 ghost use Rattle.rewrite.specs.Templates.{template, tell_results, local_code, global_code};
-ghost use Rattle.rewrite.specs.Room.{instr_temps};
+ghost use Rattle.rewrite_needs.specs.Room.{instr_temps};
 ghost use Rattle.rewrite.specs.Emitted.{HasRoom, template_of, block_ends_code, br_code, target_word};
 
 use crate::setting::Setting;
@@ -127,7 +127,7 @@ impl<'m> Setting<'m> {
     }
 
     // The calls of the end hooks of the blocks that a branch to the label leaves.
-    pub fn push_left(
+    pub(crate) fn push_left(
         &self,
         alloc: Global,
         label: u32,
@@ -159,7 +159,8 @@ impl<'m> Setting<'m> {
         self.push_ends(&ends, code)
     }
 
-    // The position that a label leads to.
+    /// Adds the hook call that tells a branch, where its group is selected: its label, the position that the label leads to (0
+    /// where there is no such block), and what these temporaries hold. An `Err` comes where there is no memory.
     pub fn push_branch_tell(
         &self,
         group: GroupName,
@@ -281,7 +282,8 @@ impl<'m> Setting<'m> {
         self.push_global(op, global, position, code)
     }
 
-    /// Adds a live instruction with no sequence in it by its template. A `br_if` is added as it is.
+    /// Adds a live instruction with no sequence in it by its template. A `br_if` is added as it is. An `Err` comes where there
+    /// is no memory.
     #[tactic(auto, using(crate::proofs::Blocks::target_is, crate::proofs::Blocks::left_is, crate::proofs::Blocks::all_is))]
     pub fn push_plain(
         &self,

@@ -12,12 +12,12 @@ ghost use Rattle.i64_split.specs.Pushing.{instrs};
 ghost use Rattle.rewrite.specs.Setting.{remap};
 ghost use Rattle.rewrite.specs.Rewrite.{live_code};
 ghost use Rattle.rewrite.specs.Templates.{tell_begin, tell_before};
-ghost use Rattle.rewrite.specs.Temporaries.{open_temps};
+ghost use Rattle.rewrite_needs.specs.Temporaries.{open_temps, code_temps};
 ghost use Rattle.wasm_num.specs.declared.BlockKind.TheVariants as kinds;
 ghost use Rattle.hook_select.specs.declared.GroupName.TheVariants as groups;
 ghost use Rattle.hook_mono.specs.declared.HookKey.TheVariants as keys;
 ghost use Rattle.branch_resolve.specs.Levels.{block_sizes};
-ghost use Rattle.rewrite.specs.Live.{rest_code, code_temps, BeginsWith, LeavesBehind};
+ghost use Rattle.rewrite.specs.Live.{rest_code, BeginsWith, LeavesBehind};
 ghost use Rattle.rewrite.specs.Emitted.{HasRoom, template_of, IsNoBranchIf};
 
 use crate::along::Along;
@@ -103,7 +103,7 @@ impl<'m> Setting<'m> {
 
     // Adds a live sequence that begins at a position, and answers whether its end is live.
     #[cycle(live)]
-    pub fn push_code(
+    pub(crate) fn push_code(
         &self,
         alloc: Global,
         code: &Code,

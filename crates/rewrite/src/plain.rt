@@ -17,7 +17,7 @@ ghost use Rattle.i64_split.specs.Split.{HasTemps, temps, word_code, words_code};
 ghost use Rattle.i64_split.specs.Pushing.{instrs};
 ghost use Rattle.index_remap.specs.Remap.{MapsIndex};
 ghost use Rattle.rewrite.specs.Setting.{remap, constant, tell};
-ghost use Rattle.rewrite.specs.Temporaries.{plain_temps, wanted_temps};
+ghost use Rattle.rewrite_needs.specs.Temporaries.{plain_temps, wanted_temps};
 ghost use Rattle.rewrite.specs.Templates.{template, tell_values, post_code, call_code, indirect_code};
 ghost use Rattle.rewrite.specs.Emitted.{HasRoom, template_of, indirect_template};
 
@@ -35,7 +35,7 @@ use wasm_num::{NumOp, ValType};
 
 impl<'m> Setting<'m> {
     /// Adds a live load by its template: where it is selected, with the address and the value that it leaves told behind it.
-    pub fn push_load(
+    pub(crate) fn push_load(
         &self,
         op: LoadOp,
         arg: MemArg,
@@ -65,7 +65,7 @@ impl<'m> Setting<'m> {
     }
 
     /// Adds a live store by its template: where it is selected, with the address and the value told behind it.
-    pub fn push_stored(
+    pub(crate) fn push_stored(
         &self,
         op: StoreOp,
         arg: MemArg,
@@ -87,7 +87,7 @@ impl<'m> Setting<'m> {
     }
 
     /// Adds a live number instruction by its template: where it is selected, with operands and result told behind it.
-    pub fn push_num(
+    pub(crate) fn push_num(
         &self,
         op: NumOp,
         position: u32,
@@ -210,7 +210,7 @@ impl<'m> Setting<'m> {
 
     /// Adds a live call by its template: its function is remapped, and where calls are selected, the arguments are told before
     /// it and the results behind it.
-    pub fn push_call_of(
+    pub(crate) fn push_call_of(
         &self,
         alloc: Global,
         func: u32,
@@ -333,7 +333,7 @@ impl<'m> Setting<'m> {
 
     /// Adds a live call through the table by its template: where calls are selected, the slot and the arguments are told
     /// before it and the results behind it.
-    pub fn push_indirect_of(
+    pub(crate) fn push_indirect_of(
         &self,
         alloc: Global,
         ty: u32,

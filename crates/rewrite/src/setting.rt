@@ -3,23 +3,23 @@
 ghost use Rattle.std.specs.Prelude.{◌≡◌, length, slice_get, Some, IfOk};
 ghost use Rattle.hook_select.specs.Groups.{has};
 ghost use Rattle.hook_mono.specs.Needed.{sites};
+ghost use Rattle.rewrite.specs.Setting.{remap};
 ghost use Rattle.rewrite.specs.Rewrite.{setting_of};
 ghost use Rattle.rewrite.specs.Conditions.{CanRewrite, IsReady};
 
-use crate::pool::pool_of;
-use crate::site::Site;
 use code_valid::TypedBody;
 use hook_mono::HookTable;
 use hook_select::{GroupName, Hooks};
 use i64_split::Pool;
 use index_remap::Remap;
+use rewrite_needs::{Site, pool_of};
 use std::alloc::Global;
 use std::marker::Model;
 use wasm_num::NoMemory;
 
 /// What the rewriting of a body reads: the selected groups, the hooks of the module, the function, and its temporaries.
 #[derive(Drop)]
-pub(crate) struct Setting<'m> {
+pub struct Setting<'m> {
     pub(crate) hooks: Hooks,
     pub(crate) table: &'m HookTable,
     pub(crate) remap: Remap,
@@ -43,7 +43,8 @@ impl<'m> Model for Setting<'m> {
 }
 
 impl<'m> Setting<'m> {
-    /// For the function of this body. It takes time in proportion to the body. An `Err` comes where there is no memory.
+    /// For the function of this body, under the conditions of `rewrite_body`. It takes time in proportion to the body. An `Err`
+    /// comes where there is no memory.
     pub fn of(
         alloc: Global,
         body: &TypedBody<'m>,
@@ -66,6 +67,27 @@ impl<'m> Setting<'m> {
             site,
             pool,
         })
+    }
+
+    /// The function as its hooks see it.
+    pub fn site(&self) -> &Site<'m>
+        ensures { result.now ≡ self.now.site }
+    {
+        &self.site
+    }
+
+    /// Its temporaries.
+    pub fn pool(&self) -> Pool
+        ensures { result ≡ self.now.pool }
+    {
+        self.pool
+    }
+
+    /// How the functions that it calls are numbered in the output.
+    pub fn remap(&self) -> Remap
+        ensures { result ≡ remap self.now }
+    {
+        self.remap
     }
 
     /// Whether the group is selected.

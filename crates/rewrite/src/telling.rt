@@ -32,7 +32,11 @@ fn push_constants(code: &mut Vec<Instr>, words: &[u32]) -> Result<(), AllocError
 
 impl<'m> Setting<'m> {
     /// Adds the function and the position.
-    pub fn push_location(&self, position: i32, code: &mut Vec<Instr>) -> Result<(), AllocError>
+    pub(crate) fn push_location(
+        &self,
+        position: i32,
+        code: &mut Vec<Instr>,
+    ) -> Result<(), AllocError>
         ensures { OnOk result (code.new.items ≡ code.old.items ++ instrs (constant self.now.site.func ∷ i32_const position ∷ [])) }
     {
         let func = self.site.func().cast_signed();
@@ -40,7 +44,7 @@ impl<'m> Setting<'m> {
     }
 
     /// Adds the call of a hook.
-    pub fn push_call(&self, key: &HookKey, code: &mut Vec<Instr>) -> Result<(), AllocError>
+    pub(crate) fn push_call(&self, key: &HookKey, code: &mut Vec<Instr>) -> Result<(), AllocError>
         ensures { OnOk result (code.new.items ≡ code.old.items ++ instrs (call (hook_index self.now key.now) ∷ [])) }
     {
         let number = self.table.find(key).unwrap_or(0);
@@ -49,7 +53,7 @@ impl<'m> Setting<'m> {
     }
 
     /// Adds the call of a hook at a position with these constants and the words of these temporaries.
-    pub fn push_tell(
+    pub(crate) fn push_tell(
         &self,
         position: i32,
         key: &HookKey,
@@ -66,7 +70,7 @@ impl<'m> Setting<'m> {
     }
 
     /// Adds the call of the hook of a group that is a key by itself, where the group is selected.
-    pub fn push_plain_tell(
+    pub(crate) fn push_plain_tell(
         &self,
         position: i32,
         group: GroupName,
@@ -80,7 +84,7 @@ impl<'m> Setting<'m> {
         self.push_tell(position, &HookKey::Plain(group), &[], &[], code)
     }
 
-    /// Adds the call of the begin hook of a block, where it is selected.
+    /// Adds the call of the begin hook of a block, where it is selected. An `Err` comes where there is no memory.
     pub fn push_begin(
         &self,
         position: i32,
@@ -95,7 +99,7 @@ impl<'m> Setting<'m> {
         self.push_tell(position, &HookKey::Begin(kind), &[], &[], code)
     }
 
-    /// Adds the call of the end hook of a block, where it is selected.
+    /// Adds the call of the end hook of a block, where it is selected. An `Err` comes where there is no memory.
     pub fn push_end(&self, block: EndOf, code: &mut Vec<Instr>) -> Result<(), AllocError>
         ensures { OnOk result (code.new.items ≡ code.old.items ++ instrs (block_end_code self.now block)) }
     {
@@ -107,7 +111,7 @@ impl<'m> Setting<'m> {
         self.push_call(&HookKey::End(block.kind), code)
     }
 
-    /// Adds the calls of the end hooks of these blocks, where they are selected.
+    /// Adds the calls of the end hooks of these blocks, where they are selected. An `Err` comes where there is no memory.
     pub fn push_ends(&self, blocks: &[EndOf], code: &mut Vec<Instr>) -> Result<(), AllocError>
         ensures { OnOk result (code.new.items ≡ code.old.items ++ instrs (block_ends_code self.now blocks.now)) }
     {

@@ -8,7 +8,7 @@ ghost use Rattle.hook_mono.specs.declared.HookKey.TheVariants as keys;
 ghost use Rattle.i64_split.specs.Split.{temps, words_code, words_by, HasTemps};
 ghost use Rattle.i64_split.specs.Pushing.{instrs};
 ghost use Rattle.rewrite.specs.Setting.{constant, tell};
-ghost use Rattle.rewrite.specs.Temporaries.{wanted_temps};
+ghost use Rattle.rewrite_needs.specs.Temporaries.{wanted_temps};
 ghost use Rattle.rewrite.specs.Templates.{tee_code, tell_values, tell_results, local_code, global_code};
 ghost use Rattle.rewrite.specs.Emitted.{HasRoom};
 
@@ -32,7 +32,7 @@ pub(crate) fn list(alloc: Global, types: &[ValType]) -> Result<Seq<ValType>, All
 impl<'m> Setting<'m> {
     /// Adds the code that keeps operands of these types in temporaries, and the hook call that tells them behind these
     /// constants.
-    pub fn push_saved(
+    pub(crate) fn push_saved(
         &self,
         alloc: Global,
         position: i32,
@@ -49,7 +49,8 @@ impl<'m> Setting<'m> {
         self.push_tell(position, key, first, &temps, code)
     }
 
-    /// Adds the hook call that tells the condition or index on top, which stays, where `wanted`.
+    /// Adds the hook call that tells the condition or index on top, which stays, where `wanted`. An `Err` comes where there is
+    /// no memory.
     pub fn push_tell_before(
         &self,
         position: i32,
@@ -68,7 +69,7 @@ impl<'m> Setting<'m> {
         self.push_tell(position, &HookKey::Plain(group), &[], &temps, code)
     }
 
-    /// Adds the hook call that tells the function's results, where it is selected.
+    /// Adds the hook call that tells the function's results, where it is selected. An `Err` comes where there is no memory.
     pub fn push_results(
         &self,
         alloc: Global,
@@ -87,7 +88,7 @@ impl<'m> Setting<'m> {
     }
 
     /// Adds the hook call that tells the value of a local which was read or written, where it is selected.
-    pub fn push_local(
+    pub(crate) fn push_local(
         &self,
         op: VarOp,
         local: u32,
@@ -112,7 +113,7 @@ impl<'m> Setting<'m> {
     }
 
     /// Adds the hook call that tells the value of a global which was read or written, where it is selected.
-    pub fn push_global(
+    pub(crate) fn push_global(
         &self,
         op: VarOp,
         global: u32,
@@ -133,8 +134,9 @@ impl<'m> Setting<'m> {
     }
 }
 
-// The top operand stays, and is in the temporary too.
-pub(crate) fn push_tee(temps: &[Temp], code: &mut Vec<Instr>) -> Result<(), AllocError>
+/// Adds the code that leaves the top operand where it stands, and in the temporary too: a `local.tee` of one temporary, and
+/// nothing of none or of several. An `Err` comes where there is no memory.
+pub fn push_tee(temps: &[Temp], code: &mut Vec<Instr>) -> Result<(), AllocError>
     ensures { OnOk result (code.new.items ≡ code.old.items ++ instrs (tee_code temps.now)) }
 {
     match temps {

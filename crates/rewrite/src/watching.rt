@@ -137,7 +137,7 @@ fn are_same(a: ValType, b: ValType) -> u32
 }
 
 impl<'m> Setting<'m> {
-    /// A temporary of this type.
+    /// The first temporary of this type.
     pub fn one_temp(&self, ty: ValType) -> [Temp; 1]
         requires { HasTemps self.now.pool 0 (ty ∷ []) }
         ensures { result ≡ temps self.now.pool (ty ∷ []) }
@@ -149,7 +149,7 @@ impl<'m> Setting<'m> {
     }
 
     /// Temporaries of these types, at once.
-    pub fn two_temps(&self, a: ValType, b: ValType) -> [Temp; 2]
+    pub(crate) fn two_temps(&self, a: ValType, b: ValType) -> [Temp; 2]
         requires { HasTemps self.now.pool 0 (a ∷ b ∷ []) }
         ensures { result ≡ temps self.now.pool (a ∷ b ∷ []) }
     {
@@ -165,7 +165,7 @@ impl<'m> Setting<'m> {
     }
 
     /// Temporaries of these types, at once.
-    pub fn three_temps(&self, a: ValType, b: ValType, c: ValType) -> [Temp; 3]
+    pub(crate) fn three_temps(&self, a: ValType, b: ValType, c: ValType) -> [Temp; 3]
         requires { HasTemps self.now.pool 0 (a ∷ b ∷ c ∷ []) }
         ensures { result ≡ temps self.now.pool (a ∷ b ∷ c ∷ []) }
     {
@@ -186,7 +186,7 @@ impl<'m> Setting<'m> {
 
     /// Adds an instruction that leaves what it takes and gives in these temporaries, and the hook call that tells them
     /// behind these constants.
-    pub fn push_watched(
+    pub(crate) fn push_watched(
         &self,
         position: i32,
         key: &HookKey,

@@ -13,9 +13,8 @@ use Rattle.index_remap.proofs.Along.{maps_parts}
 use Rattle.rewrite.specs.Setting.{remap}
 use Rattle.module_ast.specs.Plains.{plains}
 use Rattle.rewrite.specs.Templates.{tell_begin}
-use Rattle.rewrite.specs.Temporaries.{open_temps}
+use Rattle.rewrite_needs.specs.Temporaries.{open_temps, code_temps}
 use Rattle.rewrite.specs.Rewrite.{live_code}
-use Rattle.rewrite.specs.Live.{code_temps}
 use Rattle.rewrite.specs.Emitted.{HasRoom}
 use Rattle.rewrite.proofs.Joined.{remap_is, so_far_live, so_far_dead, room_before, ends_before, ends_dead, block_added, loop_added, then_added, both_added, both_room}
 use Rattle.rewrite.proofs.setting.Setting.+live.Goals as goal

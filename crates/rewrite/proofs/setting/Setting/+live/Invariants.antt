@@ -8,7 +8,8 @@ use Rattle.branch_resolve.specs.Scopes.{blocks_around}
 use Rattle.index_remap.specs.Remap.{Maps}
 use Rattle.rewrite.specs.Setting.{remap}
 use Rattle.rewrite.specs.Rewrite.{live_code}
-use Rattle.rewrite.specs.Live.{rest_code, code_temps}
+use Rattle.rewrite.specs.Live.{rest_code}
+use Rattle.rewrite_needs.specs.Temporaries.{code_temps}
 use Rattle.rewrite.specs.Emitted.{HasRoom}
 use Rattle.rewrite.proofs.setting.Setting.+live.Given as goal
 

@@ -7,7 +7,7 @@ use Rattle.module_ast.specs.Seen.{onto}
 use Rattle.module_ast.specs.Tree.{done}
 use Rattle.i64_split.specs.Pushing.{instrs}
 use Rattle.rewrite.specs.Templates.{tell_results}
-use Rattle.rewrite.specs.Temporaries.{close_temps}
+use Rattle.rewrite_needs.specs.Temporaries.{close_temps}
 use Rattle.rewrite.specs.Live.{rest_code}
 use Rattle.rewrite.specs.Emitted.{HasRoom, block_end_code}
 use Rattle.rewrite.proofs.Joined.{closed_function}

@@ -4,10 +4,9 @@ use Rattle.module_ast.specs.declared.module.Body.{Body}
 use Rattle.module_ast.specs.Lists.{when}
 use Rattle.module_ast.specs.Positions.{ends_live}
 use Rattle.rewrite.specs.Setting.{Setting}
-use Rattle.rewrite.specs.Temporaries.{close_temps}
-use Rattle.rewrite.specs.Live.{code_temps}
+use Rattle.rewrite_needs.specs.Temporaries.{close_temps, code_temps}
 use Rattle.rewrite.specs.Emitted.{HasRoom}
-use Rattle.rewrite.proofs.TempsPlaced.{ready_room}
+use Rattle.rewrite.proofs.ReadyRoom.{ready_room}
 use Rattle.rewrite.proofs.setting.Setting.rewritten_code.Goals as goal
 
 pub push_code-requires-clause-room : goal.push_code-requires-clause-room

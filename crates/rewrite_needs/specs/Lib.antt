@@ -1,0 +1,4 @@
+pub mod Temporaries
+pub mod Rising
+pub mod Needing
+pub mod Room

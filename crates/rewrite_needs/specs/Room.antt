@@ -1,0 +1,62 @@
+-- How many temporaries of each type the templates of a body need at most, place by place.
+use Rattle.std.specs.Prelude.{ℕ, ◌+◌, List, [], ◌∷◌, Bool, Option, None, Some, fold, max}
+use Rattle.wasm_num.specs.declared.ValType.{ValType}
+use Rattle.wasm_num.specs.declared.ValType.TheVariants.{I32, I64}
+use Rattle.module_ast.specs.declared.code.Instr.{Instr}
+use Rattle.module_ast.specs.Lists.{when}
+use Rattle.module_ast.specs.Plains.{plain_of}
+use Rattle.module_ast.specs.Positions.{code_size, ends_live}
+use Rattle.module_ast.specs.Tree.{Tree, Plain}
+use Rattle.hook_select.specs.declared.Hooks.{Hooks}
+use Rattle.hook_mono.specs.Needed.{Site}
+use Rattle.i64_split.specs.Split.{ints_in, longs_in}
+use Rattle.rewrite_needs.specs.Temporaries.{plain_temps, code_temps}
+use Rattle.rewrite_needs.specs.declared.pool.Measured.{Measured}
+use Rattle.rewrite_needs.specs.declared.pool.Room.{Room}
+
+-- for these at once
+abbrev pub room_for : List ValType → Room
+room_for types = record { ints = ints_in types; longs = longs_in types }
+
+-- with one more
+abbrev pub with_one : Room → ValType → Room
+with_one r I32 = record r { ints = r.ints + 1 }
+with_one r I64 = record r { longs = r.longs + 1 }
+
+-- enough for both
+abbrev pub wider : Room → Room → Room
+wider r more = record { ints = max r.ints more.ints; longs = max r.longs more.longs }
+
+-- enough for each of these
+abbrev pub widened : Room → List (List ValType) → Room
+widened r lists = fold (λ r types. wider r (room_for types)) r lists
+
+abbrev pub no_room : Room
+no_room = record { ints = 0; longs = 0 }
+
+-- where they are wanted
+abbrev pub widened_where : Bool → Room → List ValType → Room
+widened_where wanted r types = widened r (when wanted (types ∷ []))
+
+-- ---- a place
+
+abbrev pub plain_temps_of : Hooks → Site → (p : ℕ) → Option Plain → List (List ValType)
+plain_temps_of hooks s p None = []
+plain_temps_of hooks s p (Some i) = plain_temps hooks s p i
+
+abbrev pub instr_temps : Hooks → Site → (p : ℕ) → Instr → List (List ValType)
+instr_temps hooks s p i = plain_temps_of hooks s p (plain_of i)
+
+-- ---- a body gone over from a place on
+
+-- behind a sequence: enough for its templates too, where it is live
+abbrev pub behind_code : Hooks → Site → Tree → Measured → Measured
+behind_code hooks s k m = record {
+  room = widened m.room (when m.live (code_temps hooks s m.position k));
+  live = ends_live m.live k;
+  position = m.position + code_size k;
+}
+
+-- behind the end of a part
+abbrev pub behind_part : Hooks → Site → Tree → Measured → Measured
+behind_part hooks s k m = record { room = (behind_code hooks s k m).room; live = m.live; position = m.position + code_size k + 1 }

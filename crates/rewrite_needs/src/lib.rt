@@ -1,0 +1,12 @@
+// What a body's hooks need: their keys, and the temporaries that their arguments are kept in.
+#![tactic(auto)]
+
+mod needs;
+mod pool;
+mod site;
+mod wanted;
+
+pub use needs::needs_of;
+pub use pool::pool_of;
+pub use site::Site;
+pub use wanted::num_group;

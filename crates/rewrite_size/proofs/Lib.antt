@@ -1,0 +1,11 @@
+mod SizedCode
+mod SizedMost
+mod SizedPlaces
+mod Linked
+mod EndSums
+mod Stacked
+mod Emitting
+mod KeptBytes
+mod BranchBytes
+mod Counting
+mod Sizable
