@@ -5,7 +5,7 @@ use Rattle.std.specs.declared.cmp.Ordering.{Ordering}
 use Rattle.module_ast.specs.declared.module.Loc.{Loc}
 use Rattle.module_ast.specs.declared.ops.LoadOp.{LoadOp}
 use Rattle.module_ast.specs.declared.ops.StoreOp.{StoreOp}
-use Rattle.module_ast.specs.Opcodes.{load_opcode, store_opcode}
+use Rattle.module_ast.specs.Binary.{load_opcode, store_opcode}
 use Rattle.hook_select.specs.declared.Event.{Event}
 use Rattle.hook_select.specs.declared.Event.TheVariants.{If, Br, BrIf, BrTable, Begin, Load, Store, CallPre, IndirectPre}
 use Rattle.wasm_num.specs.Kinds.{kind_number}

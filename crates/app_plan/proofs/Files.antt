@@ -1,13 +1,10 @@
 -- The bytes of a file are of one kind alone.
 use Rattle.std.proofs.Common.{◌≡◌, ℕ, inl, inr, List, [], ◌∷◌, sym, subst, arith, true, false}
-use Rattle.module_ast.specs.declared.module.Module.{Module}
-use Rattle.module_ast.specs.Grammar.{IsFault}
-use Rattle.module_ast.specs.Decoding.{Gram}
-use Rattle.module_ast.specs.Profile.{tree_of, section_floats, bound_of, limited_counts, AreWithin, IsFirstAbove}
+use Rattle.wasm_sem.specs.Types.{Module, Limits}
+use Rattle.module_ast.specs.Binary.{IsFault, Gram, tree_of, section_floats, bound_of, limited_counts, AreWithin, IsFirstAbove}
 use Rattle.module_ast.proofs.ModuleTrees.{modules_unique, modules_plain}
 use Rattle.code_decode.proofs.Modules.{trees_one, faults_have_no_tree}
-use Rattle.module_ast.specs.declared.module.Limits.{Limits}
-use Rattle.module_ast.specs.Validity.{IsValid, IsFirstBroken, IsFirstInvalid, Rule}
+use Rattle.module_ast.specs.Validation.{IsValid, IsFirstBroken, IsFirstInvalid, Rule}
 use Rattle.app_plan.specs.Files.{IsFit, IsNoModule, IsUnfit, IsInvalid}
 
 -- bytes with a fault are no module

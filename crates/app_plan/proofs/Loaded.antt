@@ -1,9 +1,8 @@
 -- What was read from bytes, or why it was not.
 use Rattle.std.proofs.Common.{◌≡◌, ◌⊎◌, inl, inr, ℕ, List, sym, subst, Option, Result, Ok, Err, IfOk}
 use Rattle.outside_io.specs.Outside.{Contents}
-use Rattle.module_ast.specs.declared.module.Limits.{Limits}
-use Rattle.module_ast.specs.declared.module.Module.{Module}
-use Rattle.module_ast.specs.Validity.{IsValid}
+use Rattle.wasm_sem.specs.Types.{Limits, Module}
+use Rattle.module_ast.specs.Validation.{IsValid}
 use Rattle.app_plan.specs.Files.{IsFit}
 use Rattle.app_plan.specs.Printing.{ShelfState}
 use Rattle.app_plan.specs.declared.told.Refusal.{Refusal}

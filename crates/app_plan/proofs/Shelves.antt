@@ -1,7 +1,7 @@
 -- Files that were written, or could not be.
 use Rattle.std.proofs.Common.{◌≡◌, ◌≢◌, ℕ, ◌≤◌, ◌⊎◌, inl, inr, List, [], ◌∷◌, refl, sym, ◌∙◌, arith, append-nil, ap₂, cond, fold, Option, Some, None}
 use Rattle.outside_io.specs.Outside.{Contents, Rose, Wrote, WrotePart}
-use Rattle.hook_select.specs.declared.Event.{Event}
+use Rattle.wasm_sem.specs.Types.{Event}
 use Rattle.analyses.specs.declared.Kind.{Kind}
 use Rattle.analyses.specs.declared.Kind.TheVariants.{Blocks, Branches, Calls, Memory}
 use Rattle.analyses.specs.Tools.{ToolState, state_after}

@@ -1,8 +1,7 @@
 -- Bytes are one thing alone: what they must be, or nothing of the kind, for one status.
 use Rattle.std.proofs.Common.{◌≡◌, ◌∙◌, ℕ, ◌⊎◌, inl, inr, List, Bool, true, false, length, refl, sym, ap₂, subst}
-use Rattle.module_ast.specs.declared.module.Limits.{Limits}
-use Rattle.module_ast.specs.declared.module.Module.{Module}
-use Rattle.module_ast.specs.Spaces.{funcs_of}
+use Rattle.wasm_sem.specs.Types.{Limits, Module}
+use Rattle.module_ast.specs.Structure.{funcs_of}
 use Rattle.name_map.specs.declared.Names.{Names}
 use Rattle.name_map.specs.Sections.{AreNames}
 use Rattle.name_map.proofs.OneNames.{names_are_one}

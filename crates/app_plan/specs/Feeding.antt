@@ -1,7 +1,7 @@
 -- Events that analyses take.
 use Rattle.std.specs.Prelude.{◌≡◌, List, ◌++◌, map, fold, cond}
 use Rattle.std.specs.List.{AllZip}
-use Rattle.hook_select.specs.declared.Event.{Event}
+use Rattle.wasm_sem.specs.Types.{Event}
 use Rattle.analyses.specs.Tools.{ToolState, fresh_tool, state_after}
 use Rattle.app_plan.specs.declared.kinds.Kinds.{Kinds}
 use Rattle.app_plan.specs.Kinds.{every_kind, has_kind}

@@ -1,14 +1,10 @@
 -- What the bytes of a subject are: no module, one that is unfit, an invalid or a valid one. And those of a script.
 use Rattle.std.specs.Prelude.{◌≡◌, ℕ, ◌⊎◌, List, Ok}
 use Rattle.serde_json.specs.Data.{Data}
-use Rattle.module_ast.specs.declared.module.Limits.{Limits}
-use Rattle.module_ast.specs.declared.module.Module.{Module}
-use Rattle.module_ast.specs.declared.module.Which.{Which}
-use Rattle.module_ast.specs.Grammar as grammar
-use Rattle.module_ast.specs.Grammar.{IsModule}
-use Rattle.module_ast.specs.Decoding.{Gram, FileFloats, FileExceeds}
-use Rattle.module_ast.specs.Profile.{IsWithin}
-use Rattle.module_ast.specs.Validity.{IsValid}
+use Rattle.wasm_sem.specs.Types.{Limits, Module, Which}
+use Rattle.module_ast.specs.Binary.Grammar as grammar
+use Rattle.module_ast.specs.Binary.{IsModule, Gram, FileFloats, FileExceeds, IsWithin}
+use Rattle.module_ast.specs.Validation.{IsValid}
 use Rattle.json_form.specs.Text.{IsText}
 use Rattle.wasm_sem.specs.declared.Script.{Script}
 use Rattle.run_session.specs.Script.{script_form}

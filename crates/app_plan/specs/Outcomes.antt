@@ -7,8 +7,7 @@ use Rattle.app_plan.specs.declared.told.Printed.{Printed}
 use Rattle.app_plan.specs.declared.told.Refusal.{Refusal}
 use Rattle.app_plan.specs.declared.told.Refusal.TheVariants.{Line, NoMemory}
 use Rattle.app_plan.specs.Plans.{finish_status, Effect, Plan}
-use Rattle.module_ast.specs.declared.module.Limits.{Limits}
-use Rattle.module_ast.specs.declared.module.Module.{Module}
+use Rattle.wasm_sem.specs.Types.{Limits, Module}
 use Rattle.app_plan.specs.Wants.{RefutesFile, RefutesScript, RefutesInfo, RefutesTrace, Read, ReadCause}
 use Rattle.app_plan.specs.Ends.{Cause, IsMade}
 

@@ -1,7 +1,7 @@
 -- What a command does, in order: it reads, one name after the other, and then it refuses or takes effect.
 use Rattle.std.specs.Prelude.{◌≡◌, ℕ, ◌⊎◌, List, [], Option, Some, None}
 use Rattle.outside_io.specs.Outside.{Contents}
-use Rattle.hook_select.specs.declared.Event.{Event}
+use Rattle.wasm_sem.specs.Types.{Event}
 use Rattle.app_plan.specs.declared.kinds.Kinds.{Kinds}
 use Rattle.app_plan.specs.Kinds.{no_kinds}
 use Rattle.app_plan.specs.Wants.{Value, Read, Gives}

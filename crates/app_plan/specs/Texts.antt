@@ -1,8 +1,7 @@
 -- The lines of the refusals of any command.
 use Rattle.std.specs.Prelude.{ℕ, List, [], ◌∷◌, ◌++◌, codes, decimal}
 use Rattle.std.specs.Fmt.{signed_decimal}
-use Rattle.module_ast.specs.declared.module.Loc.{Loc}
-use Rattle.module_ast.specs.declared.module.Which.{Which}
+use Rattle.wasm_sem.specs.Types.{Loc, Which}
 use Rattle.module_ast.specs.declared.module.Which.TheVariants.{Functions, Types, Parameters, Locals, Nesting}
 
 -- pieces of text, one after the other

@@ -2,14 +2,10 @@
 use Rattle.std.specs.Prelude.{◌≡◌, ℕ, ◌≤◌, List, length, Bool, true, false, Option, Err}
 use Rattle.outside_io.specs.Outside.{Contents, Holds, Rose, IsMissing, IsTooLong}
 use Rattle.serde_json.specs.Data.{Data}
-use Rattle.module_ast.specs.declared.module.Limits.{Limits}
-use Rattle.module_ast.specs.declared.module.Module.{Module}
-use Rattle.module_ast.specs.declared.module.Which.{Which}
-use Rattle.module_ast.specs.Grammar.{IsFault}
-use Rattle.module_ast.specs.Decoding.{FileFloats, FileExceeds}
-use Rattle.module_ast.specs.Spaces.{funcs_of}
-use Rattle.module_ast.specs.Validity.{Rule, number_of, IsValid, IsFirstBroken, IsFirstInvalid}
-use Rattle.hook_select.specs.declared.Event.{Event}
+use Rattle.wasm_sem.specs.Types.{Limits, Module, Which, Event}
+use Rattle.module_ast.specs.Binary.{IsFault, FileFloats, FileExceeds}
+use Rattle.module_ast.specs.Structure.{funcs_of}
+use Rattle.module_ast.specs.Validation.{Rule, number_of, IsValid, IsFirstBroken, IsFirstInvalid}
 use Rattle.name_map.specs.declared.Names.{Names}
 use Rattle.name_map.specs.Names.{no_names}
 use Rattle.name_map.specs.Sections.{AreNames}

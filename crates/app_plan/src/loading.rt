@@ -2,15 +2,15 @@
 
 ghost use Rattle.std.specs.Prelude.{◌≡◌, ◌^◌, ◌<◌, ◌≤◌, List, IfOk, IfErr, OnOk, length, string_bytes};
 ghost use Rattle.outside_io.specs.Outside.{Unchanged};
-ghost use Rattle.module_ast.specs.Decoding.{Gram};
-ghost use Rattle.module_ast.specs.Spaces.{funcs_of};
-ghost use Rattle.module_ast.specs.Validity.{IsValid};
+ghost use Rattle.module_ast.specs.Binary.{Gram};
+ghost use Rattle.module_ast.specs.Structure.{funcs_of};
+ghost use Rattle.module_ast.specs.Validation.{IsValid};
 ghost use Rattle.static_info.specs.Belongs.{Belongs};
 ghost use Rattle.static_info.specs.Form.{IsWellFormed};
 ghost use Rattle.static_info.specs.Json.{HoldInfo};
-ghost use Rattle.hook_select.specs.declared.Event.{Event};
+ghost use Rattle.wasm_sem.specs.Types.{Event};
 ghost use Rattle.trace_file.specs.Files.{IsNoTrace, IsTrace};
-ghost use Rattle.wasm_sem.specs.Link.{IsScriptInRange};
+ghost use Rattle.wasm_sem.specs.Execution.{IsScriptInRange};
 ghost use Rattle.app_plan.specs.Files.{IsFit, IsScript, wide_file};
 ghost use Rattle.app_plan.specs.Printing.{shelf_state};
 ghost use Rattle.app_plan.specs.Texts.{body_text, floats_text, limit_text, malformed_text, missing_text, not_json_text, not_trace_text, rule_text, too_long_text, unread_text, which_name, wrong_script_text};

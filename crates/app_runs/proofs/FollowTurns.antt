@@ -1,20 +1,14 @@
 -- What the turns of a session tell a shadow, one after another.
 use Rattle.std.proofs.Common.{◌≡◌, ℕ, ◌+◌, ◌-◌, ◌≤◌, inl, inr, List, [], ◌∷◌, ◌++◌, map, Option, Some, None, Ok, false, nat_eq, refl, sym, ap, ap₂, subst, ◌∙◌, arith, add-one, append_assoc, append-nil}
-use Rattle.module_ast.specs.declared.module.Module.{Module}
+use Rattle.wasm_sem.specs.Types.{Module, Event, GroupName}
 use Rattle.module_ast.specs.Lists.{when}
-use Rattle.hook_select.specs.declared.Event.{Event}
-use Rattle.hook_select.specs.declared.GroupName.{GroupName}
 use Rattle.hook_select.specs.Events.{group_of}
 use Rattle.wasm_sem.specs.declared.HookCall.{HookCall}
 use Rattle.wasm_sem.specs.declared.Script.{Script}
 use Rattle.wasm_sem.specs.declared.Turn.{Turn}
 use Rattle.wasm_sem.specs.declared.Turn.TheVariants.{Ran, Hook, Over}
-use Rattle.wasm_sem.specs.Answers.{hook_in}
-use Rattle.wasm_sem.specs.Events.{TraceItem, entry, host_call, event, hook_call}
+use Rattle.wasm_sem.specs.Execution.{hook_in, TraceItem, entry, host_call, event, hook_call, instance, is_over, opening_configuration, run_of, has_group, items, trace, trace_of}
 use Rattle.wasm_sem.specs.Laws.{slots_in}
-use Rattle.wasm_sem.specs.Link.{instance}
-use Rattle.wasm_sem.specs.Machine.{is_over, opening_configuration, run_of}
-use Rattle.wasm_sem.specs.Trace.{has_group, items, trace, trace_of}
 use Rattle.wasm_sem.proofs.Ended.{shows_no_more}
 use Rattle.wasm_sem.proofs.Runs.{trace_add}
 use Rattle.wasm_run.specs.declared.note.Entry.{Entry}

@@ -1,11 +1,10 @@
 -- Items that a shadow takes, one list after another.
 use Rattle.std.proofs.Common.{◌≡◌, ℕ, suc, ◌+◌, ◌<◌, ◌≤◌, List, [], ◌∷◌, ◌++◌, length, map, take, drop, get_or, Option, Some, None, unwrap_or, refl, sym, ap, subst, ◌∙◌, append_assoc, append-nil, drop-cons, take-append-drop, take_all}
 use Rattle.std.proofs.lemmas.List.{map-append, take_more}
-use Rattle.module_ast.specs.declared.module.Module.{Module}
-use Rattle.hook_select.specs.declared.Event.{Event}
+use Rattle.wasm_sem.specs.Types.{Module, Event}
 use Rattle.index_remap.specs.Remap.{unmap_index}
 use Rattle.wasm_sem.specs.declared.HostWrite.{HostWrite}
-use Rattle.wasm_sem.specs.Events.{TraceItem, entry, host_call, event}
+use Rattle.wasm_sem.specs.Execution.{TraceItem, entry, host_call, event}
 use Rattle.wasm_run.specs.declared.note.Entry.{Entry}
 use Rattle.wasm_run.specs.declared.note.HostNote.{HostNote}
 use Rattle.wasm_run.specs.Noting.{entry_items, host_items}

@@ -1,10 +1,9 @@
 -- Which ends of items close no begin, or not the latest.
 use Rattle.std.proofs.Common.{◌≡◌, List, [], ◌∷◌, ◌++◌, Option, Some, None, option_map, unwrap_or, refl, sym, ap, ◌∙◌}
 use Rattle.std.proofs.lemmas.Option.{none-some, same_Some}
-use Rattle.module_ast.specs.declared.module.Loc.{Loc}
-use Rattle.hook_select.specs.declared.Event.{Event}
+use Rattle.wasm_sem.specs.Types.{Loc, Event}
 use Rattle.hook_select.specs.declared.Event.TheVariants as events
-use Rattle.wasm_sem.specs.Events.{TraceItem, entry, host_call, event, hook_call}
+use Rattle.wasm_sem.specs.Execution.{TraceItem, entry, host_call, event, hook_call}
 use Rattle.wasm_sem.specs.Nests.{Bracket}
 use Rattle.call_tree.specs.declared.tree.TreeFault.{TreeFault}
 use Rattle.call_tree.specs.declared.tree.TreeFault.TheVariants as faults

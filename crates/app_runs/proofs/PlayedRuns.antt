@@ -1,16 +1,12 @@
 -- A run that is fed to the analyses, from its opening to its end.
 use Rattle.std.proofs.Common.{◌≡◌, ℕ, zero, suc, ◌*◌, ◌^◌, ◌≤◌, List, ◌++◌, length, Option, Some, None, All, sym, ap, subst, ◌∙◌, arith, add-one, length-append}
-use Rattle.module_ast.specs.declared.module.Module.{Module}
+use Rattle.wasm_sem.specs.Types.{Module}
 use Rattle.wasm_sem.specs.declared.HookCall.{HookCall}
 use Rattle.wasm_sem.specs.declared.Script.{Script}
 use Rattle.wasm_sem.specs.declared.Turn.{Turn}
 use Rattle.wasm_sem.specs.declared.Turn.TheVariants.{Hook, Over}
-use Rattle.wasm_sem.specs.Answers.{hook_in}
-use Rattle.wasm_sem.specs.Events.{events_in}
+use Rattle.wasm_sem.specs.Execution.{hook_in, events_in, instance, IsScriptInRange, run_of, items, trace_of}
 use Rattle.wasm_sem.specs.Laws.{slots_in}
-use Rattle.wasm_sem.specs.Link.{instance, IsScriptInRange}
-use Rattle.wasm_sem.specs.Machine.{run_of}
-use Rattle.wasm_sem.specs.Trace.{items, trace_of}
 use Rattle.wasm_run.specs.Running.{Run, configuration_of}
 use Rattle.wasm_run.specs.Turns.{after_turn}
 use Rattle.run_session.specs.Sessions.{session_turn}

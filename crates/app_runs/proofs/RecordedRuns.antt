@@ -1,7 +1,7 @@
 -- The events of turns, and the trace that holds them.
 use Rattle.std.proofs.Common.{◌≡◌, ℕ, ◌+◌, ◌<◌, ◌≤◌, List, [], ◌∷◌, ◌++◌, length, get_or, take, drop, Option, refl, sym, ap, ◌∙◌, subst, append_assoc, append-nil}
 use Rattle.std.proofs.lemmas.List.{take_more, drop_more, take-append-drop}
-use Rattle.hook_select.specs.declared.Event.{Event}
+use Rattle.wasm_sem.specs.Types.{Event}
 use Rattle.wasm_sem.specs.declared.HookCall.{HookCall}
 use Rattle.wasm_sem.specs.declared.Turn.{Turn}
 use Rattle.wasm_sem.specs.declared.Turn.TheVariants.{Ran, Hook, Over}

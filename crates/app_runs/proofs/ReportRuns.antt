@@ -1,16 +1,11 @@
 -- What the steps of a session have told, and what is told at the end.
 use Rattle.std.proofs.Common.{◌≡◌, ℕ, zero, suc, ◌+◌, ◌-◌, ◌≤◌, List, [], ◌++◌, Option, Bool, true, false, cond, nat_eq, refl, sym, ap, subst, ◌∙◌, arith, append-nil, append_assoc}
-use Rattle.module_ast.specs.declared.module.Module.{Module}
-use Rattle.hook_select.specs.declared.Event.{Event}
+use Rattle.wasm_sem.specs.Types.{Module, Event}
 use Rattle.wasm_sem.specs.declared.Script.{Script}
 use Rattle.wasm_sem.specs.declared.Turn.{Turn}
 use Rattle.wasm_sem.specs.declared.Turn.TheVariants.{Ran, Hook, Over}
-use Rattle.wasm_sem.specs.Answers.{hook_in}
-use Rattle.wasm_sem.specs.Events.{events_in}
+use Rattle.wasm_sem.specs.Execution.{hook_in, events_in, instance, run_of, items, trace_of}
 use Rattle.wasm_sem.specs.Laws.{slots_in}
-use Rattle.wasm_sem.specs.Link.{instance}
-use Rattle.wasm_sem.specs.Machine.{run_of}
-use Rattle.wasm_sem.specs.Trace.{items, trace_of}
 use Rattle.wasm_run.specs.Running.{Run, configuration_of, one_more}
 use Rattle.wasm_run.specs.Turns.{next_turn, after_turn}
 use Rattle.run_session.specs.Sessions.{session_turn}

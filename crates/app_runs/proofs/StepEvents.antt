@@ -1,16 +1,10 @@
 -- What is read of the hook calls of a run, step by step.
 use Rattle.std.proofs.Common.{◌≡◌, ℕ, ◌+◌, List, [], ◌∷◌, ◌++◌, map, Option, Some, None, Bool, true, false, refl, sym, ap, ◌∙◌, append-nil}
-use Rattle.wasm_num.specs.declared.Value.{Value}
-use Rattle.module_ast.specs.declared.module.Module.{Module}
-use Rattle.hook_select.specs.declared.Event.{Event}
+use Rattle.wasm_sem.specs.Types.{Value, Module, Event}
 use Rattle.wasm_sem.specs.declared.HookCall.{HookCall}
 use Rattle.wasm_sem.specs.declared.Script.{Script}
-use Rattle.wasm_sem.specs.Answers.{hook_in}
-use Rattle.wasm_sem.specs.Events.{TraceItem, entry, host_call, event, hook_call, events_in, shown_items}
+use Rattle.wasm_sem.specs.Execution.{hook_in, TraceItem, entry, host_call, event, hook_call, events_in, shown_items, Callee, Instance, instance, Frame, Env, Next, Configuration, configuration, opening_configuration, run_of, told_items, items_by, items, trace_of}
 use Rattle.wasm_sem.specs.Laws.{slots_in}
-use Rattle.wasm_sem.specs.Link.{Callee, Instance, instance}
-use Rattle.wasm_sem.specs.Machine.{Frame, Env, Next, Configuration, configuration, opening_configuration, run_of}
-use Rattle.wasm_sem.specs.Trace.{told_items, items_by, items, trace_of}
 use Rattle.wasm_sem.proofs.AllChosen.{HaveGroups, step_has}
 use Rattle.wasm_sem.proofs.Ended.{slots_stay}
 use Rattle.wasm_sem.proofs.Rules.{Invokes, begins, too_deep, replies, hears, Rule, calls, enters, rule_of}

@@ -2,23 +2,16 @@
 use Rattle.std.proofs.Common.{◌≡◌, ℕ, suc, ◌+◌, ◌-◌, ◌^◌, ◌<◌, ◌≤◌, List, [], ◌∷◌, ◌++◌, length, map, get_or, take, drop, Option, Some, None, option_map, option_and_then, is_some, Bool, true, false, cond, nat_eq, refl, sym, ap, subst, ◌∙◌, arith, append_assoc, append-nil}
 use Rattle.std.proofs.lemmas.List.{take_more, drop_more, take-append-drop}
 use Rattle.std.proofs.lemmas.Option.{same_Some}
-use Rattle.module_ast.specs.declared.module.Loc.{Loc}
-use Rattle.module_ast.specs.declared.module.Module.{Module}
+use Rattle.wasm_sem.specs.Types.{Loc, Module, Event, GroupName}
 use Rattle.module_ast.specs.Lists.{when}
-use Rattle.hook_select.specs.declared.Event.{Event}
-use Rattle.hook_select.specs.declared.GroupName.{GroupName}
 use Rattle.hook_select.specs.Events.{group_of}
 use Rattle.wasm_sem.specs.declared.Script.{Script}
 use Rattle.wasm_sem.specs.declared.HookCall.{HookCall}
 use Rattle.wasm_sem.specs.declared.Turn.{Turn}
 use Rattle.wasm_sem.specs.declared.Turn.TheVariants.{Ran, Hook, Over}
-use Rattle.wasm_sem.specs.Answers.{hook_in}
-use Rattle.wasm_sem.specs.Events.{TraceItem, entry, host_call, event, hook_call, events_in}
+use Rattle.wasm_sem.specs.Execution.{hook_in, TraceItem, entry, host_call, event, hook_call, events_in, instance, IsScriptInRange, opening_configuration, run_of, has_group, items, trace, trace_of}
 use Rattle.wasm_sem.specs.Laws.{slots_in}
-use Rattle.wasm_sem.specs.Link.{instance, IsScriptInRange}
-use Rattle.wasm_sem.specs.Machine.{opening_configuration, run_of}
 use Rattle.wasm_sem.specs.Nests.{Bracket}
-use Rattle.wasm_sem.specs.Trace.{has_group, items, trace, trace_of}
 use Rattle.wasm_sem.proofs.Runs.{trace_add}
 use Rattle.wasm_run.specs.declared.note.Entry.{Entry}
 use Rattle.wasm_run.specs.declared.note.HostNote.{HostNote}

@@ -1,14 +1,10 @@
 -- What the turns of a session tell, read as events one after another.
 use Rattle.std.proofs.Common.{◌≡◌, ℕ, ◌+◌, ◌-◌, ◌≤◌, ◌⊎◌, inl, inr, List, ◌++◌, Option, Some, None, Ok, Bool, true, false, cond, nat_eq, refl, sym, ap, subst, ◌∙◌, arith, append-nil}
-use Rattle.hook_select.specs.declared.Event.{Event}
+use Rattle.wasm_sem.specs.Types.{Event}
 use Rattle.wasm_sem.specs.declared.HookCall.{HookCall}
 use Rattle.wasm_sem.specs.declared.Turn.{Turn}
 use Rattle.wasm_sem.specs.declared.Turn.TheVariants.{Ran, Hook, Over}
-use Rattle.wasm_sem.specs.Answers.{turn_by, hook_in}
-use Rattle.wasm_sem.specs.Events.{events_in}
-use Rattle.wasm_sem.specs.Link.{instance}
-use Rattle.wasm_sem.specs.Machine.{is_over}
-use Rattle.wasm_sem.specs.Trace.{items, trace_of}
+use Rattle.wasm_sem.specs.Execution.{turn_by, hook_in, events_in, instance, is_over, items, trace_of}
 use Rattle.wasm_sem.proofs.Ended.{shows_no_more}
 use Rattle.wasm_run.specs.Running.{Run, configuration_of, one_more, IsLinked}
 use Rattle.run_session.specs.Sessions.{session_turn, TakesTurn}

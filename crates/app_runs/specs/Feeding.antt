@@ -1,6 +1,6 @@
 -- The analyses that are picked take the events that a turn of a run tells.
 use Rattle.std.specs.Prelude.{ℕ, ◌+◌, List, [], length, filter, Option, is_some, is_none}
-use Rattle.hook_select.specs.declared.Event.{Event}
+use Rattle.wasm_sem.specs.Types.{Event}
 use Rattle.hook_select.specs.Events.{group_of}
 use Rattle.wasm_sem.specs.declared.Turn.{Turn}
 use Rattle.wasm_sem.specs.declared.Turn.TheVariants.{Ran, Hook, Over}

@@ -1,7 +1,6 @@
 -- The trace of the events of a run.
 use Rattle.std.specs.Prelude.{ℕ, List}
-use Rattle.module_ast.specs.declared.module.Module.{Module}
-use Rattle.hook_select.specs.declared.Event.{Event}
+use Rattle.wasm_sem.specs.Types.{Module, Event}
 use Rattle.wasm_sem.specs.declared.Script.{Script}
 use Rattle.static_info.specs.declared.Info.{Info}
 use Rattle.trace_file.specs.Files.{trace_bytes, IsWithinBound, writing_of}

@@ -1,12 +1,11 @@
 -- The tree of a run: how often each path of calls came, or the first end that is not nested.
 use Rattle.std.specs.Prelude.{◌≡◌, ℕ, List, [], ◌∷◌, ◌++◌, length, flat_map, codes, decimal, Option, Some, None, option_map, unwrap_or, Bool, ◌&&◌}
-use Rattle.module_ast.specs.declared.module.Loc.{Loc}
-use Rattle.module_ast.specs.declared.module.Module.{Module}
+use Rattle.wasm_sem.specs.Types.{Loc, Module}
 use Rattle.hook_select.specs.declared.Event.TheVariants as events
 use Rattle.hook_select.specs.declared.GroupName.TheVariants.{Begin, End}
 use Rattle.hook_select.specs.Groups.{has}
 use Rattle.wasm_sem.specs.declared.Script.{Script}
-use Rattle.wasm_sem.specs.Events.{TraceItem, event}
+use Rattle.wasm_sem.specs.Execution.{TraceItem, event}
 use Rattle.wasm_sem.specs.Nests.{Bracket}
 use Rattle.wasm_run.specs.Running.{Run}
 use Rattle.static_info.specs.declared.Info.{Info}

@@ -1,8 +1,7 @@
 // A shadow that takes what the steps of a session tell.
 
 ghost use Rattle.std.specs.Prelude.{◌≡◌, ◌≤◌, ◌⊎◌, [], map, IfOk, OnOk, OnErr};
-ghost use Rattle.wasm_sem.specs.Answers.{summary_of};
-ghost use Rattle.wasm_sem.specs.Events.{event};
+ghost use Rattle.wasm_sem.specs.Execution.{summary_of, event};
 ghost use Rattle.wasm_run.specs.Noting.{entry_items, host_items, noted_items};
 ghost use Rattle.wasm_run.specs.Turns.{after_turn};
 ghost use Rattle.run_session.specs.Sessions.{session_turn, told_outcome};

@@ -1,8 +1,7 @@
 // A run whose events the analyses take.
 
 ghost use Rattle.std.specs.Prelude.{◌≡◌, ◌⊎◌, IfErr, IfOk, OnErr, map};
-ghost use Rattle.wasm_sem.specs.Answers.{summary_of};
-ghost use Rattle.wasm_sem.specs.Link.{IsScriptInRange, Links, link};
+ghost use Rattle.wasm_sem.specs.Execution.{summary_of, IsScriptInRange, Links, link};
 ghost use Rattle.run_session.specs.Linking.{TellsRefusal};
 ghost use Rattle.run_session.specs.Sessions.{told_outcome};
 ghost use Rattle.static_info.specs.Belongs.{Belongs};

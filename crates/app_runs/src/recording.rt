@@ -1,10 +1,9 @@
 // The events of a run, put into a trace file.
 
 ghost use Rattle.std.specs.Prelude.{◌≡◌, ◌<◌, ◌≤◌, ◌++◌, List, [], length, Err, IfOk, IfErr, OnOk};
-ghost use Rattle.hook_select.specs.declared.Event.{Event as EventSpec};
-ghost use Rattle.wasm_sem.specs.Answers.{summary_of};
+ghost use Rattle.wasm_sem.specs.Types.{Event as EventSpec};
+ghost use Rattle.wasm_sem.specs.Execution.{summary_of, IsScriptInRange, Links, link};
 ghost use Rattle.wasm_sem.specs.Laws.{slots_in};
-ghost use Rattle.wasm_sem.specs.Link.{IsScriptInRange, Links, link};
 ghost use Rattle.wasm_run.specs.Running.{configuration_of};
 ghost use Rattle.wasm_run.specs.Turns.{after_turn};
 ghost use Rattle.run_session.specs.declared.link.LinkFault.{LinkFault as LinkSpec};

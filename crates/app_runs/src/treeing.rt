@@ -1,10 +1,8 @@
 // The tree of a run's calls.
 
 ghost use Rattle.std.specs.Prelude.{◌≡◌, ◌+◌, ◌≤◌, ◌^◌, ◌++◌, List, [], length, map, cond, is_some, Some, None, Err, IfOk, IfErr, OnOk};
-ghost use Rattle.module_ast.specs.declared.module.Loc.{Loc as Place};
-ghost use Rattle.wasm_sem.specs.Answers.{summary_of};
-ghost use Rattle.wasm_sem.specs.Events.{TraceItem, event};
-ghost use Rattle.wasm_sem.specs.Link.{IsScriptInRange, Links, link};
+ghost use Rattle.wasm_sem.specs.Types.{Loc as Place};
+ghost use Rattle.wasm_sem.specs.Execution.{summary_of, TraceItem, event, IsScriptInRange, Links, link};
 ghost use Rattle.wasm_run.specs.Turns.{after_turn};
 ghost use Rattle.run_session.specs.declared.link.LinkFault.{LinkFault as LinkSpec};
 ghost use Rattle.run_session.specs.Linking.{TellsRefusal};

@@ -2,16 +2,13 @@
 use Rattle.std.proofs.Common.{◌≡◌, ℕ, ◌≤◌, ℤ, pos, List, [], All, length, refl, sym, subst, arith}
 use Rattle.std.proofs.lemmas.List.Elements.{All-from_recursion}
 use Rattle.leb_binary.specs.Leb.{IsInSize}
-use Rattle.module_ast.specs.declared.module.Module.{Module}
+use Rattle.wasm_sem.specs.Types.{Module}
 use Rattle.module_ast.specs.declared.module.Which.TheVariants.{Functions, Locals, Nesting, Parameters, Types}
-use Rattle.module_ast.specs.Canonical.{module_bytes}
-use Rattle.module_ast.specs.Fits.{Fits, FitsBody, FitsElement, FitsExport, FitsGlobal, FitsImport, FitsIndex, FitsRange, FitsSegment}
-use Rattle.module_ast.specs.Limits.{narrow, wide}
-use Rattle.module_ast.specs.Profile.{IsWithin}
-use Rattle.module_ast.specs.Validity.{IsValid}
+use Rattle.module_ast.specs.Binary.{module_bytes, Fits, FitsBody, FitsElement, FitsExport, FitsGlobal, FitsImport, FitsIndex, FitsRange, FitsSegment, IsWithin}
+use Rattle.module_ast.specs.Validation.{narrow, wide, IsValid}
 use Rattle.module_ast.proofs.WrittenModules.{module_spelled}
 use Rattle.wasm_sem.specs.declared.HostAnswer.{HostAnswer}
-use Rattle.wasm_sem.specs.Link.{IsFree, IsScriptInRange, IsWriteInRange, Links}
+use Rattle.wasm_sem.specs.Execution.{IsFree, IsScriptInRange, IsWriteInRange, Links}
 use Rattle.app_plan.specs.Files.{IsFit}
 use Rattle.app_plan.proofs.Files.{one_module}
 use Rattle.wasabi_app.specs.Trying.{IsTriable}

@@ -2,15 +2,13 @@
 use Rattle.std.proofs.Common.{◌≡◌, ℕ, ℤ, pos, negsuc, inl, inr, List, [], ◌∷◌, ◌++◌, Option, Some, None, IsSome, true, refl, sym, ap, subst, ◌∙◌}
 use Rattle.wasm_num.specs.declared.BlockKind.TheVariants as blocks
 use Rattle.wasm_num.specs.declared.Value.TheVariants.{I32}
-use Rattle.module_ast.specs.declared.module.Loc.{Loc}
-use Rattle.module_ast.specs.declared.module.Module.{Module}
-use Rattle.module_ast.specs.declared.ops.MemArg.{MemArg}
+use Rattle.wasm_sem.specs.Types.{Loc, Module, MemArg}
 use Rattle.module_ast.specs.declared.ops.StoreOp.TheVariants.{I32Store8}
-use Rattle.module_ast.specs.Positions.{function_scope, Opcode, acts, closes, Place, at, place_at}
-use Rattle.module_ast.specs.Tree.{Tree, Plain, done, plain, store, i32_const}
+use Rattle.module_ast.specs.Places.{function_scope, Opcode, acts, closes, Place, at, place_at}
+use Rattle.module_ast.specs.Structure.{Tree, Plain, done, plain, store, i32_const}
 use Rattle.hook_select.specs.declared.Event.TheVariants as events
 use Rattle.wasm_sem.specs.declared.Script.{Script}
-use Rattle.wasm_sem.specs.Events.{TraceItem, entry, event}
+use Rattle.wasm_sem.specs.Execution.{TraceItem, entry, event}
 use Rattle.wasm_run.specs.Running.{Run}
 use Rattle.run_session.specs.Sessions.{opened_run}
 use Rattle.static_info.specs.declared.Info.{Info}

@@ -2,9 +2,9 @@
 use Rattle.std.specs.Prelude.{ℤ, pos, [], ◌∷◌, None, refl, codes}
 use Rattle.module_ast.specs.Ascii.{ascii_text}
 use Rattle.module_ast.specs.declared.module.ExportKind.TheVariants as kinds
-use Rattle.module_ast.specs.declared.module.Module.{Module}
+use Rattle.wasm_sem.specs.Types.{Module}
 use Rattle.module_ast.specs.declared.ops.StoreOp.TheVariants.{I32Store8}
-use Rattle.module_ast.specs.Tree.{done, plain, store, i32_const}
+use Rattle.module_ast.specs.Structure.{done, plain, store, i32_const}
 use Rattle.wasm_sem.specs.declared.Script.{Script}
 use Rattle.static_info.specs.declared.Info.{Info}
 use Rattle.static_info.specs.Info.{info_of}

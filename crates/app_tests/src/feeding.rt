@@ -1,7 +1,7 @@
 // The steps of a run, of which a hook call feeds analyses.
 
 ghost use Rattle.std.specs.Prelude.{◌≡◌, ◌^◌, ◌≤◌, All, IfSome, map};
-ghost use Rattle.wasm_sem.specs.Link.{IsScriptInRange};
+ghost use Rattle.wasm_sem.specs.Execution.{IsScriptInRange};
 ghost use Rattle.static_info.specs.Belongs.{Belongs};
 ghost use Rattle.static_info.specs.Form.{IsWellFormed};
 ghost use Rattle.analyses.specs.Tools.{ToolState};

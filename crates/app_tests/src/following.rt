@@ -1,9 +1,8 @@
 // A shadow that takes what a session of another module tells.
 
 ghost use Rattle.std.specs.Prelude.{◌≡◌, ◌≤◌, Decides, IfOk, OnOk, length};
-ghost use Rattle.module_ast.specs.Limits.{wide};
-ghost use Rattle.module_ast.specs.Validity.{IsValid};
-ghost use Rattle.wasm_sem.specs.Link.{IsFree};
+ghost use Rattle.module_ast.specs.Validation.{wide, IsValid};
+ghost use Rattle.wasm_sem.specs.Execution.{IsFree};
 ghost use Rattle.run_session.specs.Sessions.{opened_run};
 ghost use Rattle.static_info.specs.Belongs.{Belongs};
 ghost use Rattle.static_info.specs.Form.{IsWellFormed};

@@ -6,11 +6,9 @@ use Rattle.wasm_num.specs.declared.BlockKind.{BlockKind}
 use Rattle.wasm_num.specs.declared.BlockKind.TheVariants as kinds
 use Rattle.module_ast.specs.declared.code.BlockType.{BlockType}
 use Rattle.module_ast.specs.declared.code.Instr.{Instr}
-use Rattle.module_ast.specs.Tree.{Tree, Plain, if_else}
-use Rattle.module_ast.specs.Seen.{before, code_of}
-use Rattle.module_ast.specs.Plains.{plain_of, IsPlainInstr, goes_on_by}
-use Rattle.module_ast.specs.Positions as positions
-use Rattle.module_ast.specs.Positions.{Scope, code_size, code_places, ends_live, goes_on, at, acts, opens, alternates, closes, then_scope, else_scope}
+use Rattle.module_ast.specs.Structure.{Tree, Plain, if_else, before, code_of, plain_of, IsPlainInstr, goes_on_by}
+use Rattle.module_ast.specs.Places.Positions as positions
+use Rattle.module_ast.specs.Places.{Scope, code_size, code_places, ends_live, goes_on, at, acts, opens, alternates, closes, then_scope, else_scope}
 use Rattle.branch_resolve.specs.Scopes.{block_of, blocks_around}
 use Rattle.branch_resolve.specs.Levels.{places_from, outer_places, level_places, end_places, scope_of, level_scopes, block_sizes, other_sizes, outer_sizes, IsPartWithin, IsOtherWithin, AreSteps, AreLevelsWithin, IsOpening, kind_scope}
 use Rattle.branch_resolve.specs.declared.steps.Other.{Other}

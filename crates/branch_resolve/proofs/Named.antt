@@ -4,8 +4,8 @@ use Rattle.std.proofs.lemmas.Option.{slice_get-get_or, slice_get_past, same_Some
 use Rattle.std.proofs.lemmas.List.{take-map, length-map}
 use Rattle.std.proofs.lemmas.Int.{ints}
 use Rattle.std.proofs.lemmas.List.Elements.{Contains-append_right}
-use Rattle.module_ast.specs.Tree.{Tree, done, plain, block, loop, if_then, if_else}
-use Rattle.module_ast.specs.Positions.{Scope, Place, code_size, code_places, ends_live, at, closes, places, place_at, function_scope, block_scope, loop_scope, if_scope, then_scope, else_scope, goes_on, target_of, left_by}
+use Rattle.module_ast.specs.Structure.{Tree, done, plain, block, loop, if_then, if_else}
+use Rattle.module_ast.specs.Places.{Scope, Place, code_size, code_places, ends_live, at, closes, places, place_at, function_scope, block_scope, loop_scope, if_scope, then_scope, else_scope, goes_on, target_of, left_by}
 use Rattle.branch_resolve.specs.Scopes.{block_of, end_of, blocks_around, target, ends, AroundAnswer, ReadAround}
 use Rattle.branch_resolve.specs.declared.Block.{Block}
 

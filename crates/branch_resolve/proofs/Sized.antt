@@ -4,9 +4,8 @@ use Rattle.std.specs.Prelude.{reverse}
 use Rattle.std.proofs.lemmas.List.{reverse-append, append-nil, drop_all}
 use Rattle.module_ast.specs.declared.code.Instr.{Instr}
 use Rattle.module_ast.specs.declared.code.Instr.TheVariants.{Block, Loop, If, IfElse}
-use Rattle.module_ast.specs.Tree.{Tree, done, weight}
-use Rattle.module_ast.specs.Seen.{before, code_of}
-use Rattle.module_ast.specs.Positions.{code_size, code_nesting}
+use Rattle.module_ast.specs.Structure.{Tree, done, weight, before, code_of}
+use Rattle.module_ast.specs.Places.{code_size, code_nesting}
 use Rattle.branch_resolve.specs.Levels.{block_sizes}
 use Rattle.module_ast.proofs.Plains.{next_instr, size_before}
 

@@ -1,9 +1,8 @@
 -- The sequences that a walk is in, and the places that are left from there on.
 use Rattle.std.specs.Prelude.{◌≡◌, ◌≤◌, ◌<◌, ℕ, ◌+◌, pos, negsuc, List, [], ◌∷◌, ◌++◌, Option, Some, None, Bool, true, false, reverse, drop, length}
-use Rattle.module_ast.specs.Positions as positions
-use Rattle.module_ast.specs.Positions.{Scope, code_size, code_places, ends_live, at, enters, alternates, closes}
-use Rattle.module_ast.specs.Seen.{code_of}
-use Rattle.module_ast.specs.Tree.{Tree, done, plain, block, loop, if_then, if_else}
+use Rattle.module_ast.specs.Places.Positions as positions
+use Rattle.module_ast.specs.Places.{Scope, code_size, code_places, ends_live, at, enters, alternates, closes}
+use Rattle.module_ast.specs.Structure.{code_of, Tree, done, plain, block, loop, if_then, if_else}
 use Rattle.module_ast.specs.declared.code.BlockType.{BlockType}
 use Rattle.wasm_num.specs.declared.BlockKind.{BlockKind}
 use Rattle.wasm_num.specs.declared.BlockKind.TheVariants as kinds

@@ -1,6 +1,6 @@
 -- The sizes of a sequence and of the blocks in it.
-use Rattle.module_ast.specs.Positions.{code_size}
-use Rattle.module_ast.specs.Tree.{Tree}
+use Rattle.module_ast.specs.Places.{code_size}
+use Rattle.module_ast.specs.Structure.{Tree}
 use Rattle.branch_resolve.specs.Levels.{block_sizes}
 use Rattle.branch_resolve.specs.declared.sizes.Sizes.{Sizes}
 

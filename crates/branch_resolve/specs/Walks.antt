@@ -1,9 +1,8 @@
 -- What a walk over the places of a body reads.
 use Rattle.std.specs.Prelude.{◌≡◌, List, [], ◌∷◌, Option, Some, None}
-use Rattle.module_ast.specs.Positions as positions
-use Rattle.module_ast.specs.Positions.{Scope, enters, acts, opens, alternates, closes}
-use Rattle.module_ast.specs.Plains.{plain_of}
-use Rattle.module_ast.specs.Tree.{Plain}
+use Rattle.module_ast.specs.Places.Positions as positions
+use Rattle.module_ast.specs.Places.{Scope, enters, acts, opens, alternates, closes}
+use Rattle.module_ast.specs.Structure.{plain_of, Plain}
 use Rattle.branch_resolve.specs.Scopes.{block_of, blocks_around}
 use Rattle.branch_resolve.specs.declared.Block.{Block}
 use Rattle.branch_resolve.specs.declared.place.Place.{Place}

@@ -1,11 +1,10 @@
 // How many positions the blocks of a body have inside.
 
 ghost use Rattle.std.specs.Prelude.{◌≡◌, ◌+◌, ◌≤◌, ◌++◌, reverse, IfOk, OnOk};
-ghost use Rattle.module_ast.specs.Positions.{code_size, code_nesting};
+ghost use Rattle.module_ast.specs.Places.{code_size, code_nesting};
 ghost use Rattle.branch_resolve.specs.Levels.{block_sizes};
 ghost use Rattle.branch_resolve.specs.Sizes.{sizes_of};
-ghost use Rattle.module_ast.specs.Seen.{before};
-ghost use Rattle.module_ast.specs.Tree.{done};
+ghost use Rattle.module_ast.specs.Structure.{before, done};
 
 use module_ast::code::{Code, Instr};
 use module_ast::seq::Seq;

@@ -1,10 +1,9 @@
 // The sequences that a walk is in.
 
 ghost use Rattle.std.specs.Prelude.{◌≡◌, ◌≤◌, ◌<◌, ◌+◌, ◌∷◌, [], length, reverse, drop, None, Some, IfOk, OnOk, OnErr, MatchOption};
-ghost use Rattle.module_ast.specs.Seen.{code_of};
+ghost use Rattle.module_ast.specs.Structure.{code_of, IsPlainInstr};
 ghost use Rattle.branch_resolve.specs.Scopes.{block_of};
 ghost use Rattle.branch_resolve.specs.Levels.{scope_of, kind_scope, then_side, else_side, AreStepsOf, IsStep, IsStepOrEnd, IsUnmoved, IsOpening, IsOpeningIfElse};
-ghost use Rattle.module_ast.specs.Plains.{IsPlainInstr};
 
 use crate::Block;
 use crate::place::{Opcode, Place};

@@ -1,7 +1,7 @@
 // One walk over the places of a body.
 
 ghost use Rattle.std.specs.Prelude.{◌≡◌, ◌+◌, ◌≤◌, [], IfOk, OnOk, OnErr};
-ghost use Rattle.module_ast.specs.Positions.{code_size, code_nesting, places};
+ghost use Rattle.module_ast.specs.Places.{code_size, code_nesting, places};
 ghost use Rattle.branch_resolve.specs.Levels.{with_opened, scopes_around, block_opened, CanFollow};
 ghost use Rattle.branch_resolve.specs.Sizes.{sizes_of};
 ghost use Rattle.branch_resolve.specs.Walks.{IsNextPlace};

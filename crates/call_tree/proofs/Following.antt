@@ -9,9 +9,8 @@ use Rattle.std.proofs.lemmas.List.{append-nil, append_assoc}
 use Rattle.std.specs.List.{list_any}
 use Rattle.std.proofs.lemmas.List.Sums.{sum_by-append}
 use Rattle.std.proofs.lemmas.List.Folds.{list_any-append}
-use Rattle.hook_select.specs.declared.Event.{Event}
-use Rattle.wasm_sem.specs.Link.{Entry}
-use Rattle.wasm_sem.specs.Events.{TraceItem, entry, host_call, event, hook_call}
+use Rattle.wasm_sem.specs.Types.{Event}
+use Rattle.wasm_sem.specs.Execution.{Entry, TraceItem, entry, host_call, event, hook_call}
 use Rattle.wasm_sem.specs.Nests.{Bracket}
 use Rattle.call_tree.specs.Counts.{PathCounts, with_path, count_in}
 use Rattle.call_tree.specs.Paths.{open_after, open_after_all, path_begun, paths, paths_from}

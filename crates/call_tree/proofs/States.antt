@@ -9,9 +9,8 @@ use Rattle.std.proofs.lemmas.Map.Lookups.{exact_bytes}
 use Rattle.std.proofs.lemmas.List.{append_assoc}
 use Rattle.std.proofs.lemmas.Bool.{and_parts, eqb-true}
 use Rattle.wasm_num.specs.Kinds.{kind_number}
-use Rattle.wasm_num.specs.declared.BlockKind.{BlockKind}
+use Rattle.wasm_sem.specs.Types.{BlockKind, Loc}
 use Rattle.wasm_num.specs.declared.BlockKind.TheVariants as kinds
-use Rattle.module_ast.specs.declared.module.Loc.{Loc}
 use Rattle.wasm_sem.specs.Nests.{Bracket}
 use Rattle.call_tree.specs.Counts.{with_entry, entry_at, path_at, with_path, path_counts, CountsPathsUpTo}
 use Rattle.call_tree.specs.Paths.{path_to, is_function, same_bracket}

@@ -5,13 +5,11 @@ use Rattle.std.specs.Ordering.{nat_cmp, eq_by_cmp}
 use Rattle.std.specs.Cmp.Lexicographic.{slice_cmp}
 use Rattle.std.specs.FinMap.{empty, from_entries}
 use Rattle.std.specs.FinMap as finite
-use Rattle.wasm_num.specs.declared.BlockKind.{BlockKind}
+use Rattle.wasm_sem.specs.Types.{BlockKind, Loc, Event}
 use Rattle.wasm_num.specs.declared.BlockKind.TheVariants as kinds
-use Rattle.module_ast.specs.declared.module.Loc.{Loc}
-use Rattle.hook_select.specs.declared.Event.{Event}
 use Rattle.hook_select.specs.declared.Event.TheVariants as events
 use Rattle.wasm_num.specs.Kinds.{kind_number, kind_of_number}
-use Rattle.wasm_sem.specs.Events.{TraceItem, entry, host_call, event, hook_call}
+use Rattle.wasm_sem.specs.Execution.{TraceItem, entry, host_call, event, hook_call}
 use Rattle.wasm_sem.specs.Nests.{Bracket, bracket}
 use Rattle.call_tree.specs.declared.tree.Open.{Open}
 use Rattle.call_tree.specs.declared.tree.TreeFault.{TreeFault}

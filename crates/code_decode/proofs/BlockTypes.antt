@@ -6,8 +6,8 @@ use Rattle.wasm_num.specs.declared.ValType.TheVariants.{I32, I64}
 use Rattle.leb_binary.specs.Leb.{IsSigned, IsFront, HasNoFront}
 use Rattle.leb_binary.proofs.Fronts.{one_signed, front_one}
 use Rattle.leb_binary.proofs.Numbers.{within_signed}
-use Rattle.module_ast.specs.Grammar as grammar
-use Rattle.module_ast.specs.Grammar.{BlockTypeNode, IsBlockType}
+use Rattle.module_ast.specs.Binary.Grammar as grammar
+use Rattle.module_ast.specs.Binary.{BlockTypeNode, IsBlockType}
 
 -- the number, of one byte and negative where it is no index
 abbrev block_number : BlockTypeNode → ℤ

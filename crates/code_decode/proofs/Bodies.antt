@@ -5,13 +5,11 @@ use Rattle.std.proofs.lemmas.Bool.{or_left, or_right}
 use Rattle.leb_binary.specs.Leb.{IsFront, HasNoFront}
 use Rattle.leb_binary.specs.Fronts.{OneFront}
 use Rattle.leb_binary.proofs.Fronts.{front_one}
-use Rattle.module_ast.specs.Grammar.{CodeNode, GroupNode, BodyNode, IsVec, IsGroup, IsExpr, IsBody, local_count}
-use Rattle.module_ast.specs.Decoding.{IsNoBody, GramBody, BodyFloats, BodyExceeds}
-use Rattle.module_ast.specs.Positions.{code_nesting}
-use Rattle.module_ast.specs.Tree as ast
+use Rattle.module_ast.specs.Binary.{CodeNode, GroupNode, BodyNode, IsVec, IsGroup, IsExpr, IsBody, local_count, IsNoBody, GramBody, BodyFloats, BodyExceeds, code_node, code_floats, some_in, is_floating, group_node}
+use Rattle.module_ast.specs.Places.{code_nesting}
+use Rattle.module_ast.specs.Structure.Trees as ast
 use Rattle.module_ast.specs.declared.module.Group as kept
 use Rattle.module_ast.specs.declared.module.Body as kept_body
-use Rattle.module_ast.specs.Profile.{code_node, code_floats, some_in, is_floating, group_node}
 use Rattle.module_ast.proofs.Compose.{one_vec}
 use Rattle.code_decode.specs.Answers.{IsExprAnswer}
 use Rattle.code_decode.specs.Locals.{AreLocals, group_floats}

@@ -1,13 +1,9 @@
 -- The bytes of a tree that is being built.
 use Rattle.std.proofs.Common.{◌≡◌, ℕ, List, [], ◌∷◌, ◌++◌, refl, sym, ap, ◌∙◌, subst, append_assoc, append-nil}
 use Rattle.leb_binary.specs.Leb.{IsFront}
-use Rattle.module_ast.specs.Grammar as grammar
-use Rattle.module_ast.specs.Grammar.{IsBlockType, IsCode, IsExpr, IsPlain}
-use Rattle.module_ast.specs.Profile.{code_node, block_type_node}
-use Rattle.module_ast.specs.Plains.{instr_of}
-use Rattle.module_ast.specs.Seen.{before, onto, code_of, onto_push}
-use Rattle.module_ast.specs.Tree.{Tree, done, Plain}
-use Rattle.module_ast.specs.Tokens.{Token, IsToken, plain_t, else_t, end_t}
+use Rattle.module_ast.specs.Binary.Grammar as grammar
+use Rattle.module_ast.specs.Binary.{IsBlockType, IsCode, IsExpr, IsPlain, code_node, block_type_node, Token, IsToken, plain_t, else_t, end_t}
+use Rattle.module_ast.specs.Structure.{instr_of, before, onto, code_of, onto_push, Tree, done, Plain}
 use Rattle.module_ast.specs.declared.code.BlockType.{BlockType}
 use Rattle.module_ast.specs.declared.code.Instr.{Instr}
 use Rattle.module_ast.specs.declared.code.Instr.TheVariants.{Block, Loop, If, IfElse}

@@ -3,11 +3,9 @@ use Rattle.std.proofs.Common.{◌≡◌, ℕ, suc, ◌+◌, ◌<◌, ◌≤◌, 
 use Rattle.std.specs.Prelude.{Bool, true, false, ◌||◌, max, map, take, drop}
 use Rattle.std.proofs.lemmas.Bool.{cases_lt, or_parts}
 use Rattle.leb_binary.specs.Leb.{IsFront, HasNoFront}
-use Rattle.module_ast.specs.Grammar as grammar
-use Rattle.module_ast.specs.Grammar.{IsExpr}
-use Rattle.module_ast.specs.Profile.{code_node, code_floats}
-use Rattle.module_ast.specs.Seen.{code_of}
-use Rattle.module_ast.specs.Tokens.{IsToken}
+use Rattle.module_ast.specs.Binary.Grammar as grammar
+use Rattle.module_ast.specs.Binary.{IsExpr, code_node, code_floats, IsToken}
+use Rattle.module_ast.specs.Structure.{code_of}
 use Rattle.module_ast.specs.declared.code.BlockType.{BlockType}
 use Rattle.module_ast.specs.declared.code.Instr.{Instr}
 use Rattle.module_ast.proofs.SpelledTokens.{token_shorter}

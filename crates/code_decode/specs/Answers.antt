@@ -1,11 +1,10 @@
 -- What each answer says of an expression.
 use Rattle.std.specs.Prelude.{◌≡◌, ℕ, ◌<◌, ◌≤◌, List, true}
 use Rattle.leb_binary.specs.Leb.{IsFront}
-use Rattle.module_ast.specs.Tree.{Tree}
-use Rattle.module_ast.specs.Grammar as grammar
-use Rattle.module_ast.specs.Grammar.{IsExpr}
-use Rattle.module_ast.specs.Profile.{code_node, code_floats}
-use Rattle.module_ast.specs.Positions.{code_nesting}
+use Rattle.module_ast.specs.Structure.{Tree}
+use Rattle.module_ast.specs.Binary.Grammar as grammar
+use Rattle.module_ast.specs.Binary.{IsExpr, code_node, code_floats}
+use Rattle.module_ast.specs.Places.{code_nesting}
 use Rattle.code_decode.specs.declared.expr.Expr.{Expr}
 use Rattle.code_decode.specs.declared.expr.Expr.TheVariants.{Built, Floats, Deep}
 

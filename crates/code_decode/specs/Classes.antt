@@ -1,9 +1,9 @@
 -- What the classes of opcodes stand for.
 use Rattle.std.specs.Prelude.{ℕ}
 use Rattle.module_ast.specs.declared.ops.MemArg.{MemArg}
-use Rattle.module_ast.specs.Tree.{Plain, unreachable, nop, br, br_if, return_, call, drop_, select, local_get, local_set, local_tee, global_get, global_set, load, store, memory_size, memory_grow, num}
-use Rattle.module_ast.specs.Tokens as tokens
-use Rattle.module_ast.specs.Tokens.{Shape}
+use Rattle.module_ast.specs.Structure.{Plain, unreachable, nop, br, br_if, return_, call, drop_, select, local_get, local_set, local_tee, global_get, global_set, load, store, memory_size, memory_grow, num}
+use Rattle.module_ast.specs.Binary.Tokens as tokens
+use Rattle.module_ast.specs.Binary.{Shape}
 use Rattle.code_decode.specs.declared.class.Bare.{Bare}
 use Rattle.code_decode.specs.declared.class.Bare.TheVariants as bares
 use Rattle.code_decode.specs.declared.class.Indexed.{Indexed}

@@ -1,7 +1,7 @@
 -- Bytes have one reading.
 use Rattle.std.specs.Prelude.{◌≡◌, ℕ, List}
 use Rattle.leb_binary.specs.Leb.{IsFront}
-use Rattle.module_ast.specs.Grammar.{CodeNode, BodyNode, IsBody, IsExpr}
+use Rattle.module_ast.specs.Binary.{CodeNode, BodyNode, IsBody, IsExpr}
 
 -- bytes are at most one body
 abbrev pub BodiesAreUnique : Type 0

@@ -1,7 +1,6 @@
 -- The locals of a body, and why there is none.
 use Rattle.std.specs.Prelude.{ℕ, ◌^◌, ◌<◌, List, Bool}
-use Rattle.module_ast.specs.Grammar.{GroupNode, IsVec, IsGroup, local_count}
-use Rattle.module_ast.specs.Profile.{is_floating}
+use Rattle.module_ast.specs.Binary.{GroupNode, IsVec, IsGroup, local_count, is_floating}
 use Rattle.code_decode.specs.declared.fault.Fault.{Fault}
 use Rattle.code_decode.specs.declared.fault.Fault.TheVariants as faults
 use Rattle.code_decode.specs.declared.body.BodyFault.{BodyFault}

@@ -1,5 +1,5 @@
 -- What a sequence that is open becomes at its end.
-use Rattle.module_ast.specs.Tree.{Tree}
+use Rattle.module_ast.specs.Structure.{Tree}
 use Rattle.module_ast.specs.declared.code.Instr.{Instr}
 use Rattle.module_ast.specs.declared.code.Instr.TheVariants as instrs
 use Rattle.code_decode.specs.declared.token.Kind.{Kind}

@@ -1,6 +1,6 @@
 -- What tokens make of what was read so far.
 use Rattle.std.specs.Prelude.{◌≡◌, ℕ, ◌+◌, ◌<◌, ◌≤◌, [], ◌∷◌, ◌++◌, length, take, drop, max, Bool, ◌||◌}
-use Rattle.module_ast.specs.Seen.{code_of}
+use Rattle.module_ast.specs.Structure.{code_of}
 use Rattle.module_ast.specs.declared.code.BlockType.{BlockType}
 use Rattle.code_decode.specs.Opened.{closed_instr}
 use Rattle.code_decode.specs.declared.token.Kind.{Kind}

@@ -1,8 +1,8 @@
 // Bodies of functions.
 
 ghost use Rattle.std.specs.Prelude.{◌≡◌, ◌≤◌, ℕ, length, IfOk, IsErrOf};
-ghost use Rattle.module_ast.specs.Decoding.{GramBody, IsNoBody, BodyFloats, BodyExceeds};
-ghost use Rattle.module_ast.specs.Positions.{code_nesting};
+ghost use Rattle.module_ast.specs.Binary.{GramBody, IsNoBody, BodyFloats, BodyExceeds};
+ghost use Rattle.module_ast.specs.Places.{code_nesting};
 ghost use Rattle.code_decode.specs.Locals.{body_fault};
 
 use crate::expr::{Expr, read_expr};

@@ -1,8 +1,8 @@
 // What follows an opcode.
 
 ghost use Rattle.std.specs.Prelude.{◌≡◌};
-ghost use Rattle.module_ast.specs.Tokens.{listed_shape, shape_at};
-ghost use Rattle.module_ast.specs.Plains.{instr_of};
+ghost use Rattle.module_ast.specs.Binary.{listed_shape, shape_at};
+ghost use Rattle.module_ast.specs.Structure.{instr_of};
 ghost use Rattle.code_decode.specs.Classes.{bare_plain, index_plain, access_plain, shape_of};
 
 use module_ast::code::Instr;

@@ -2,8 +2,8 @@
 
 ghost use Rattle.std.specs.Prelude.{◌≡◌, ◌≤◌, ◌<◌, ◌^◌, ℕ, [], true, false, length, take, drop, IfOk, OnOk, IsErrOf};
 ghost use Rattle.leb_binary.specs.Leb.{HasNoFront};
-ghost use Rattle.module_ast.specs.Grammar.{IsExpr};
-ghost use Rattle.module_ast.specs.Seen.{code_of};
+ghost use Rattle.module_ast.specs.Binary.{IsExpr};
+ghost use Rattle.module_ast.specs.Structure.{code_of};
 ghost use Rattle.code_decode.specs.Answers.{IsExprAnswer};
 ghost use Rattle.code_decode.specs.Opened.{closed_instr};
 ghost use Rattle.code_decode.specs.Scans.{OpensSequence, TurnsToElse, IsNoThen, ClosesSequence};

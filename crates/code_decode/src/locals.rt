@@ -2,9 +2,8 @@
 
 ghost use Rattle.std.specs.Prelude.{◌≡◌, List, map, true, MatchOption, IfOk, OnErr, IsErrOf};
 ghost use Rattle.leb_binary.specs.Leb.{IsFront, HasNoFront};
-ghost use Rattle.module_ast.specs.Grammar as grammar;
-ghost use Rattle.module_ast.specs.Grammar.{integer, IsGroup};
-ghost use Rattle.module_ast.specs.Profile.{is_floating, some_in, group_node};
+ghost use Rattle.module_ast.specs.Binary.Grammar as grammar;
+ghost use Rattle.module_ast.specs.Binary.{integer, IsGroup, is_floating, some_in, group_node};
 ghost use Rattle.code_decode.specs.Locals.{AreLocals, group_floats};
 ghost use Rattle.code_decode.specs.Stands.{StandsFor};
 

@@ -6,10 +6,9 @@ use Rattle.module_ast.specs.declared.module.Item.TheVariants as items
 use Rattle.module_ast.specs.declared.module.Import.{Import}
 use Rattle.module_ast.specs.declared.module.Module.{Module}
 use Rattle.leb_binary.specs.Shortest.{unsigned_bytes}
-use Rattle.module_ast.specs.Grammar.{header}
-use Rattle.module_ast.specs.Spaces.{imported_funcs}
-use Rattle.module_ast.specs.Limits.{IsWhole}
-use Rattle.module_ast.specs.Canonical.{items_bytes, vec_bytes, sized_bytes, vec_section, start_bytes, module_bytes, func_type_bytes, import_bytes, table_bytes, limits_bytes, global_bytes, export_bytes, element_bytes, body_bytes, segment_bytes}
+use Rattle.module_ast.specs.Binary.{header, items_bytes, vec_bytes, sized_bytes, vec_section, start_bytes, module_bytes, func_type_bytes, import_bytes, table_bytes, limits_bytes, global_bytes, export_bytes, element_bytes, body_bytes, segment_bytes}
+use Rattle.module_ast.specs.Structure.{imported_funcs}
+use Rattle.module_ast.specs.Validation.{IsWhole}
 use Rattle.module_ast.proofs.Writers.{unsigned_some, items_many}
 use Rattle.module_ast.proofs.WrittenEntries.{import_writes, memory_writes}
 

@@ -6,12 +6,9 @@ use Rattle.wasm_num.specs.declared.ValType.TheVariants.{I32, I64}
 use Rattle.module_ast.specs.declared.code.BlockType.{BlockType}
 use Rattle.module_ast.specs.declared.module.GlobalType.{GlobalType}
 use Rattle.module_ast.specs.declared.module.FuncType.{FuncType}
-use Rattle.module_ast.specs.Tree.{Tree, done, plain, block, loop, if_then, if_else, Plain, unreachable, br_table, br_if, br, return_, call_indirect, call, drop_, select, local_get, local_set, local_tee, global_get, global_set, load, store, memory_size, memory_grow}
-use Rattle.module_ast.specs.Positions.{goes_on, code_size, ends_live}
-use Rattle.module_ast.specs.Shapes.{load_type, load_width, store_type, store_width}
-use Rattle.module_ast.specs.Typing.{Context, inside, block_type, push, TypesPlain, TypesCode}
-use Rattle.module_ast.specs.Marks.{Mark}
-use Rattle.module_ast.specs.LiveMarks.{marks_at, HasMarks}
+use Rattle.module_ast.specs.Structure.{Tree, done, plain, block, loop, if_then, if_else, Plain, unreachable, br_table, br_if, br, return_, call_indirect, call, drop_, select, local_get, local_set, local_tee, global_get, global_set, load, store, memory_size, memory_grow}
+use Rattle.module_ast.specs.Places.{goes_on, code_size, ends_live, Mark, marks_at, HasMarks}
+use Rattle.module_ast.specs.Validation.{load_type, load_width, store_type, store_width, Context, inside, block_type, push, TypesPlain, TypesCode}
 use Rattle.code_valid.specs.Checking.{BlockStack, take_type, take_types, put_types, Effect, refuses, turns, stops, drops, selects, with_some, effect_if, is_some_list, is_aligned, stack_effect, apply, same_types, only_if, ends_with, starting, block_effect, if_effect, check, place_marks, option_or, block_takes, if_takes, marks_of, height_of}
 use Rattle.code_valid.specs.Instance.{known_types}
 use Rattle.code_valid.proofs.Exact.{Typed, same_types_by, push_last, effect_sound, body_sound, check_exact}

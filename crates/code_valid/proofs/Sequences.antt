@@ -2,14 +2,12 @@
 use Rattle.std.proofs.Common.{◌≡◌, ℕ, ◌+◌, length, Option, Some, None, true, sym, ap, ◌∙◌, subst}
 use Rattle.wasm_num.specs.declared.ValType.{ValType}
 use Rattle.module_ast.specs.declared.code.Instr.{Instr}
-use Rattle.module_ast.specs.Tree.{Tree, done}
-use Rattle.module_ast.specs.Seen.{before}
-use Rattle.module_ast.specs.Positions.{code_size, goes_on}
-use Rattle.module_ast.specs.Typing.{Context}
+use Rattle.module_ast.specs.Structure.{Tree, done, before, IsPlainInstr, goes_on_by}
+use Rattle.module_ast.specs.Places.{code_size, goes_on}
+use Rattle.module_ast.specs.Validation.{Context}
 use Rattle.code_valid.specs.Checking.{BlockStack, apply, stack_effect, with_some, marked_type, option_or}
 use Rattle.code_valid.specs.Control.{Control, innermost_stack, with_innermost_stack, context_in}
 use Rattle.code_valid.specs.Survey.{Notes, see, note, on_one, survey}
-use Rattle.module_ast.specs.Plains.{IsPlainInstr, goes_on_by}
 use Rattle.code_valid.specs.Acting.{effect_of, marked_by, pass}
 use Rattle.module_ast.proofs.Plains.{by_plain}
 

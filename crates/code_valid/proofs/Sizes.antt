@@ -8,9 +8,9 @@ use Rattle.module_ast.specs.declared.module.Element.{Element}
 use Rattle.module_ast.specs.declared.module.Segment.{Segment}
 use Rattle.module_ast.specs.declared.module.Body.{Body}
 use Rattle.module_ast.specs.declared.module.Module.{Module}
-use Rattle.module_ast.specs.Positions.{code_size, code_nesting}
-use Rattle.module_ast.specs.Profile.{locals_of}
-use Rattle.module_ast.specs.Limits.{IsWhole}
+use Rattle.module_ast.specs.Places.{code_size, code_nesting}
+use Rattle.module_ast.specs.Binary.{locals_of}
+use Rattle.module_ast.specs.Validation.{IsWhole}
 use Rattle.module_ast.proofs.Indexed.{in_at, each_in}
 use Rattle.module_ast.proofs.Sizes.{body_within, within_front, within_back, within_all}
 

@@ -2,8 +2,8 @@
 use Rattle.std.specs.Prelude.{◌+◌, List, ◌++◌, Option, None, Bool, ◌&&◌}
 use Rattle.wasm_num.specs.declared.ValType.{ValType}
 use Rattle.module_ast.specs.declared.code.Instr.{Instr}
-use Rattle.module_ast.specs.Plains.{plain_of}
-use Rattle.module_ast.specs.Typing.{Context}
+use Rattle.module_ast.specs.Structure.{plain_of}
+use Rattle.module_ast.specs.Validation.{Context}
 use Rattle.code_valid.specs.Checking.{Effect, with_some, stack_effect, mark_of, marked_type, option_or}
 use Rattle.code_valid.specs.Survey.{Notes}
 

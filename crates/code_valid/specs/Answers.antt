@@ -4,8 +4,8 @@ use Rattle.wasm_num.specs.declared.ValType.{ValType}
 use Rattle.ctrl_stack.specs.declared.stack.StackFault.{StackFault}
 use Rattle.ctrl_stack.specs.declared.stack.StackFault.TheVariants.{Mismatch}
 use Rattle.ctrl_stack.specs.declared.stack.StackFault.TheVariants as faults
-use Rattle.module_ast.specs.Tree.{Tree}
-use Rattle.module_ast.specs.Typing.{Context}
+use Rattle.module_ast.specs.Structure.{Tree}
+use Rattle.module_ast.specs.Validation.{Context}
 use Rattle.code_valid.specs.declared.invalid.BodyInvalid.{BodyInvalid}
 use Rattle.code_valid.specs.declared.invalid.BodyInvalid.TheVariants.{Invalid, NoMemory}
 use Rattle.code_valid.specs.Checking.{BlockStack, take_operand, ends_with}

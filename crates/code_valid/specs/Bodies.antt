@@ -3,11 +3,9 @@ use Rattle.std.specs.Prelude.{◌≡◌, ℕ, ◌<◌, [], ◌∷◌, length, sl
 use Rattle.module_ast.specs.declared.module.Body.{Body}
 use Rattle.module_ast.specs.declared.module.FuncType.{FuncType}
 use Rattle.module_ast.specs.declared.module.Module.{Module}
-use Rattle.module_ast.specs.Tree.{Tree}
-use Rattle.module_ast.specs.Limits.{IsWhole}
-use Rattle.module_ast.specs.Typing.{Context, push, TypesCode}
-use Rattle.module_ast.specs.LiveMarks.{HasMarks}
-use Rattle.module_ast.specs.Validity.{KeepsRules, body_context, TypesBody, HasBodyMarks}
+use Rattle.module_ast.specs.Structure.{Tree}
+use Rattle.module_ast.specs.Validation.{IsWhole, Context, push, TypesCode, KeepsRules, body_context, TypesBody, HasBodyMarks}
+use Rattle.module_ast.specs.Places.{HasMarks}
 use Rattle.branch_resolve.specs.declared.sizes.Sizes.{Sizes}
 use Rattle.branch_resolve.specs.Sizes.{sizes_of}
 use Rattle.code_valid.specs.declared.marks.Marks.{Marks}

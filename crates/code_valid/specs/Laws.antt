@@ -1,11 +1,9 @@
 -- The check answers exactly what the rules type, and what it notes is what a typed body has.
 use Rattle.std.specs.Prelude.{◌≡◌, ◌↔◌, ℕ, List, [], Some, true}
-use Rattle.module_ast.specs.Positions.{ends_live}
+use Rattle.module_ast.specs.Places.{ends_live, Mark, code_marks, code_height, HasMarks}
 use Rattle.wasm_num.specs.declared.ValType.{ValType}
-use Rattle.module_ast.specs.Tree.{Tree}
-use Rattle.module_ast.specs.Typing.{Context, push, TypesCode}
-use Rattle.module_ast.specs.Marks.{Mark, code_marks, code_height}
-use Rattle.module_ast.specs.LiveMarks.{HasMarks}
+use Rattle.module_ast.specs.Structure.{Tree}
+use Rattle.module_ast.specs.Validation.{Context, push, TypesCode}
 use Rattle.code_valid.specs.Checking.{BlockStack, check, accepts, marks_of, height_of}
 use Rattle.code_valid.specs.Instance.{IsInstance, Gives, known_types}
 

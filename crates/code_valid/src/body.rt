@@ -1,10 +1,9 @@
 // The check of a body.
 
 ghost use Rattle.std.specs.Prelude.{◌≡◌, ◌<◌, ◌^◌, length, IfOk, IsErrOf};
-ghost use Rattle.module_ast.specs.Limits.{IsWhole};
-ghost use Rattle.module_ast.specs.Positions.{code_size};
-ghost use Rattle.module_ast.specs.Spaces.{spaces_of};
-ghost use Rattle.module_ast.specs.Validity.{KeepsRules, TypesBody, HasBodyMarks};
+ghost use Rattle.module_ast.specs.Validation.{IsWhole, KeepsRules, TypesBody, HasBodyMarks};
+ghost use Rattle.module_ast.specs.Places.{code_size};
+ghost use Rattle.module_ast.specs.Structure.{spaces_of};
 ghost use Rattle.code_valid.specs.Bodies.{TypesIn, HasMarksIn};
 ghost use Rattle.code_valid.specs.declared.invalid.BodyInvalid.{BodyInvalid};
 

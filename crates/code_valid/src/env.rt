@@ -1,10 +1,9 @@
 // What the instructions of a body can name.
 
 ghost use Rattle.std.specs.Prelude.{◌≡◌, ◌<◌, [], length, slice_get, Some, None, IfOk, MatchOption};
-ghost use Rattle.module_ast.specs.Limits.{IsWhole};
-ghost use Rattle.module_ast.specs.Validity.{KeepsRules};
+ghost use Rattle.module_ast.specs.Validation.{IsWhole, KeepsRules};
 ghost use Rattle.code_valid.specs.Bodies.{IsContextOf};
-ghost use Rattle.module_ast.specs.Spaces.{funcs_of, tables_of, memories_of, globals_of, spaces_of};
+ghost use Rattle.module_ast.specs.Structure.{funcs_of, tables_of, memories_of, globals_of, spaces_of};
 ghost use Rattle.code_valid.specs.Checking.{is_some_list};
 
 use crate::locals::Locals;
@@ -26,8 +25,8 @@ pub struct Env<'m> {
 
 impl<'m> Model for Env<'m> {
     ghost use Rattle.std.specs.Prelude.{◌≡◌, []};
-    ghost use Rattle.module_ast.specs.Spaces.{funcs_of, tables_of, memories_of, globals_of, spaces_of};
-    ghost use Rattle.module_ast.specs.Typing.{Context};
+    ghost use Rattle.module_ast.specs.Structure.{funcs_of, tables_of, memories_of, globals_of, spaces_of};
+    ghost use Rattle.module_ast.specs.Validation.{Context};
 
     ghost Value = { Context };
 

@@ -36,8 +36,8 @@ impl Model for Locals {
 
 impl Locals {
     ghost use Rattle.std.specs.Prelude.{◌++◌, ◌^◌, ◌<◌, IfOk, length, slice_get};
-    ghost use Rattle.module_ast.specs.Profile.{locals_of};
-    ghost use Rattle.module_ast.specs.Validity.{declared_locals};
+    ghost use Rattle.module_ast.specs.Binary.{locals_of};
+    ghost use Rattle.module_ast.specs.Validation.{declared_locals};
 
     /// The locals of a function with these parameters whose body lists these groups.
     pub fn new(alloc: Global, params: &[ValType], groups: &[Group]) -> Result<Locals, NoMemory>

@@ -13,7 +13,7 @@ pub struct Mark {
 }
 
 impl Model for Mark {
-    ghost use Rattle.module_ast.specs.Marks.{Mark as Place};
+    ghost use Rattle.module_ast.specs.Places.{Mark as Place};
 
     ghost Value = { Place };
 

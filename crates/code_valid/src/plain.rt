@@ -1,7 +1,7 @@
 // The instructions with no sequence in them, by what they do to the operands.
 
 ghost use Rattle.std.specs.Prelude.{◌≡◌, ◌<◌, ◌^◌, ◌&&◌, nat_le, slice_get, IfOk};
-ghost use Rattle.module_ast.specs.Tree as tree;
+ghost use Rattle.module_ast.specs.Structure.Trees as tree;
 ghost use Rattle.code_valid.specs.Checking.{apply, stack_effect, same_types, takes_these, all_take, is_some_list};
 ghost use Rattle.code_valid.specs.Control.{innermost_stack, labels_of, context_in};
 ghost use Rattle.code_valid.specs.Answers.{Moves};

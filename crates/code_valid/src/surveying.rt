@@ -1,16 +1,14 @@
 // The check of a body in one pass, with what it notes.
 
 ghost use Rattle.std.specs.Prelude.{◌≡◌, ◌+◌, ◌<◌, ◌^◌, Some, None, IfOk, MatchResult};
-ghost use Rattle.module_ast.specs.Tree.{done};
-ghost use Rattle.module_ast.specs.Seen.{before};
-ghost use Rattle.module_ast.specs.Positions.{code_size};
-ghost use Rattle.module_ast.specs.Typing.{block_type, inside};
+ghost use Rattle.module_ast.specs.Structure.{done, before, IsPlainInstr};
+ghost use Rattle.module_ast.specs.Places.{code_size};
+ghost use Rattle.module_ast.specs.Validation.{block_type, inside};
 ghost use Rattle.module_ast.specs.declared.code.Instr.TheVariants.{Block, Loop, If, IfElse};
 ghost use Rattle.ctrl_stack.specs.Stack.{types_by};
 ghost use Rattle.code_valid.specs.Checking.{fresh, put_types};
 ghost use Rattle.code_valid.specs.Control.{innermost_stack, height_here, context_in};
 ghost use Rattle.code_valid.specs.Survey.{survey};
-ghost use Rattle.module_ast.specs.Plains.{IsPlainInstr};
 ghost use Rattle.code_valid.specs.Answers.{OnRefusal, SurveysCode, Steps, Passes};
 
 use crate::blocks::{OpenBlocks, copied};

@@ -22,7 +22,7 @@ pub struct TypedBody<'m> {
 
 impl<'m> Model for TypedBody<'m> {
     ghost use Rattle.std.specs.Prelude.{◌≡◌};
-    ghost use Rattle.module_ast.specs.Spaces.{spaces_of};
+    ghost use Rattle.module_ast.specs.Structure.{spaces_of};
     ghost use Rattle.code_valid.specs.Bodies.{BodyTyping, IsTypedBody, HasBodySizes};
 
     ghost Value = { BodyTyping };
@@ -39,7 +39,7 @@ impl<'m> Model for TypedBody<'m> {
 
 impl<'m> TypedBody<'m> {
     ghost use Rattle.std.specs.Prelude.{◌≡◌, slice_get, Some, IfOk};
-    ghost use Rattle.module_ast.specs.Spaces.{spaces_of};
+    ghost use Rattle.module_ast.specs.Structure.{spaces_of};
     ghost use Rattle.code_valid.specs.Bodies.{IsTypedBody, IsContextOf, HasBodySizes};
 
     /// This body, which has been checked, of a module with these index spaces.

@@ -1,8 +1,7 @@
 // The check of one body by itself.
 
 ghost use Rattle.std.specs.Prelude.{IsTrue};
-ghost use Rattle.module_ast.specs.Limits.{IsWhole};
-ghost use Rattle.module_ast.specs.Validity.{KeepsRules};
+ghost use Rattle.module_ast.specs.Validation.{IsWhole, KeepsRules};
 
 use crate::files::{file_of, put_section};
 use crate::typing::has_marks;

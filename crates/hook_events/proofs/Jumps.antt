@@ -6,9 +6,7 @@ use Rattle.std.proofs.lemmas.List.{take-append-drop}
 use Rattle.std.proofs.lemmas.List.Elements.{All-append, filter-append}
 use Rattle.std.proofs.lemmas.Option.{slice_get_read, get_or_from_slice_get}
 use Rattle.branch_resolve.specs.declared.Block.{Block}
-use Rattle.module_ast.specs.declared.module.Loc.{Loc}
-use Rattle.hook_select.specs.declared.Hooks.{Hooks}
-use Rattle.hook_select.specs.declared.Event.{Event}
+use Rattle.wasm_sem.specs.Types.{Loc, Hooks, Event}
 use Rattle.hook_select.specs.declared.Event.TheVariants.{BrTable}
 use Rattle.static_info.specs.declared.FuncInfo.{FuncInfo}
 use Rattle.static_info.specs.declared.Info.{Info}

@@ -8,17 +8,13 @@ use Rattle.std.specs.List.{slice_index}
 use Rattle.std.proofs.lemmas.Bool.{cases_lt}
 use Rattle.std.proofs.lemmas.List.{drop_more, drop-drop, length-map}
 use Rattle.std.proofs.lemmas.Option.{slice_get_within, get_or_from_slice_get}
-use Rattle.wasm_num.specs.declared.ValType.{ValType}
+use Rattle.wasm_sem.specs.Types.{ValType, Value, NumOp, Loc, HookKey}
 use Rattle.wasm_num.specs.declared.ValType.TheVariants as types
-use Rattle.wasm_num.specs.declared.Value.{Value}
 use Rattle.wasm_num.specs.declared.Value.TheVariants.{I32, I64}
 use Rattle.hook_mono.specs.Words.{word_types, value_types}
-use Rattle.wasm_num.specs.declared.NumOp.{NumOp}
 use Rattle.wasm_num.specs.declared.NumOp.TheVariants as ops
 use Rattle.wasm_num.specs.Shapes.{num_operands, num_result}
-use Rattle.module_ast.specs.declared.module.Loc.{Loc}
 use Rattle.hook_select.specs.declared.Event.TheVariants as events
-use Rattle.hook_mono.specs.declared.HookKey.{HookKey}
 use Rattle.hook_mono.specs.declared.HookKey.TheVariants as keys
 use Rattle.static_info.specs.declared.Info.{Info}
 use Rattle.static_info.specs.Read.{value_number, numbers, values_from, value_at, number_at, callee_in, num_event, key_event}

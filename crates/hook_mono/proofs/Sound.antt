@@ -9,10 +9,9 @@ use Rattle.wasm_num.specs.declared.ValType.TheVariants.{I32, I64}
 use Rattle.wasm_num.specs.declared.BlockKind.{BlockKind}
 use Rattle.wasm_num.specs.Names.{num_name}
 use Rattle.module_ast.specs.declared.ops.VarOp.TheVariants.{Get, Set, Tee}
-use Rattle.module_ast.specs.OpNames.{load_name, store_name}
+use Rattle.module_ast.specs.Binary.{load_name, store_name, load_ops, store_ops}
 use Rattle.wasm_num.specs.Kinds.{all_kinds, kind_name}
 use Rattle.wasm_num.specs.Opcodes.{num_ops}
-use Rattle.module_ast.specs.Opcodes.{load_ops, store_ops}
 use Rattle.hook_mono.specs.declared.HookKey.{HookKey}
 use Rattle.hook_mono.specs.declared.HookKey.TheVariants.{Plain, Begin, End, Const, Num, Drop, Select, Local, Global, Load, Store, CallPre, IndirectPre, CallPost, Return}
 use Rattle.hook_mono.specs.Orders.{both_types}

@@ -5,7 +5,7 @@ use Rattle.wasm_num.specs.declared.ValType.TheVariants.{I32, I64}
 use Rattle.module_ast.specs.declared.ops.VarOp.{VarOp}
 use Rattle.module_ast.specs.declared.ops.VarOp.TheVariants.{Get, Set, Tee}
 use Rattle.wasm_num.specs.Names.{num_name}
-use Rattle.module_ast.specs.OpNames.{load_name, store_name}
+use Rattle.module_ast.specs.Binary.{load_name, store_name}
 use Rattle.hook_select.specs.declared.GroupName.{GroupName}
 use Rattle.hook_select.specs.declared.GroupName.TheVariants as groups
 use Rattle.wasm_num.specs.Kinds.{kind_name}

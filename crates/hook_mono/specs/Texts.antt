@@ -15,7 +15,7 @@ use Rattle.module_ast.specs.declared.ops.LoadOp.{LoadOp}
 use Rattle.module_ast.specs.declared.ops.LoadOp.TheVariants.{I32Load}
 use Rattle.module_ast.specs.declared.ops.StoreOp.{StoreOp}
 use Rattle.module_ast.specs.declared.ops.StoreOp.TheVariants.{I32Store}
-use Rattle.module_ast.specs.OpNames.{load_name, store_name}
+use Rattle.module_ast.specs.Binary.{load_name, store_name}
 use Rattle.module_ast.specs.Texts.{Text}
 use Rattle.module_ast.specs.Ascii.{ascii_text}
 use Rattle.hook_select.specs.declared.GroupName.{GroupName}

@@ -3,7 +3,7 @@
 ghost use Rattle.std.specs.Prelude.{◌≡◌, ℕ, List, IfOk, option_and_then};
 ghost use Rattle.std.specs.Option.{option_map};
 ghost use Rattle.wasm_num.specs.Names.{num_name};
-ghost use Rattle.module_ast.specs.OpNames.{load_name, store_name};
+ghost use Rattle.module_ast.specs.Binary.{load_name, store_name};
 ghost use Rattle.wasm_num.specs.Kinds.{all_kinds, kind_name};
 ghost use Rattle.hook_mono.specs.Names.{plain_name, const_name, IsKeyOf};
 ghost use Rattle.hook_mono.specs.Reading.{named, strip, letter_type, letter_types, one_type, first_read, fixed_readers, letter_readers, types_readers, key_named};

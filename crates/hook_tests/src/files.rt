@@ -1,9 +1,8 @@
 // Modules from the bytes of short files.
 
 ghost use Rattle.std.specs.Prelude.{◌≤◌, length, IfSome};
-ghost use Rattle.module_ast.specs.Canonical.{module_bytes};
-ghost use Rattle.module_ast.specs.Limits.{narrow, IsWhole};
-ghost use Rattle.module_ast.specs.Profile.{IsWithin};
+ghost use Rattle.module_ast.specs.Binary.{module_bytes, IsWithin};
+ghost use Rattle.module_ast.specs.Validation.{narrow, IsWhole};
 ghost use Rattle.instrument.specs.Made.{narrow_file};
 
 use module_ast::module::{Limits, Module};

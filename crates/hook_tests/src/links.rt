@@ -1,6 +1,6 @@
 // What links, and a run of nothing.
 
-ghost use Rattle.wasm_sem.specs.Link.{IsScriptInRange};
+ghost use Rattle.wasm_sem.specs.Execution.{IsScriptInRange};
 
 use crate::files::valid_of;
 use module_ast::module::{Export, ExportKind};

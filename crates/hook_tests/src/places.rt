@@ -1,8 +1,8 @@
 // A body whose places, targets and ends are known by counting its opcodes.
 
 ghost use Rattle.std.specs.Prelude.{◌≡◌, IfOk};
-ghost use Rattle.module_ast.specs.Positions.{code_size, code_nesting};
-ghost use Rattle.module_ast.specs.Seen.{code_of};
+ghost use Rattle.module_ast.specs.Places.{code_size, code_nesting};
+ghost use Rattle.module_ast.specs.Structure.{code_of};
 
 use branch_resolve::{Block, EndOf, Opcode, Scopes, Walk, sizes_of};
 use module_ast::code::{BlockType, Code, Instr};

@@ -1,7 +1,7 @@
 // Runs of modules, and of the same modules with hooks, whose answers are known from the standard.
 
 ghost use Rattle.std.specs.Prelude.{OnOk};
-ghost use Rattle.wasm_sem.specs.Link.{IsScriptInRange, Links};
+ghost use Rattle.wasm_sem.specs.Execution.{IsScriptInRange, Links};
 
 use crate::files::valid_of;
 use run_session::{LinkFault, Session, read_script};

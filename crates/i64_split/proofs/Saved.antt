@@ -3,8 +3,7 @@ use Rattle.std.proofs.Common.{◌≡◌, ℕ, ◌+◌, ◌<◌, List, [], ◌∷
 use Rattle.std.proofs.lemmas.List.{take_more, at_drop_more, map-append}
 use Rattle.wasm_num.specs.declared.ValType.{ValType}
 use Rattle.wasm_num.specs.declared.ValType.TheVariants.{I32, I64}
-use Rattle.module_ast.specs.Plains.{instr_of}
-use Rattle.module_ast.specs.Tree.{local_set}
+use Rattle.module_ast.specs.Structure.{instr_of, local_set}
 use Rattle.module_ast.specs.declared.code.Instr.{Instr}
 use Rattle.module_ast.specs.declared.code.Instr.TheVariants.{LocalGet, LocalSet}
 use Rattle.i64_split.specs.declared.Pool.{Pool}

@@ -1,8 +1,7 @@
 -- Instructions added to code.
 use Rattle.std.specs.Prelude.{◌≡◌, List, ◌++◌, map}
 use Rattle.module_ast.specs.declared.code.Instr.{Instr}
-use Rattle.module_ast.specs.Plains.{instr_of}
-use Rattle.module_ast.specs.Tree.{Plain}
+use Rattle.module_ast.specs.Structure.{instr_of, Plain}
 
 -- plain instructions as values of the program
 abbrev pub instrs : List Plain → List Instr

@@ -1,8 +1,7 @@
 // Code with its calls remapped.
 
 ghost use Rattle.std.specs.Prelude.{◌≡◌, IfOk};
-ghost use Rattle.module_ast.specs.Tree.{Tree, done};
-ghost use Rattle.module_ast.specs.Seen.{before, code_of};
+ghost use Rattle.module_ast.specs.Structure.{Tree, done, before, code_of};
 ghost use Rattle.index_remap.specs.Remap.{map_tree, Maps};
 
 use crate::Remap;
@@ -24,7 +23,7 @@ impl Remap {
 
     /// A copy of these instructions with each call remapped, as `map_code` makes it.
     #[cycle(map)]
-    #[tactic(auto, using(module_ast::specs::Seen::onto_push))]
+    #[tactic(auto, using(module_ast::specs::Structure::Seen::onto_push))]
     pub fn map_body(&self, alloc: Global, code: &[Instr]) -> Result<Vec<Instr>, AllocError>
         requires { Maps self.now (code_of code.now) }
         ensures { IfOk result (λ copy. code_of copy.items ≡ map_tree self.now (code_of code.now)) }

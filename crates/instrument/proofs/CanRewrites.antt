@@ -2,28 +2,16 @@
 use Rattle.std.proofs.Common.{◌≡◌, ℕ, ◌+◌, ◌^◌, ◌<◌, ◌≤◌, List, [], ◌∷◌, length, Option, Some, None, All, IfSome, sym, ap, ◌∙◌, subst, arith, slice_get, length-append, option_map}
 use Rattle.std.proofs.lemmas.List.Elements.{All-weaker, recursion_from_All}
 use Rattle.std.proofs.lemmas.Option.{slice_get_within}
-use Rattle.wasm_num.specs.declared.ValType.{ValType}
-use Rattle.module_ast.specs.declared.module.ExportKind.{ExportKind}
+use Rattle.wasm_sem.specs.Types.{ValType, ExportKind, Export, Element, Body, Import, Module, Hooks, HookKey}
 use Rattle.module_ast.specs.declared.module.ExportKind.TheVariants.{Func, Table, Memory, Global}
-use Rattle.module_ast.specs.declared.module.Export.{Export}
-use Rattle.module_ast.specs.declared.module.Element.{Element}
-use Rattle.module_ast.specs.declared.module.Body.{Body}
-use Rattle.module_ast.specs.declared.module.Import.{Import}
-use Rattle.module_ast.specs.declared.module.Module.{Module}
 use Rattle.module_ast.specs.declared.module.Which.TheVariants.{Functions, Types, Locals}
-use Rattle.module_ast.specs.Canonical.{body_bytes}
-use Rattle.module_ast.specs.Limits.{narrow}
-use Rattle.module_ast.specs.Marks.{func_type_or}
-use Rattle.module_ast.specs.Profile.{locals_of, IsWithin}
-use Rattle.module_ast.specs.Spaces.{imported_funcs, funcs_of}
-use Rattle.module_ast.specs.Tree.{Tree, done, plain, block, loop, if_then, if_else, Plain, call}
-use Rattle.module_ast.specs.Typing.{Context, push, TypesPlain, TypesCode}
-use Rattle.module_ast.specs.Validity.{function_types, export_indices, start_index, element_funcs, declared_locals, count_of, body_context, IsValid}
+use Rattle.module_ast.specs.Binary.{body_bytes, locals_of, IsWithin}
+use Rattle.module_ast.specs.Validation.{narrow, Context, push, TypesPlain, TypesCode, function_types, export_indices, start_index, element_funcs, declared_locals, count_of, body_context, IsValid}
+use Rattle.module_ast.specs.Places.{func_type_or}
+use Rattle.module_ast.specs.Structure.{imported_funcs, funcs_of, Tree, done, plain, block, loop, if_then, if_else, Plain, call}
 use Rattle.module_ast.proofs.Each.{all_at}
 use Rattle.module_ast.proofs.Indexed.{each_in}
 use Rattle.module_ast.proofs.Sizes.{within_all}
-use Rattle.hook_select.specs.declared.Hooks.{Hooks}
-use Rattle.hook_mono.specs.declared.HookKey.{HookKey}
 use Rattle.hook_mono.specs.Needed.{Site, import_count, site_of, needed_keys}
 use Rattle.index_remap.specs.declared.Remap.{Remap}
 use Rattle.index_remap.specs.Remap.{MapsIndex, MapsPlain, Maps, MapsReference, MapsModule}

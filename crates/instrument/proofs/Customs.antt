@@ -2,23 +2,16 @@
 use Rattle.std.proofs.Common.{◌≡◌, ◌<◌, ℕ, suc, nat_le, List, [], ◌∷◌, Option, Some, None, refl, sym, ap, subst, ◌∙◌, IfSome, slice_get}
 use Rattle.std.specs.List.{AllZip}
 use Rattle.std.proofs.lemmas.List.Elements.{All-weaker}
-use Rattle.module_ast.specs.declared.module.Export.{Export}
-use Rattle.module_ast.specs.declared.module.ExportKind.{ExportKind}
+use Rattle.wasm_sem.specs.Types.{Export, ExportKind, FuncType, Limits, Module, Hooks, HookKey}
 use Rattle.module_ast.specs.declared.module.ExportKind.TheVariants.{Func, Table, Memory, Global}
-use Rattle.module_ast.specs.declared.module.FuncType.{FuncType}
-use Rattle.module_ast.specs.declared.module.Limits.{Limits}
-use Rattle.module_ast.specs.declared.module.Module.{Module}
 use Rattle.module_ast.specs.declared.module.Which.TheVariants.{Functions, Types, Parameters, Locals, Nesting}
-use Rattle.module_ast.specs.Limits.{wide}
-use Rattle.module_ast.specs.Profile.{IsWithin}
-use Rattle.module_ast.specs.Spaces.{funcs_of, memories_of, tables_of}
+use Rattle.module_ast.specs.Validation.{wide, Rule, export_indices, start_type, func_type, count_of, Keeps, KeepsRules, IsValid}
+use Rattle.module_ast.specs.Binary.{IsWithin}
+use Rattle.module_ast.specs.Structure.{funcs_of, memories_of, tables_of}
 use Rattle.module_ast.specs.Texts.{Text}
-use Rattle.module_ast.specs.Validity.{Rule, export_indices, start_type, func_type, count_of, Keeps, KeepsRules, IsValid}
-use Rattle.hook_select.specs.declared.Hooks.{Hooks}
-use Rattle.hook_mono.specs.declared.HookKey.{HookKey}
 use Rattle.wasm_sem.specs.declared.Call.{Call}
 use Rattle.wasm_sem.specs.declared.Script.{Script}
-use Rattle.wasm_sem.specs.Link.{Refusal, call_refusal, calls_refusal, callees_of, exported_func, first_refusal, fit_all, func_at, least_size, link, memory_cap, refusal_unless, segment_range, table_cap}
+use Rattle.wasm_sem.specs.Execution.{Refusal, call_refusal, calls_refusal, callees_of, exported_func, first_refusal, fit_all, func_at, least_size, link, memory_cap, refusal_unless, segment_range, table_cap}
 use Rattle.static_info.specs.Belongs.{FuncImport, IsHook}
 use Rattle.instrument.specs.Laws.{CustomsChangeNothing}
 use Rattle.instrument.specs.Same.{Same, SameRuns}

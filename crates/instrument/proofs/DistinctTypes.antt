@@ -4,8 +4,7 @@ use Rattle.std.specs.List.{list_any, position_or_len}
 use Rattle.std.proofs.lemmas.Bool.Decides.{nat_tests}
 use Rattle.std.proofs.lemmas.List.{length-map, map_more, map_push}
 use Rattle.std.proofs.lemmas.List.Sums.{fold-append}
-use Rattle.module_ast.specs.declared.module.FuncType.{FuncType}
-use Rattle.hook_mono.specs.declared.HookKey.{HookKey}
+use Rattle.wasm_sem.specs.Types.{FuncType, HookKey}
 use Rattle.hook_mono.specs.Words.{hook_type}
 use Rattle.instrument.specs.Output.{find_type, with_type, distinct_types}
 

@@ -2,11 +2,10 @@
 use Rattle.std.proofs.Common.{◌≡◌, ℕ, zero, suc, ◌+◌, ◌^◌, ◌<◌, ◌≤◌, List, [], ◌++◌, length, map, sym, ap, ◌∙◌, arith, length-append, append_assoc}
 use Rattle.std.proofs.lemmas.List.{length-map}
 use Rattle.leb_binary.specs.Shortest.{unsigned_bytes}
-use Rattle.module_ast.specs.declared.module.Module.{Module}
-use Rattle.module_ast.specs.Canonical.{module_bytes}
+use Rattle.wasm_sem.specs.Types.{Module, HookKey}
+use Rattle.module_ast.specs.Binary.{module_bytes}
 use Rattle.module_ast.specs.declared.module.Which.TheVariants.{Types}
 use Rattle.code_valid.proofs.Few.{entries_few}
-use Rattle.hook_mono.specs.declared.HookKey.{HookKey}
 use Rattle.index_remap.specs.declared.Remap.{Remap}
 use Rattle.wasm_encode.specs.Outline.{front_bytes, back_bytes, entries_bytes, code_head}
 use Rattle.wasm_encode.proofs.Outlines.{in_three}

@@ -1,16 +1,12 @@
 -- Reports, from whole runs.
 use Rattle.std.proofs.Common.{◌≡◌, ℕ, List, [], ◌∷◌, ◌++◌, Option, Some, None, Bool, true, false, refl, sym, ap, ◌∙◌, subst, All, is_some, IsTrue}
 use Rattle.std.proofs.lemmas.List.Elements.{All-nil, All-cons, All-head, All-tail}
-use Rattle.module_ast.specs.declared.module.Module.{Module}
+use Rattle.wasm_sem.specs.Types.{Module, Event, GroupName, Hooks}
 use Rattle.module_ast.specs.Lists.{when}
-use Rattle.hook_select.specs.declared.Event.{Event}
-use Rattle.hook_select.specs.declared.GroupName.{GroupName}
-use Rattle.hook_select.specs.declared.Hooks.{Hooks}
 use Rattle.hook_select.specs.Events.{group_of}
 use Rattle.hook_select.specs.Groups.{has}
 use Rattle.wasm_sem.specs.declared.Script.{Script}
-use Rattle.wasm_sem.specs.Events.{TraceItem, entry, host_call, event, hook_call, events_in}
-use Rattle.wasm_sem.specs.Trace.{has_group, chosen_items, trace_of}
+use Rattle.wasm_sem.specs.Execution.{TraceItem, entry, host_call, event, hook_call, events_in, has_group, chosen_items, trace_of}
 use Rattle.instrument.specs.Same.{IsPrefix, told_so_far, shown_so_far, SameRuns, ReportsCompose}
 
 -- the events of two stretches stand one behind the other

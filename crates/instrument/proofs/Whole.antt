@@ -1,12 +1,8 @@
 -- Whole runs of the two modules, from their moments.
 use Rattle.std.proofs.Common.{◌≡◌, ℕ, ◌+◌, ◌-◌, List, ◌++◌, Option, true, refl, sym, ap, ap₂, ◌∙◌, subst₂, arith}
-use Rattle.module_ast.specs.declared.module.Module.{Module}
-use Rattle.hook_select.specs.declared.Hooks.{Hooks}
+use Rattle.wasm_sem.specs.Types.{Module, Hooks}
 use Rattle.wasm_sem.specs.declared.Script.{Script}
-use Rattle.wasm_sem.specs.Link.{instance}
-use Rattle.wasm_sem.specs.Machine.{Configuration, configuration, over, opening_configuration, run_of, is_last, is_over}
-use Rattle.wasm_sem.specs.Events.{TraceItem}
-use Rattle.wasm_sem.specs.Trace.{trace, trace_of}
+use Rattle.wasm_sem.specs.Execution.{instance, Configuration, configuration, over, opening_configuration, run_of, is_last, is_over, TraceItem, trace, trace_of}
 use Rattle.wasm_sem.specs.Laws.{slots_in}
 use Rattle.wasm_sem.proofs.Runs.{trace_add}
 use Rattle.wasm_sem.proofs.Ended.{slots_stay, stays_over, shows_no_more}

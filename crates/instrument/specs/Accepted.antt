@@ -1,12 +1,9 @@
 -- Which files get hooks, and what is written for them.
 use Rattle.std.specs.Prelude.{◌≡◌, ℕ, List}
-use Rattle.module_ast.specs.declared.module.Module.{Module}
-use Rattle.module_ast.specs.Decoding.{Gram}
-use Rattle.module_ast.specs.Profile.{IsWithin}
-use Rattle.module_ast.specs.Validity.{IsValid}
-use Rattle.module_ast.specs.Limits.{narrow}
-use Rattle.hook_select.specs.declared.Hooks.{Hooks}
-use Rattle.wasm_sem.specs.Link.{IsFree}
+use Rattle.wasm_sem.specs.Types.{Module, Hooks}
+use Rattle.module_ast.specs.Binary.{Gram, IsWithin}
+use Rattle.module_ast.specs.Validation.{IsValid, narrow}
+use Rattle.wasm_sem.specs.Execution.{IsFree}
 use Rattle.instrument.specs.Output.{output_bytes}
 use Rattle.instrument.specs.Made.{IsSound}
 use Rattle.instrument.specs.Same.{Same}

@@ -1,13 +1,8 @@
 -- What a module with hooks is made from.
 use Rattle.std.specs.Prelude.{◌≡◌, ℕ, ◌≤◌, List, [], length}
-use Rattle.module_ast.specs.declared.module.Body.{Body}
-use Rattle.module_ast.specs.declared.module.Module.{Module}
-use Rattle.module_ast.specs.Canonical.{body_bytes, module_bytes}
-use Rattle.module_ast.specs.Limits.{narrow}
-use Rattle.module_ast.specs.Profile.{IsWithin}
-use Rattle.module_ast.specs.Validity.{IsValid}
-use Rattle.hook_select.specs.declared.Hooks.{Hooks}
-use Rattle.hook_mono.specs.declared.HookKey.{HookKey}
+use Rattle.wasm_sem.specs.Types.{Body, Module, Hooks, HookKey}
+use Rattle.module_ast.specs.Binary.{body_bytes, module_bytes, IsWithin}
+use Rattle.module_ast.specs.Validation.{narrow, IsValid}
 use Rattle.hook_mono.specs.Needed.{needed_keys}
 use Rattle.index_remap.specs.declared.Remap.{Remap}
 use Rattle.instrument.specs.Made.{narrow_file}

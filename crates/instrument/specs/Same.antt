@@ -1,17 +1,11 @@
 -- The instrumented module does what the original does, and its hook calls read as the original's selected events.
 use Rattle.std.specs.Prelude.{◌≡◌, ℕ, ◌+◌, ◌*◌, ◌≤◌, List, ◌++◌, map, Option, None, option_map, All, IsTrue, is_some}
-use Rattle.module_ast.specs.declared.module.Module.{Module}
-use Rattle.hook_select.specs.declared.Hooks.{Hooks}
-use Rattle.hook_select.specs.declared.Event.{Event}
+use Rattle.wasm_sem.specs.Types.{Module, Hooks, Event}
 use Rattle.hook_select.specs.Groups.{has}
 use Rattle.hook_select.specs.Events.{group_of}
 use Rattle.hook_mono.specs.Needed.{needed_keys}
 use Rattle.wasm_sem.specs.declared.Script.{Script}
-use Rattle.wasm_sem.specs.Store.{Store}
-use Rattle.wasm_sem.specs.Link.{IsScriptInRange, link}
-use Rattle.wasm_sem.specs.Machine.{Configuration, configuration, Env, over, run_of}
-use Rattle.wasm_sem.specs.Events.{TraceItem, events_in}
-use Rattle.wasm_sem.specs.Trace.{chosen_items, trace_of}
+use Rattle.wasm_sem.specs.Execution.{Store, IsScriptInRange, link, Configuration, configuration, Env, over, run_of, TraceItem, events_in, chosen_items, trace_of}
 use Rattle.index_remap.specs.declared.Remap.{Remap}
 use Rattle.index_remap.specs.Remap.{map_index}
 use Rattle.static_info.specs.declared.Info.{Info}

@@ -1,7 +1,7 @@
 // Which modules may get hooks.
 
 ghost use Rattle.std.specs.Prelude.{◌↔◌, IsTrue};
-ghost use Rattle.wasm_sem.specs.Link.{IsFree};
+ghost use Rattle.wasm_sem.specs.Execution.{IsFree};
 
 use hook_mono::HOOK_MODULE;
 use module_ast::module::Module;

@@ -20,7 +20,7 @@ pub(crate) struct HookTypes {
 
 impl Model for HookTypes {
     ghost use Rattle.std.specs.Prelude.{◌≡◌, List, length, map};
-    ghost use Rattle.module_ast.specs.declared.module.FuncType.{FuncType as shown};
+    ghost use Rattle.wasm_sem.specs.Types.{FuncType as shown};
 
     ghost Value = { List shown };
 

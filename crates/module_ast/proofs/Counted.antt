@@ -3,7 +3,7 @@ use Rattle.std.proofs.Common.{◌≡◌, ◌+◌, List, [], ◌∷◌, length, l
 use Rattle.module_ast.specs.declared.module.GlobalDef.{GlobalDef}
 use Rattle.module_ast.specs.declared.module.Module.{Module}
 use Rattle.module_ast.specs.declared.spaces.Counts.{Counts}
-use Rattle.module_ast.specs.Spaces.{imported_funcs, imported_tables, imported_memories, imported_globals, global_types, imported_counts, space_counts}
+use Rattle.module_ast.specs.Structure.{imported_funcs, imported_tables, imported_memories, imported_globals, global_types, imported_counts, space_counts}
 
 pub length-global_types : (gs : List GlobalDef) → length (global_types gs) ≡ length gs
 length-global_types [] = omega arith

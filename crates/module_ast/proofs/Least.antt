@@ -7,8 +7,7 @@ use Rattle.leb_binary.specs.Leb.{IsName}
 use Rattle.leb_binary.specs.Shortest.{unsigned_bytes}
 use Rattle.leb_binary.proofs.Spelled.{shortest_unsigned}
 use Rattle.leb_binary.proofs.Lengths.{longer_unsigned}
-use Rattle.module_ast.specs.Grammar.{IsU32, AreItems, IsVec, IsSized}
-use Rattle.module_ast.specs.Canonical.{items_bytes, vec_bytes, sized_bytes}
+use Rattle.module_ast.specs.Binary.{IsU32, AreItems, IsVec, IsSized, items_bytes, vec_bytes, sized_bytes}
 
 -- what spells `view x` has at least as many bytes as `f` writes of `x`
 pub record AtLeast {A B : Type 0} (item : List ℕ → B → Type 0) (f : A → List ℕ) (view : A → B) : Type 0 where

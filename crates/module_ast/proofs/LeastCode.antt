@@ -7,13 +7,10 @@ use Rattle.module_ast.specs.declared.code.BlockType.TheVariants.{Empty, Value, I
 use Rattle.module_ast.specs.declared.ops.MemArg.{MemArg}
 use Rattle.leb_binary.specs.Shortest.{unsigned_bytes, signed_bytes}
 use Rattle.leb_binary.proofs.Lengths.{shortest_signed}
-use Rattle.module_ast.specs.Grammar as grammar
-use Rattle.module_ast.specs.Grammar.{IsU32, IsValType, IsBlockType, IsMemArg, IsPlain, IsCode, IsExpr, IsOp}
-use Rattle.module_ast.specs.Canonical.{vec_bytes, val_type_bytes, block_type_bytes, mem_arg_bytes, plain_bytes, code_bytes, expr_bytes}
-use Rattle.module_ast.specs.Profile.{code_node, block_type_node}
+use Rattle.module_ast.specs.Binary.Grammar as grammar
+use Rattle.module_ast.specs.Binary.{IsU32, IsValType, IsBlockType, IsMemArg, IsPlain, IsCode, IsExpr, IsOp, vec_bytes, val_type_bytes, block_type_bytes, mem_arg_bytes, plain_bytes, code_bytes, expr_bytes, code_node, block_type_node, load_opcode, store_opcode}
 use Rattle.wasm_num.specs.Opcodes.{num_opcode}
-use Rattle.module_ast.specs.Opcodes.{load_opcode, store_opcode}
-use Rattle.module_ast.specs.Tree.{Tree, done, plain, block, loop, if_then, if_else, Plain, br, br_if, br_table, call, call_indirect, local_get, local_set, local_tee, global_get, global_set, load, store, i32_const, i64_const, num}
+use Rattle.module_ast.specs.Structure.{Tree, done, plain, block, loop, if_then, if_else, Plain, br, br_if, br_table, call, call_indirect, local_get, local_set, local_tee, global_get, global_set, load, store, i32_const, i64_const, num}
 use Rattle.module_ast.proofs.Least.{least_same, least_both, least_op, u32_least, indices_least}
 
 -- types

@@ -16,11 +16,9 @@ use Rattle.module_ast.specs.declared.module.Segment.{Segment}
 use Rattle.module_ast.specs.declared.module.Group.{Group}
 use Rattle.module_ast.specs.declared.module.Body.{Body}
 use Rattle.leb_binary.specs.Shortest.{unsigned_bytes}
-use Rattle.module_ast.specs.Grammar as grammar
+use Rattle.module_ast.specs.Binary.Grammar as grammar
 use Rattle.leb_binary.specs.Reading.{IsByte}
-use Rattle.module_ast.specs.Grammar.{AreItems, IsVec, IsValType, IsFuncType, IsMemoryType, IsTableType, IsMutability, IsGlobalType, IsItem, IsImport, IsGlobal, IsExportKind, IsExport, IsElement, IsGroup, IsBody, IsSegment}
-use Rattle.module_ast.specs.Canonical.{vec_bytes, sized_bytes, val_type_bytes, expr_bytes, func_type_bytes, limits_bytes, table_bytes, mutability_bytes, global_type_bytes, item_bytes, import_bytes, global_bytes, kind_byte, export_bytes, element_bytes, group_bytes, body_bytes, segment_bytes}
-use Rattle.module_ast.specs.Profile.{func_type_node, global_type_node, item_node, import_node, global_node, export_node, element_node, group_node, body_node, segment_node}
+use Rattle.module_ast.specs.Binary.{AreItems, IsVec, IsValType, IsFuncType, IsMemoryType, IsTableType, IsMutability, IsGlobalType, IsItem, IsImport, IsGlobal, IsExportKind, IsExport, IsElement, IsGroup, IsBody, IsSegment, vec_bytes, sized_bytes, val_type_bytes, expr_bytes, func_type_bytes, limits_bytes, table_bytes, mutability_bytes, global_type_bytes, item_bytes, import_bytes, global_bytes, kind_byte, export_bytes, element_bytes, group_bytes, body_bytes, segment_bytes, func_type_node, global_type_node, item_node, import_node, global_node, export_node, element_node, group_node, body_node, segment_node}
 use Rattle.module_ast.proofs.Least.{AtLeast, least_same, least_both, least_op, u32_least, indices_least, name_least, vec_least}
 use Rattle.module_ast.proofs.LeastCode.{val_type_least, expr_least}
 

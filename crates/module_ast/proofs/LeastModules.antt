@@ -5,11 +5,8 @@ use Rattle.std.proofs.lemmas.List.{map-id}
 use Rattle.module_ast.specs.declared.module.Range.{Range}
 use Rattle.module_ast.specs.declared.module.Module.{Module}
 use Rattle.leb_binary.specs.Shortest.{unsigned_bytes}
-use Rattle.module_ast.specs.Grammar as grammar
-use Rattle.module_ast.specs.Grammar.{IsU32, AreItems, IsVec, IsSized, IsBody, IsOp, Section, IsSection, IsFuncType, IsImport, IsTableType, IsMemoryType, IsGlobal, IsExport, IsElement, IsSegment, IsModule, header, empty_module, with_section, with_sections, custom_section, type_section, import_section, function_section, table_section, memory_section, global_section, export_section, start_section, element_section, code_section, data_section}
-use Rattle.module_ast.specs.Canonical.{vec_bytes, sized_bytes, vec_section, start_bytes, module_bytes, func_type_bytes, import_bytes, table_bytes, limits_bytes, global_bytes, export_bytes, element_bytes, body_bytes, segment_bytes}
-use Rattle.module_ast.specs.Profile.{tree_of, func_type_node, import_node, global_node, export_node, element_node, body_node, segment_node}
-use Rattle.module_ast.specs.Shortest.{CanonicalBytesAreShortest}
+use Rattle.module_ast.specs.Binary.Grammar as grammar
+use Rattle.module_ast.specs.Binary.{IsU32, AreItems, IsVec, IsSized, IsBody, IsOp, Section, IsSection, IsFuncType, IsImport, IsTableType, IsMemoryType, IsGlobal, IsExport, IsElement, IsSegment, IsModule, header, empty_module, with_section, with_sections, custom_section, type_section, import_section, function_section, table_section, memory_section, global_section, export_section, start_section, element_section, code_section, data_section, vec_bytes, sized_bytes, vec_section, start_bytes, module_bytes, func_type_bytes, import_bytes, table_bytes, limits_bytes, global_bytes, export_bytes, element_bytes, body_bytes, segment_bytes, tree_of, func_type_node, import_node, global_node, export_node, element_node, body_node, segment_node, CanonicalBytesAreShortest}
 use Rattle.module_ast.proofs.Least.{AtLeast, least_op, u32_least, index_least, least_sized, vec_least, sized_least}
 use Rattle.module_ast.proofs.LeastEntries.{func_type_least, import_least, table_least, memory_least, global_least, export_least, element_least, body_least, segment_least}
 

@@ -2,10 +2,8 @@
 use Rattle.std.proofs.Common.{◌≡◌, refl, sym, ap, ◌∙◌}
 use Rattle.std.specs.Prelude.{map, false}
 use Rattle.module_ast.specs.declared.module.Module.{Module}
-use Rattle.module_ast.specs.Grammar as grammar
-use Rattle.module_ast.specs.Grammar.{type_section, import_section, global_section, element_section, code_section, data_section}
-use Rattle.module_ast.specs.Profile.{some_in, func_type_node, import_node, global_node, export_node, element_node, body_node, segment_node, tree_of, section_floats}
-use Rattle.module_ast.specs.Decoding.{body_floats}
+use Rattle.module_ast.specs.Binary.Grammar as grammar
+use Rattle.module_ast.specs.Binary.{type_section, import_section, global_section, element_section, code_section, data_section, some_in, func_type_node, import_node, global_node, export_node, element_node, body_node, segment_node, tree_of, section_floats, body_floats}
 use Rattle.module_ast.specs.Laws.{ModulesAreUnique, ModulesHaveNoFloat, TreesWithoutFloatAreModules}
 use Rattle.module_ast.proofs.Trees.{IsView, list_alone, list_view, func_type_back, func_type_floats, func_type_view, import_back, import_floats, import_view, global_back, global_floats, global_view, export_back, element_back, element_floats, element_view, body_back, body_view, segment_back, segment_floats, segment_view}
 

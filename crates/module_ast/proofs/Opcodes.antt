@@ -7,7 +7,7 @@ use Rattle.module_ast.specs.declared.ops.LoadOp.{LoadOp}
 use Rattle.module_ast.specs.declared.ops.LoadOp.TheVariants.{I32Load}
 use Rattle.module_ast.specs.declared.ops.StoreOp.{StoreOp}
 use Rattle.module_ast.specs.declared.ops.StoreOp.TheVariants.{I32Store}
-use Rattle.module_ast.specs.Opcodes.{load_ops, load_opcode, load_of_opcode, store_ops, store_opcode, store_of_opcode}
+use Rattle.module_ast.specs.Binary.{load_ops, load_opcode, load_of_opcode, store_ops, store_opcode, store_of_opcode}
 
 pub load_found : (op : LoadOp) → load_of_opcode (load_opcode op) ≡ Some op
 load_found I32Load = refl

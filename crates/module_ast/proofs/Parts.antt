@@ -2,10 +2,8 @@
 use Rattle.std.proofs.Common.{◌≡◌, ℕ, ◌^◌, ◌<◌, ◌≤◌, ◌⊎◌, inl, inr, List, [], ◌∷◌, ◌++◌, length, refl, sym, ap, ◌∙◌, subst, append_assoc, append-nil, arith}
 use Rattle.std.specs.Prelude.{map, max, All, Option, Some, None}
 use Rattle.leb_binary.specs.Shortest.{unsigned_bytes}
-use Rattle.module_ast.specs.Grammar as grammar
-use Rattle.module_ast.specs.Grammar.{AreItems, IsU32, IsVec, IsSized, Section, IsSection, id_of, AreOrdered, with_section, with_sections, start_section}
-use Rattle.module_ast.specs.Canonical.{vec_bytes, sized_bytes, vec_section, start_bytes}
-use Rattle.module_ast.specs.Fits.{FitsIndex, FitsOption}
+use Rattle.module_ast.specs.Binary.Grammar as grammar
+use Rattle.module_ast.specs.Binary.{AreItems, IsU32, IsVec, IsSized, Section, IsSection, id_of, AreOrdered, with_section, with_sections, start_section, vec_bytes, sized_bytes, vec_section, start_bytes, FitsIndex, FitsOption}
 use Rattle.module_ast.proofs.Writers.{Writes, front_short, back_short, rest_short, vec_writes, sized_writes, index_writes}
 
 -- A part: its place among the sections, its bytes, the sections that they are, what these set in a module, and how a

@@ -3,10 +3,8 @@ use Rattle.std.proofs.Common.{◌≡◌, ℕ, ◌+◌, ◌<◌, List, [], ◌∷
 use Rattle.std.proofs.lemmas.List.{at_drop_more}
 use Rattle.module_ast.specs.declared.code.Instr.{Instr}
 use Rattle.module_ast.specs.declared.code.Instr.TheVariants.{Block, Loop, If, IfElse}
-use Rattle.module_ast.specs.Tree.{Tree, done, plain, Plain, unreachable, weight}
-use Rattle.module_ast.specs.Positions.{code_size}
-use Rattle.module_ast.specs.Plains.{instr_of, plain_of, IsPlainInstr}
-use Rattle.module_ast.specs.Seen.{before, onto, code_of}
+use Rattle.module_ast.specs.Structure.{Tree, done, plain, Plain, unreachable, weight, instr_of, plain_of, IsPlainInstr, before, onto, code_of}
+use Rattle.module_ast.specs.Places.{code_size}
 
 -- the plain instruction that this one is, where it is one
 abbrev pub the_plain : Instr → Plain

@@ -9,11 +9,9 @@ use Rattle.std.specs.List.{AllByRecursion}
 use Rattle.leb_binary.specs.Shortest.{unsigned_bytes}
 use Rattle.module_ast.specs.declared.module.Body.{Body}
 use Rattle.module_ast.specs.declared.module.Module.{Module}
-use Rattle.module_ast.specs.Tree.{Tree, done, plain, block, loop, if_then, if_else, Plain, unreachable}
-use Rattle.module_ast.specs.Grammar.{header}
-use Rattle.module_ast.specs.Canonical.{func_type_bytes, import_bytes, table_bytes, limits_bytes, global_bytes, export_bytes, start_bytes, element_bytes, items_bytes, vec_bytes, vec_section, sized_bytes, block_type_bytes, plain_bytes, code_bytes, expr_bytes, group_bytes, body_bytes, segment_bytes, module_bytes}
-use Rattle.module_ast.specs.Positions.{code_size}
-use Rattle.module_ast.specs.Profile.{AreWithin}
+use Rattle.module_ast.specs.Structure.{Tree, done, plain, block, loop, if_then, if_else, Plain, unreachable}
+use Rattle.module_ast.specs.Binary.{header, func_type_bytes, import_bytes, table_bytes, limits_bytes, global_bytes, export_bytes, start_bytes, element_bytes, items_bytes, vec_bytes, vec_section, sized_bytes, block_type_bytes, plain_bytes, code_bytes, expr_bytes, group_bytes, body_bytes, segment_bytes, module_bytes, AreWithin}
+use Rattle.module_ast.specs.Places.{code_size}
 use Rattle.module_ast.proofs.Indexed.{IsIn}
 
 -- ---- a byte for each opcode

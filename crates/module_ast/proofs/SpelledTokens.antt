@@ -14,12 +14,10 @@ use Rattle.module_ast.specs.declared.ops.LoadOp.{LoadOp}
 use Rattle.module_ast.specs.declared.ops.LoadOp.TheVariants as loads
 use Rattle.module_ast.specs.declared.ops.StoreOp.{StoreOp}
 use Rattle.module_ast.specs.declared.ops.StoreOp.TheVariants as stores
-use Rattle.module_ast.specs.Opcodes.{load_opcode, load_of_opcode, store_opcode, store_of_opcode}
+use Rattle.module_ast.specs.Binary.{load_opcode, load_of_opcode, store_opcode, store_of_opcode, IsU32, IsMemArg, IsPlain, IsFloatOp, IsFloatAccess, Token, IsToken, plain_t, float_t, block_t, loop_t, if_t, else_t, end_t, Shape, nothing, bare, index, table, indirect, zero_byte, arg, small, wide, float_bare, float_arg, float_four, float_eight, block_s, loop_s, if_s, else_s, end_s, shape_at, listed, listed_shape, integer_shape, Spells, is_float_op, is_float_access}
 use Rattle.module_ast.specs.declared.ops.MemArg.{MemArg}
 use Rattle.leb_binary.specs.Leb.{IsFront, HasNoFront}
-use Rattle.module_ast.specs.Grammar.{IsU32, IsMemArg, IsPlain, IsFloatOp, IsFloatAccess}
-use Rattle.module_ast.specs.Tree.{Plain, unreachable, nop, br, br_if, br_table, return_, call, call_indirect, drop_, select, local_get, local_set, local_tee, global_get, global_set, load, store, memory_size, memory_grow, i32_const, i64_const, num}
-use Rattle.module_ast.specs.Tokens.{Token, IsToken, plain_t, float_t, block_t, loop_t, if_t, else_t, end_t, Shape, nothing, bare, index, table, indirect, zero_byte, arg, small, wide, float_bare, float_arg, float_four, float_eight, block_s, loop_s, if_s, else_s, end_s, shape_at, listed, listed_shape, integer_shape, Spells, is_float_op, is_float_access}
+use Rattle.module_ast.specs.Structure.{Plain, unreachable, nop, br, br_if, br_table, return_, call, call_indirect, drop_, select, local_get, local_set, local_tee, global_get, global_set, load, store, memory_size, memory_grow, i32_const, i64_const, num}
 use Rattle.module_ast.proofs.Opcodes.{load_exact, load_none, store_exact, store_none}
 use Rattle.module_ast.proofs.Tokens.{told, token_none}
 

@@ -18,10 +18,9 @@ use Rattle.module_ast.specs.declared.module.Element.{Element}
 use Rattle.module_ast.specs.declared.module.Segment.{Segment}
 use Rattle.module_ast.specs.declared.module.Group.{Group}
 use Rattle.module_ast.specs.declared.module.Body.{Body}
-use Rattle.module_ast.specs.Tree.{Tree, done, plain, block, loop, if_then, if_else}
-use Rattle.module_ast.specs.Grammar as grammar
-use Rattle.module_ast.specs.Profile.{block_type_node, code_node, func_type_node, global_type_node, item_node, import_node, global_node, export_node, element_node, segment_node, group_node, body_node, is_floating, some_in, block_floats, code_floats, item_floats}
-use Rattle.module_ast.specs.Decoding.{body_floats}
+use Rattle.module_ast.specs.Structure.{Tree, done, plain, block, loop, if_then, if_else}
+use Rattle.module_ast.specs.Binary.Grammar as grammar
+use Rattle.module_ast.specs.Binary.{block_type_node, code_node, func_type_node, global_type_node, item_node, import_node, global_node, export_node, element_node, segment_node, group_node, body_node, is_floating, some_in, block_floats, code_floats, item_floats, body_floats}
 
 -- A view of the program's values as parts of the grammar: none of them floats, each part that does not float is the
 -- view of one, and of one alone.

@@ -5,10 +5,8 @@ use Rattle.module_ast.specs.declared.module.Body.{Body}
 use Rattle.module_ast.specs.declared.module.Module.{Module}
 use Rattle.module_ast.specs.declared.module.Limits.{Limits}
 use Rattle.module_ast.specs.declared.module.Which.TheVariants.{Nesting}
-use Rattle.module_ast.specs.Decoding.{Gram}
-use Rattle.module_ast.specs.Fits.{FitsIndex, FitsBody}
-use Rattle.module_ast.specs.Limits.{IsWhole}
-use Rattle.module_ast.specs.Profile.{locals_of, limited_counts, IsWithin}
+use Rattle.module_ast.specs.Binary.{Gram, FitsIndex, FitsBody, locals_of, limited_counts, IsWithin}
+use Rattle.module_ast.specs.Validation.{IsWhole}
 use Rattle.module_ast.proofs.LeastModules.{module_least}
 use Rattle.module_ast.proofs.ReadFits.{read_fits}
 use Rattle.module_ast.proofs.Sizes.{within_more}

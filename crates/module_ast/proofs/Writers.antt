@@ -8,9 +8,7 @@ use Rattle.leb_binary.specs.Leb.{IsName}
 use Rattle.leb_binary.specs.Shortest.{unsigned_bytes}
 use Rattle.leb_binary.proofs.Spelled.{spelled_unsigned}
 use Rattle.leb_binary.proofs.Written.{unsigned_last, unsigned_next}
-use Rattle.module_ast.specs.Grammar.{IsU32, AreItems, IsVec, IsSized}
-use Rattle.module_ast.specs.Canonical.{items_bytes, vec_bytes, sized_bytes}
-use Rattle.module_ast.specs.Fits.{FitsIndex}
+use Rattle.module_ast.specs.Binary.{IsU32, AreItems, IsVec, IsSized, items_bytes, vec_bytes, sized_bytes, FitsIndex}
 
 -- both parts of few bytes are few
 pub front_short : (a b : List ℕ) → length (a ++ b) < 2 ^ 32 → length a < 2 ^ 32

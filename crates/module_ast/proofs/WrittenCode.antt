@@ -8,12 +8,9 @@ use Rattle.module_ast.specs.declared.ops.MemArg.{MemArg}
 use Rattle.std.specs.Prelude.{All}
 use Rattle.leb_binary.specs.Shortest.{unsigned_bytes, signed_bytes}
 use Rattle.leb_binary.proofs.Spelled.{spelled_signed}
-use Rattle.module_ast.specs.Grammar as grammar
-use Rattle.module_ast.specs.Grammar.{IsU32, IsVec, IsValType, IsBlockType, IsMemArg, IsPlain, IsCode, IsExpr}
-use Rattle.module_ast.specs.Canonical.{vec_bytes, val_type_bytes, block_type_bytes, mem_arg_bytes, plain_bytes, code_bytes, expr_bytes}
-use Rattle.module_ast.specs.Profile.{code_node, block_type_node}
-use Rattle.module_ast.specs.Tree.{Tree, done, plain, block, loop, if_then, if_else, Plain, br, br_if, br_table, call, call_indirect, local_get, local_set, local_tee, global_get, global_set, load, store, i32_const, i64_const}
-use Rattle.module_ast.specs.Fits.{FitsIndex, FitsBlockType, FitsMemArg, FitsPlain, FitsCode}
+use Rattle.module_ast.specs.Binary.Grammar as grammar
+use Rattle.module_ast.specs.Binary.{IsU32, IsVec, IsValType, IsBlockType, IsMemArg, IsPlain, IsCode, IsExpr, vec_bytes, val_type_bytes, block_type_bytes, mem_arg_bytes, plain_bytes, code_bytes, expr_bytes, code_node, block_type_node, FitsIndex, FitsBlockType, FitsMemArg, FitsPlain, FitsCode}
+use Rattle.module_ast.specs.Structure.{Tree, done, plain, block, loop, if_then, if_else, Plain, br, br_if, br_table, call, call_indirect, local_get, local_set, local_tee, global_get, global_set, load, store, i32_const, i64_const}
 use Rattle.module_ast.proofs.Writers.{front_short, back_short, rest_short, three_short, u32_spelled, index_writes, list_writes}
 
 -- types

@@ -11,12 +11,9 @@ use Rattle.module_ast.specs.declared.module.ExportKind.{ExportKind}
 use Rattle.module_ast.specs.declared.module.ExportKind.TheVariants as kinds
 use Rattle.module_ast.specs.declared.module.Group.{Group}
 use Rattle.leb_binary.specs.Shortest.{unsigned_bytes}
-use Rattle.module_ast.specs.Grammar as grammar
+use Rattle.module_ast.specs.Binary.Grammar as grammar
 use Rattle.leb_binary.specs.Reading.{IsByte}
-use Rattle.module_ast.specs.Grammar.{AreItems, IsVec, IsValType, IsFuncType, IsMemoryType, IsTableType, IsMutability, IsGlobalType, IsItem, IsImport, IsGlobal, IsExportKind, IsExport, IsElement, IsGroup, IsBody, IsSegment, local_count}
-use Rattle.module_ast.specs.Canonical.{vec_bytes, sized_bytes, items_bytes, val_type_bytes, expr_bytes, func_type_bytes, limits_bytes, table_bytes, mutability_bytes, global_type_bytes, item_bytes, import_bytes, global_bytes, kind_byte, export_bytes, element_bytes, group_bytes, body_bytes, segment_bytes}
-use Rattle.module_ast.specs.Profile.{func_type_node, global_type_node, item_node, import_node, global_node, export_node, element_node, group_node, body_node, segment_node, locals_of}
-use Rattle.module_ast.specs.Fits.{FitsIndex, FitsOption, FitsRange, FitsItem, FitsImport, FitsGlobal, FitsExport, FitsElement, FitsBody, FitsSegment}
+use Rattle.module_ast.specs.Binary.{AreItems, IsVec, IsValType, IsFuncType, IsMemoryType, IsTableType, IsMutability, IsGlobalType, IsItem, IsImport, IsGlobal, IsExportKind, IsExport, IsElement, IsGroup, IsBody, IsSegment, local_count, vec_bytes, sized_bytes, items_bytes, val_type_bytes, expr_bytes, func_type_bytes, limits_bytes, table_bytes, mutability_bytes, global_type_bytes, item_bytes, import_bytes, global_bytes, kind_byte, export_bytes, element_bytes, group_bytes, body_bytes, segment_bytes, func_type_node, global_type_node, item_node, import_node, global_node, export_node, element_node, group_node, body_node, segment_node, locals_of, FitsIndex, FitsOption, FitsRange, FitsItem, FitsImport, FitsGlobal, FitsExport, FitsElement, FitsBody, FitsSegment}
 use Rattle.module_ast.proofs.Writers.{Writes, front_short, back_short, rest_short, three_short, u32_spelled, unsigned_some, counted_some, counted_short, vec_writes, name_writes}
 use Rattle.module_ast.proofs.WrittenCode.{val_type_spelled, indices_spelled, expr_spelled}
 

@@ -5,11 +5,8 @@ use Rattle.std.proofs.lemmas.List.{length-map, map-id}
 use Rattle.module_ast.specs.declared.module.Range.{Range}
 use Rattle.module_ast.specs.declared.module.Module.{Module}
 use Rattle.leb_binary.specs.Shortest.{unsigned_bytes}
-use Rattle.module_ast.specs.Grammar as grammar
-use Rattle.module_ast.specs.Grammar.{IsU32, IsFuncType, IsImport, IsTableType, IsMemoryType, IsGlobal, IsExport, IsElement, IsSized, IsBody, IsSegment, header, IsModule, empty_module, type_section, import_section, function_section, table_section, memory_section, global_section, export_section, element_section, code_section, data_section}
-use Rattle.module_ast.specs.Canonical.{sized_bytes, module_bytes, without_customs, func_type_bytes, import_bytes, table_bytes, limits_bytes, global_bytes, export_bytes, element_bytes, body_bytes, segment_bytes}
-use Rattle.module_ast.specs.Profile.{tree_of, func_type_node, import_node, global_node, export_node, element_node, body_node, segment_node}
-use Rattle.module_ast.specs.Fits.{Fits, FitsIndex, FitsRange, FitsImport, FitsGlobal, FitsExport, FitsElement, FitsBody, FitsSegment}
+use Rattle.module_ast.specs.Binary.Grammar as grammar
+use Rattle.module_ast.specs.Binary.{IsU32, IsFuncType, IsImport, IsTableType, IsMemoryType, IsGlobal, IsExport, IsElement, IsSized, IsBody, IsSegment, header, IsModule, empty_module, type_section, import_section, function_section, table_section, memory_section, global_section, export_section, element_section, code_section, data_section, sized_bytes, module_bytes, without_customs, func_type_bytes, import_bytes, table_bytes, limits_bytes, global_bytes, export_bytes, element_bytes, body_bytes, segment_bytes, tree_of, func_type_node, import_node, global_node, export_node, element_node, body_node, segment_node, Fits, FitsIndex, FitsRange, FitsImport, FitsGlobal, FitsExport, FitsElement, FitsBody, FitsSegment}
 use Rattle.module_ast.proofs.Writers.{back_short, index_writes, sized_writes}
 use Rattle.module_ast.proofs.WrittenEntries.{func_type_writes, import_writes, table_writes, memory_writes, global_writes, export_writes, element_writes, body_writes, segment_writes}
 use Rattle.module_ast.proofs.Parts.{Part, IsPart, entries, entries_part, start_of, start_part, all_bytes, all_sections, set_all, AreParts, AreClear, behind_front, all_spelled, all_ordered, all_collected}

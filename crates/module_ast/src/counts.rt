@@ -1,7 +1,7 @@
 // Counts over a sequence of instructions.
 
 ghost use Rattle.std.specs.Prelude.{◌≡◌, ◌+◌, ◌≤◌};
-ghost use Rattle.module_ast.specs.Positions.{code_size, code_nesting};
+ghost use Rattle.module_ast.specs.Places.Positions.{code_size, code_nesting};
 
 use crate::code::{Code, Instr};
 

@@ -1,11 +1,11 @@
 // What holds of the definitions.
 
 ghost use Rattle.module_ast.specs.declared.module.Module.{Module};
-ghost use Rattle.module_ast.specs.Grammar.{IsModule};
-ghost use Rattle.module_ast.specs.Canonical.{module_bytes, without_customs};
-ghost use Rattle.module_ast.specs.Profile.{tree_of};
-ghost use Rattle.module_ast.specs.Fits.{Fits};
-ghost use Rattle.module_ast.specs.Shortest.{CanonicalBytesAreShortest};
+ghost use Rattle.module_ast.specs.Binary.Grammar.{IsModule};
+ghost use Rattle.module_ast.specs.Binary.Canonical.{module_bytes, without_customs};
+ghost use Rattle.module_ast.specs.Binary.Profile.{tree_of};
+ghost use Rattle.module_ast.specs.Binary.Sizes.{Fits};
+ghost use Rattle.module_ast.specs.Binary.Shortest.{CanonicalBytesAreShortest};
 ghost use Rattle.module_ast.specs.Laws.{ModulesAreUnique, ModulesHaveNoFloat, TreesWithoutFloatAreModules, LoadsAreFound, FoundLoadsHaveTheOpcode, StoresAreFound, FoundStoresHaveTheOpcode};
 
 use crate::module::{Body, Module};

@@ -1,7 +1,7 @@
 // Where code is live.
 
 ghost use Rattle.std.specs.Prelude.{◌≡◌};
-ghost use Rattle.module_ast.specs.Plains.{goes_on_by};
+ghost use Rattle.module_ast.specs.Structure.Plains.{goes_on_by};
 
 use crate::code::Instr;
 

@@ -117,8 +117,8 @@ pub struct Module {
 
 impl Module {
     ghost use Rattle.std.specs.Prelude.{slice_get, MatchOption, None, Some};
-    ghost use Rattle.module_ast.specs.Spaces.{funcs_of};
-    ghost use Rattle.module_ast.specs.Validity.{func_type};
+    ghost use Rattle.module_ast.specs.Structure.Spaces.{funcs_of};
+    ghost use Rattle.module_ast.specs.Validation.Validity.{func_type};
 
     // The index of the type of a function, imports counted first.
     fn type_index(&self, func: u32) -> Option<u32>
@@ -165,7 +165,7 @@ pub struct Limits {
 }
 
 impl Limits {
-    ghost use Rattle.module_ast.specs.Limits.{narrow, wide};
+    ghost use Rattle.module_ast.specs.Validation.Limits.{narrow, wide};
 
     /// The limits of a module that gets hooks.
     pub const fn narrow() -> Limits

@@ -1,7 +1,7 @@
 // The index spaces of a module as a table, imports first.
 
 ghost use Rattle.std.specs.Prelude.{◌≡◌, ◌≤◌, ◌+◌, length, IfOk};
-ghost use Rattle.module_ast.specs.Spaces.{funcs_of, globals_of, imported_counts, space_counts, count_in};
+ghost use Rattle.module_ast.specs.Structure.Spaces.{funcs_of, globals_of, imported_counts, space_counts, count_in};
 
 use crate::module::{ExportKind, FuncType, GlobalType, Import, Item, Module};
 use std::alloc::Global;
@@ -77,7 +77,7 @@ pub struct Spaces {
 
 impl Model for Spaces {
     ghost use Rattle.std.specs.Prelude.{◌≤◌, length};
-    ghost use Rattle.module_ast.specs.Spaces.{SpaceTable};
+    ghost use Rattle.module_ast.specs.Structure.Spaces.{SpaceTable};
 
     ghost Value = { SpaceTable };
 
@@ -88,8 +88,8 @@ impl Model for Spaces {
 
 impl Spaces {
     ghost use Rattle.std.specs.Prelude.{slice_get, take, MatchOption, None, Some};
-    ghost use Rattle.module_ast.specs.Spaces.{spaces_of};
-    ghost use Rattle.module_ast.specs.Validity.{func_type};
+    ghost use Rattle.module_ast.specs.Structure.Spaces.{spaces_of};
+    ghost use Rattle.module_ast.specs.Validation.Validity.{func_type};
 
     /// The spaces of this module. It goes over the imports, the functions and the globals.
     pub fn new(alloc: Global, m: &Module) -> Result<Spaces, NoMemory>

@@ -1,7 +1,7 @@
 // The code of pieces. Local 0 is the parameter, local 1 an i32.
 
 ghost use Rattle.std.specs.Prelude.{◌≡◌, ◌<◌, ◌^◌, [], ◌∷◌, IfOk, All};
-ghost use Rattle.module_ast.specs.Seen.{code_of};
+ghost use Rattle.module_ast.specs.Structure.{code_of};
 ghost use Rattle.module_gen.specs.declared.pieces.Piece.{Piece};
 ghost use Rattle.wasm_num.specs.declared.ValType.{ValType};
 ghost use Rattle.module_gen.specs.Codes.{condition, constant_of, count_code, load, piece_code, pieces_code, repeat_code, store, table_block, turn};

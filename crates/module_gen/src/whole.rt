@@ -1,9 +1,8 @@
 // The module that is made of a number.
 
 ghost use Rattle.std.specs.Prelude.{◌≡◌, ◌≤◌, ◌<◌, ◌+◌, ℕ, true, IfOk, [], ◌∷◌, ◌++◌, codes, map, string_bytes};
-ghost use Rattle.module_ast.specs.Limits.{IsWhole, narrow};
-ghost use Rattle.module_ast.specs.Profile.{IsWithin};
-ghost use Rattle.module_ast.specs.Validity.{IsValid};
+ghost use Rattle.module_ast.specs.Validation.{IsWhole, narrow, IsValid};
+ghost use Rattle.module_ast.specs.Binary.{IsWithin};
 ghost use Rattle.module_gen.specs.Made.{counter, env_text, exports, func_types, functions, made, main_body, main_text, memory_text, module_with, note_import, note_text, slots, type_indices, zero_code};
 
 use crate::bodies::{bodies, param_type, type_index};

@@ -3,9 +3,7 @@ use Rattle.std.proofs.Common.{◌≡◌, ◌≢◌, ℕ, ◌^◌, ◌<◌, max, 
 use Rattle.leb_binary.specs.Texts.{Text}
 use Rattle.leb_binary.specs.Shortest.{unsigned_bytes}
 use Rattle.module_ast.specs.declared.module.Module.{Module}
-use Rattle.module_ast.specs.Grammar.{AreItems, id_of, custom_section, Section, IsSection, ModuleNode, with_section, with_sections, AreOrdered, header}
-use Rattle.module_ast.specs.Canonical.{sized_bytes, section_bytes}
-use Rattle.module_ast.specs.Decoding.{Gram}
+use Rattle.module_ast.specs.Binary.{AreItems, id_of, custom_section, Section, IsSection, ModuleNode, with_section, with_sections, AreOrdered, header, sized_bytes, section_bytes, Gram}
 use Rattle.module_ast.proofs.Writers.{u32_spelled, front_short, name_writes}
 use Rattle.name_map.specs.Sections.{Chunk, chunk, IsChunk, IsFirstNameSection}
 use Rattle.name_map.specs.Written.{names_bytes, custom_section_of}

@@ -10,7 +10,7 @@ use Rattle.leb_binary.specs.Leb.{IsName, IsFront, HasNoFront}
 use Rattle.leb_binary.specs.Fronts.{OneFront}
 use Rattle.leb_binary.specs.Reading.{IsByte, IsSlice}
 use Rattle.leb_binary.proofs.Fronts.{one_unsigned, front_one, one_name, cut}
-use Rattle.module_ast.specs.Grammar.{IsU32, AreItems, IsSized}
+use Rattle.module_ast.specs.Binary.{IsU32, AreItems, IsSized}
 use Rattle.module_ast.proofs.Compose.{Read, one_both, sized_some, sized_short, both_some, both_none_first, both_none_second, sized_none_size}
 use Rattle.module_ast.proofs.Tokens.{one_coded}
 use Rattle.name_map.specs.Sections.{Chunk, chunk, IsChunk, content_of, IsNameSection, IsFirstNameSection}

@@ -6,7 +6,7 @@ use Rattle.leb_binary.specs.Texts.{Text}
 use Rattle.leb_binary.specs.Leb.{IsName, IsFront, HasNoFront}
 use Rattle.leb_binary.specs.Fronts.{OneFront}
 use Rattle.leb_binary.proofs.Fronts.{one_unsigned, one_name, front_one}
-use Rattle.module_ast.specs.Grammar.{IsU32, IsVec}
+use Rattle.module_ast.specs.Binary.{IsU32, IsVec}
 use Rattle.module_ast.proofs.Compose.{one_both, one_vec}
 use Rattle.name_map.specs.declared.Named.{Named}
 use Rattle.name_map.specs.declared.Locals.{Locals}

@@ -6,7 +6,7 @@ use Rattle.leb_binary.specs.Texts.{Text}
 use Rattle.leb_binary.specs.Leb.{IsName}
 use Rattle.leb_binary.specs.Fronts.{OneFront}
 use Rattle.leb_binary.proofs.Fronts.{one_name, front_one}
-use Rattle.module_ast.specs.Grammar.{AreItems, Kind, id_of, custom_section, Section, IsSection, header}
+use Rattle.module_ast.specs.Binary.{AreItems, Kind, id_of, custom_section, Section, IsSection, header}
 use Rattle.index_remap.specs.declared.Remap.{Remap}
 use Rattle.index_remap.proofs.Mapped.{unmapped}
 use Rattle.name_map.specs.declared.Named.{Named}

@@ -5,7 +5,7 @@ use Rattle.std.proofs.lemmas.Bool.Decides.{nat_tests}
 use Rattle.std.proofs.lemmas.Bool.{and_parts, and_from, leb-true, le-leb, ltb-true}
 use Rattle.std.proofs.lemmas.List.Elements.{All-nil, All-cons, All-map, All-weaker, All-filter, filter_passes}
 use Rattle.leb_binary.proofs.Numbers.{below_of_unsigned}
-use Rattle.module_ast.specs.Grammar.{AreItems, IsVec}
+use Rattle.module_ast.specs.Binary.{AreItems, IsVec}
 use Rattle.index_remap.specs.declared.Remap.{Remap}
 use Rattle.index_remap.specs.Remap.{map_index}
 use Rattle.name_map.specs.declared.Named.{Named}

@@ -6,8 +6,7 @@ use Rattle.std.proofs.lemmas.List.Elements.{All-head, All-tail, All-weaker}
 use Rattle.leb_binary.specs.Texts.{Text}
 use Rattle.leb_binary.specs.Shortest.{unsigned_bytes}
 use Rattle.module_ast.specs.Ascii.{ascii_text}
-use Rattle.module_ast.specs.Grammar.{AreItems, header}
-use Rattle.module_ast.specs.Canonical.{vec_bytes, sized_bytes, section_bytes, vec_section}
+use Rattle.module_ast.specs.Binary.{AreItems, header, vec_bytes, sized_bytes, section_bytes, vec_section}
 use Rattle.module_ast.proofs.Compose.{read_more, whole_some}
 use Rattle.module_ast.proofs.Writers.{Writes, u32_spelled, back_short, three_short, counted_some, list_writes, name_writes}
 use Rattle.name_map.specs.declared.Named.{Named}

@@ -2,8 +2,7 @@
 use Rattle.std.specs.Prelude.{◌≡◌, ◌≢◌, ℕ, ◌+◌, ◌^◌, ◌<◌, ◌≤◌, List, [], ◌∷◌, ◌++◌, length, map, None, All, codes}
 use Rattle.leb_binary.specs.Texts.{Text}
 use Rattle.module_ast.specs.declared.module.Module.{Module}
-use Rattle.module_ast.specs.Decoding.{Gram}
-use Rattle.module_ast.specs.Grammar.{AreItems, header}
+use Rattle.module_ast.specs.Binary.{Gram, AreItems, header}
 use Rattle.index_remap.specs.declared.Remap.{Remap}
 use Rattle.index_remap.specs.Remap.{map_index, unmap_index}
 use Rattle.name_map.specs.declared.Names.{Names}

@@ -1,7 +1,7 @@
 -- Appendix, Name Section: name maps, vectors of entries by rising index.
 use Rattle.std.specs.Prelude.{◌≡◌, ℕ, suc, List, [], ◌∷◌, map, Bool, true, ◌&&◌, nat_le}
 use Rattle.leb_binary.specs.Leb.{IsName}
-use Rattle.module_ast.specs.Grammar.{IsU32, Both, IsVec}
+use Rattle.module_ast.specs.Binary.{IsU32, Both, IsVec}
 use Rattle.name_map.specs.declared.Named.{Named}
 use Rattle.name_map.specs.declared.Locals.{Locals}
 

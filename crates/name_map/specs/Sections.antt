@@ -3,7 +3,7 @@ use Rattle.std.specs.Prelude.{◌≡◌, ◌==◌, ◌⊎◌, ℕ, List, [], ◌
 use Rattle.leb_binary.specs.Texts.{Text}
 use Rattle.leb_binary.specs.Leb.{IsName, IsFront}
 use Rattle.leb_binary.specs.Reading.{IsByte}
-use Rattle.module_ast.specs.Grammar.{Both, AreItems, IsSized, header}
+use Rattle.module_ast.specs.Binary.{Both, AreItems, IsSized, header}
 use Rattle.name_map.specs.declared.Names.{Names}
 use Rattle.name_map.specs.NameMaps.{IsNameMap, IsIndirectNameMap}
 use Rattle.name_map.specs.Names.{no_names, known_names}

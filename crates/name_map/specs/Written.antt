@@ -3,7 +3,7 @@
 use Rattle.std.specs.Prelude.{ℕ, List, [], ◌∷◌, ◌++◌, Option, Some, None, codes}
 use Rattle.leb_binary.specs.Texts.{Text}
 use Rattle.leb_binary.specs.Shortest.{unsigned_bytes}
-use Rattle.module_ast.specs.Canonical.{vec_bytes, sized_bytes, section_bytes, vec_section}
+use Rattle.module_ast.specs.Binary.{vec_bytes, sized_bytes, section_bytes, vec_section}
 use Rattle.name_map.specs.declared.Named.{Named}
 use Rattle.name_map.specs.declared.Locals.{Locals}
 use Rattle.name_map.specs.declared.Names.{Names}

@@ -2,7 +2,7 @@
 
 ghost use Rattle.std.specs.Prelude.{◌≡◌, List, IfOk, OnErr, option_map};
 ghost use Rattle.leb_binary.specs.Leb.{IsFront, HasNoFront};
-ghost use Rattle.module_ast.specs.Grammar.{AreItems};
+ghost use Rattle.module_ast.specs.Binary.{AreItems};
 ghost use Rattle.name_map.specs.Sections.{Chunk, chunk, IsChunk, content_of};
 
 use leb_binary::{Bad, Cursor};

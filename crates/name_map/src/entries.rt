@@ -3,7 +3,7 @@
 ghost use Rattle.std.specs.Prelude.{◌≡◌, ◌++◌, ◌&&◌, nat_le, nat_lt, List, Option, map, filter, filter_map, option_map, All, IfOk, OnOk, IsErrOf};
 ghost use Rattle.leb_binary.specs.Leb.{IsFront, HasNoFront};
 ghost use Rattle.leb_binary.specs.Fronts.{OneFront};
-ghost use Rattle.module_ast.specs.Canonical.{vec_bytes};
+ghost use Rattle.module_ast.specs.Binary.{vec_bytes};
 ghost use Rattle.index_remap.specs.Remap.{MapsIndex, map_index, unmap_index};
 ghost use Rattle.name_map.specs.NameMaps.{IsRisingVec};
 ghost use Rattle.name_map.specs.Sections.{AreEntriesIn};

@@ -2,7 +2,7 @@
 
 ghost use Rattle.std.specs.Prelude.{ℕ, List, Option, MatchOption, option_map, IfOk, IsErrOf};
 ghost use Rattle.leb_binary.specs.Texts.{Text};
-ghost use Rattle.module_ast.specs.Grammar.{AreItems};
+ghost use Rattle.module_ast.specs.Binary.{AreItems};
 ghost use Rattle.name_map.specs.declared.Names.{Names as Seen};
 ghost use Rattle.name_map.specs.Sections.{Chunk, chunk, IsChunk, IsNameSection, IsFirstNameSection, IsModuleNameIn, IsNameData};
 

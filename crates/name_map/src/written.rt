@@ -1,7 +1,7 @@
 // The `name` section of names.
 
 ghost use Rattle.std.specs.Prelude.{◌≡◌, ◌++◌, OnOk, OnErr};
-ghost use Rattle.module_ast.specs.Canonical.{sized_bytes, section_bytes, vec_section};
+ghost use Rattle.module_ast.specs.Binary.{sized_bytes, section_bytes, vec_section};
 ghost use Rattle.name_map.specs.Written.{module_name_bytes, names_bytes, name_section_bytes};
 
 use crate::Names;

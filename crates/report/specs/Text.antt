@@ -2,8 +2,7 @@
 use Rattle.std.specs.Prelude.{ℕ, zero, suc, ℤ, List, [], ◌∷◌, ◌++◌, length, flat_map, filter, Bool, Option, option_map, unwrap_or, is_none, is_some, codes, decimal}
 use Rattle.std.specs.Fmt.{signed_decimal}
 use Rattle.std.specs.List.{join_with_byte}
-use Rattle.module_ast.specs.Opcodes.{load_of_opcode, store_of_opcode}
-use Rattle.module_ast.specs.OpNames.{load_name, store_name}
+use Rattle.module_ast.specs.Binary.{load_of_opcode, store_of_opcode, load_name, store_name}
 use Rattle.hook_select.specs.declared.Event.{Event}
 use Rattle.hook_select.specs.Events.{group_of}
 use Rattle.wasm_num.specs.Kinds.{kind_of_number, kind_name}

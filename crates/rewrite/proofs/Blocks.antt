@@ -1,11 +1,11 @@
 -- What labels name, from the blocks that the program keeps.
 use Rattle.std.proofs.Common.{◌≡◌, ℕ, zero, suc, ◌+◌, List, [], ◌∷◌, ◌++◌, map, take, refl, ap, ◌∙◌, false}
 use Rattle.std.specs.Prelude.{unwrap_or}
-use Rattle.module_ast.specs.Positions.{Scope, target_of, left_by}
+use Rattle.module_ast.specs.Places.{Scope, target_of, left_by}
 use Rattle.branch_resolve.specs.declared.Block.{Block}
 use Rattle.branch_resolve.specs.Scopes.{blocks_around, ends, end_of}
 use Rattle.module_ast.specs.Lists.{when}
-use Rattle.module_ast.specs.Tree.{i32_const}
+use Rattle.module_ast.specs.Structure.{i32_const}
 use Rattle.hook_select.specs.declared.GroupName.TheVariants as groups
 use Rattle.hook_select.specs.Groups.{has}
 use Rattle.hook_mono.specs.declared.HookKey.TheVariants as keys

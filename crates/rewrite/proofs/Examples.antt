@@ -3,14 +3,10 @@ use Rattle.std.specs.Prelude.{◌≡◌, ℕ, pos, negsuc, List, [], ◌∷◌, 
 use Rattle.wasm_num.specs.declared.ValType.TheVariants.{I32, I64}
 use Rattle.wasm_num.specs.declared.NumOp.TheVariants.{I32DivS, I32Sub}
 use Rattle.module_ast.specs.declared.code.BlockType.TheVariants.{Empty}
-use Rattle.module_ast.specs.declared.module.FuncType.{FuncType}
-use Rattle.module_ast.specs.declared.module.Body.{Body}
-use Rattle.module_ast.specs.declared.module.Module.{Module}
-use Rattle.module_ast.specs.Tree.{Tree, done, plain, block, loop, nop, br, br_if, call, drop_, local_get, local_set, local_tee, i32_const, i64_const, num}
-use Rattle.module_ast.specs.Canonical.{body_bytes}
-use Rattle.hook_select.specs.declared.GroupName.{GroupName}
+use Rattle.wasm_sem.specs.Types.{FuncType, Body, Module, GroupName, Hooks}
+use Rattle.module_ast.specs.Structure.{Tree, done, plain, block, loop, nop, br, br_if, call, drop_, local_get, local_set, local_tee, i32_const, i64_const, num}
+use Rattle.module_ast.specs.Binary.{body_bytes}
 use Rattle.hook_select.specs.declared.GroupName.TheVariants as groups
-use Rattle.hook_select.specs.declared.Hooks.{Hooks}
 use Rattle.hook_select.specs.Groups.{hooks_of, is_among}
 use Rattle.hook_mono.specs.Needed.{import_count, sites, needed_keys}
 use Rattle.rewrite.specs.Rewrite.{setting_of, rewritten_body}

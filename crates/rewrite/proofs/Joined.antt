@@ -1,23 +1,18 @@
 -- How the instructions of live code join.
 use Rattle.std.proofs.Common.{◌≡◌, ℕ, ◌+◌, ◌<◌, List, [], ◌∷◌, ◌++◌, length, Bool, true, false, refl, sym, ap, ◌∙◌, subst, arith, append_assoc}
 use Rattle.std.proofs.lemmas.List.{map-append}
-use Rattle.wasm_num.specs.declared.ValType.{ValType}
-use Rattle.module_ast.specs.declared.code.BlockType.{BlockType}
-use Rattle.module_ast.specs.declared.code.Instr.{Instr}
+use Rattle.wasm_sem.specs.Types.{ValType, BlockType, Instr, Hooks}
 use Rattle.module_ast.specs.declared.code.Instr.TheVariants.{Block, Loop, If, IfElse, BrIf}
 use Rattle.wasm_num.specs.declared.BlockKind.TheVariants as kinds
-use Rattle.module_ast.specs.Tree as tree
+use Rattle.module_ast.specs.Structure.Trees as tree
 use Rattle.hook_select.specs.declared.GroupName.TheVariants as groups
 use Rattle.hook_mono.specs.declared.HookKey.TheVariants as keys
 use Rattle.rewrite_needs.specs.Temporaries.{plain_temps, open_temps, code_temps}
 use Rattle.index_remap.specs.Remap.{map_tree}
 use Rattle.index_remap.specs.declared.Remap.{Remap}
 use Rattle.module_ast.specs.Lists.{when}
-use Rattle.module_ast.specs.Tree.{Tree, done, plain, block, loop, if_then, if_else, Plain}
-use Rattle.module_ast.specs.Seen.{before, onto, onto_push, code_of}
-use Rattle.module_ast.specs.Plains.{plains, instr_of}
-use Rattle.module_ast.specs.Positions.{Scope, code_size, ends_live, goes_on, block_scope, loop_scope, if_scope, then_scope, else_scope, left_by}
-use Rattle.module_ast.specs.Plains.{goes_on_by, IsPlainInstr}
+use Rattle.module_ast.specs.Structure.{Tree, done, plain, block, loop, if_then, if_else, Plain, before, onto, onto_push, code_of, plains, instr_of, goes_on_by, IsPlainInstr}
+use Rattle.module_ast.specs.Places.{Scope, code_size, ends_live, goes_on, block_scope, loop_scope, if_scope, then_scope, else_scope, left_by}
 use Rattle.std.proofs.Common.{Ok, Err, pos}
 use Rattle.std.specs.Prelude.{Result, OnOk}
 use Rattle.branch_resolve.specs.declared.Block.{Block as Kept}
@@ -27,7 +22,6 @@ use Rattle.hook_select.specs.Groups.{has}
 use Rattle.i64_split.specs.declared.Temp.{Temp}
 use Rattle.i64_split.specs.Split.{gets, temps, words_code}
 use Rattle.branch_resolve.specs.Scopes.{block_of, blocks_around, end_of}
-use Rattle.hook_select.specs.declared.Hooks.{Hooks}
 use Rattle.hook_mono.specs.Needed.{Site}
 use Rattle.i64_split.specs.Pushing.{instrs}
 use Rattle.i64_split.specs.declared.Pool.{Pool}

@@ -1,10 +1,9 @@
 -- The pool of a function has the temporaries of its code and of its end.
 use Rattle.std.proofs.Common.{◌+◌, ◌^◌, ◌≤◌, ◌<◌, List, [], ◌∷◌, true, sym, subst, arith}
-use Rattle.wasm_num.specs.declared.ValType.{ValType}
+use Rattle.wasm_sem.specs.Types.{ValType, Hooks}
 use Rattle.wasm_num.specs.declared.BlockKind.TheVariants as kinds
 use Rattle.module_ast.specs.Lists.{when}
-use Rattle.module_ast.specs.Positions.{ends_live}
-use Rattle.hook_select.specs.declared.Hooks.{Hooks}
+use Rattle.module_ast.specs.Places.{ends_live}
 use Rattle.hook_mono.specs.Needed.{Site}
 use Rattle.i64_split.specs.declared.Pool.{Pool}
 use Rattle.i64_split.specs.Split.{ints_in, longs_in}

@@ -1,11 +1,9 @@
 -- The sizes of blocks that are left, along the code.
 use Rattle.std.proofs.Common.{◌≡◌, ℕ, List, [], ◌∷◌, ◌++◌, ap, ◌∙◌, sym, append_assoc}
-use Rattle.module_ast.specs.declared.code.BlockType.{BlockType}
-use Rattle.module_ast.specs.declared.code.Instr.{Instr}
+use Rattle.wasm_sem.specs.Types.{BlockType, Instr}
 use Rattle.module_ast.specs.declared.code.Instr.TheVariants.{Block, Loop}
-use Rattle.module_ast.specs.Positions.{code_size}
-use Rattle.module_ast.specs.Tree.{Tree, done}
-use Rattle.module_ast.specs.Seen.{before}
+use Rattle.module_ast.specs.Places.{code_size}
+use Rattle.module_ast.specs.Structure.{Tree, done, before}
 use Rattle.branch_resolve.specs.Levels.{block_sizes}
 use Rattle.branch_resolve.proofs.Sized.{sizes_before}
 

@@ -1,9 +1,7 @@
 -- What the rewriting of a function asks.
 use Rattle.std.specs.Prelude.{◌≡◌, ℕ, ◌+◌, ◌^◌, ◌<◌, ◌≤◌, List, length, slice_get, Some}
-use Rattle.module_ast.specs.declared.module.Module.{Module}
-use Rattle.module_ast.specs.Positions.{code_size, code_nesting}
-use Rattle.hook_select.specs.declared.Hooks.{Hooks}
-use Rattle.hook_mono.specs.declared.HookKey.{HookKey}
+use Rattle.wasm_sem.specs.Types.{Module, Hooks, HookKey}
+use Rattle.module_ast.specs.Places.{code_size, code_nesting}
 use Rattle.hook_mono.specs.Needed.{Site, sites}
 use Rattle.index_remap.specs.Remap.{Maps}
 use Rattle.rewrite.specs.Setting.{Setting, remap}

@@ -1,19 +1,16 @@
 -- The templates, over what the program keeps.
 use Rattle.std.specs.Prelude.{ℕ, cond, pos, unwrap_or, List, [], ◌∷◌, ◌++◌, Option, Some, None}
-use Rattle.wasm_num.specs.declared.ValType.{ValType}
+use Rattle.wasm_sem.specs.Types.{ValType, FuncType, Instr}
 use Rattle.wasm_num.specs.declared.ValType.TheVariants.{I32, I64}
-use Rattle.module_ast.specs.declared.module.FuncType.{FuncType}
-use Rattle.module_ast.specs.Positions.{Scope}
-use Rattle.module_ast.specs.declared.code.Instr.{Instr}
+use Rattle.module_ast.specs.Places.{Scope}
 use Rattle.module_ast.specs.declared.code.Instr.TheVariants.{BrIf}
-use Rattle.module_ast.specs.Plains.{plain_of}
+use Rattle.module_ast.specs.Structure.{plain_of, Plain, i32_const, call_indirect, br}
 use Rattle.i64_split.specs.declared.Pool.{Pool}
 use Rattle.i64_split.specs.declared.Temp.{Temp}
 use Rattle.i64_split.specs.Split.{HasTemps, temps}
 use Rattle.rewrite.specs.declared.watching.Keeping.{Keeping}
 use Rattle.rewrite.specs.declared.watching.Keeping.TheVariants.{Around, Result, Store, Drop, Select}
 use Rattle.rewrite.specs.Templates.{num_code, result_code, store_code, drop_code, select_code, template, indirect_code}
-use Rattle.module_ast.specs.Tree.{Plain, i32_const, call_indirect, br}
 use Rattle.hook_mono.specs.declared.HookKey.TheVariants as keys
 use Rattle.hook_select.specs.declared.GroupName.TheVariants as groups
 use Rattle.std.specs.Int.{w32, cast_unsigned}

@@ -1,7 +1,7 @@
 -- Live code as it is written, instruction by instruction.
 use Rattle.std.specs.Prelude.{◌≡◌, ℕ, List, ◌++◌, Bool, true, false}
-use Rattle.module_ast.specs.Positions.{Scope}
-use Rattle.module_ast.specs.Tree.{Tree}
+use Rattle.module_ast.specs.Places.{Scope}
+use Rattle.module_ast.specs.Structure.{Tree}
 use Rattle.index_remap.specs.Remap.{map_tree}
 use Rattle.rewrite.specs.Setting.{Setting, remap}
 use Rattle.rewrite.specs.Rewrite.{live_code}

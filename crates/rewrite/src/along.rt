@@ -1,8 +1,7 @@
 // What goes along with the rewriting of a body.
 
 ghost use Rattle.std.specs.Prelude.{◌≡◌, ◌∷◌, ◌<◌, length, drop};
-ghost use Rattle.module_ast.specs.Seen.{before};
-ghost use Rattle.module_ast.specs.Tree.{done};
+ghost use Rattle.module_ast.specs.Structure.{before, done};
 ghost use Rattle.branch_resolve.specs.Levels.{block_sizes};
 ghost use Rattle.rewrite.specs.Live.{BeginsWith, LeavesBehind};
 

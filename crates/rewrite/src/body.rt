@@ -3,9 +3,8 @@
 ghost use Rattle.std.specs.Prelude.{◌≡◌, ◌+◌, ◌++◌, ◌∷◌, [], ◌<◌, ◌^◌, pos, negsuc, length, option_map, slice_get, Some, IfOk, OnOk};
 ghost use Rattle.wasm_num.specs.declared.BlockKind.TheVariants as kinds;
 ghost use Rattle.module_ast.specs.Lists.{when};
-ghost use Rattle.module_ast.specs.Positions.{function_scope};
-ghost use Rattle.module_ast.specs.Seen.{onto};
-ghost use Rattle.module_ast.specs.Tree.{done};
+ghost use Rattle.module_ast.specs.Places.{function_scope};
+ghost use Rattle.module_ast.specs.Structure.{onto, done};
 ghost use Rattle.branch_resolve.specs.Scopes.{block_of};
 ghost use Rattle.hook_mono.specs.Needed.{sites};
 ghost use Rattle.i64_split.specs.Pushing.{instrs};

@@ -1,10 +1,9 @@
 // A live branch on a condition.
 
 ghost use Rattle.std.specs.Prelude.{◌≡◌, List, OnOk, ◌<◌, ◌^◌};
-ghost use Rattle.module_ast.specs.Tree as tree;
-ghost use Rattle.module_ast.specs.Tree.{Tree};
-ghost use Rattle.module_ast.specs.Seen.{onto};
-ghost use Rattle.module_ast.specs.Positions.{Scope, left_by};
+ghost use Rattle.module_ast.specs.Structure.Trees as tree;
+ghost use Rattle.module_ast.specs.Structure.{Tree, onto};
+ghost use Rattle.module_ast.specs.Places.{Scope, left_by};
 ghost use Rattle.hook_select.specs.declared.GroupName.TheVariants as groups;
 ghost use Rattle.hook_select.specs.Groups.{has};
 ghost use Rattle.branch_resolve.specs.Scopes.{blocks_around};

@@ -1,11 +1,9 @@
 // Live instructions with no sequence in them.
 
 ghost use Rattle.std.specs.Prelude.{◌≡◌, ◌++◌, ◌∷◌, [], pos, OnOk, ◌<◌, ◌^◌, ◌+◌, ℕ, List, map};
-ghost use Rattle.module_ast.specs.Tree as tree;
-ghost use Rattle.module_ast.specs.Tree.{done};
-ghost use Rattle.module_ast.specs.Seen.{before};
-ghost use Rattle.module_ast.specs.Marks.{mark_at};
-ghost use Rattle.module_ast.specs.Positions.{Scope};
+ghost use Rattle.module_ast.specs.Structure.Trees as tree;
+ghost use Rattle.module_ast.specs.Structure.{done, before};
+ghost use Rattle.module_ast.specs.Places.{mark_at, Scope};
 ghost use Rattle.branch_resolve.specs.Scopes.{blocks_around, ends, end_of};
 ghost use Rattle.hook_select.specs.declared.GroupName.TheVariants as groups;
 ghost use Rattle.hook_mono.specs.declared.HookKey.TheVariants as keys;

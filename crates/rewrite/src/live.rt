@@ -1,11 +1,8 @@
 // Live code.
 
 ghost use Rattle.std.specs.Prelude.{◌≡◌, ◌+◌, ◌++◌, ◌∷◌, ◌<◌, ◌^◌, List, ℕ, Bool, true, length, pos, IfOk, OnOk};
-ghost use Rattle.module_ast.specs.Tree.{Tree, done, if_then, if_else};
-ghost use Rattle.module_ast.specs.Seen.{before, onto, code_of};
-ghost use Rattle.module_ast.specs.Plains.{plains};
-ghost use Rattle.module_ast.specs.Positions.{Scope, code_size, ends_live};
-ghost use Rattle.module_ast.specs.Plains.{goes_on_by, IsPlainInstr};
+ghost use Rattle.module_ast.specs.Structure.{Tree, done, if_then, if_else, before, onto, code_of, plains, goes_on_by, IsPlainInstr};
+ghost use Rattle.module_ast.specs.Places.{Scope, code_size, ends_live};
 ghost use Rattle.branch_resolve.specs.Scopes.{block_of, blocks_around};
 ghost use Rattle.index_remap.specs.Remap.{Maps};
 ghost use Rattle.i64_split.specs.Pushing.{instrs};

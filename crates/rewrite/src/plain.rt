@@ -3,11 +3,9 @@
 ghost use Rattle.std.specs.Prelude.{◌≡◌, ◌++◌, ◌∷◌, [], map, pos, OnOk, IfOk, ◌<◌, ◌^◌, ◌+◌, ℕ, List};
 ghost use Rattle.wasm_num.specs.declared.ValType.TheVariants.{I32, I64};
 ghost use Rattle.wasm_num.specs.Shapes.{num_operands, num_result};
-ghost use Rattle.module_ast.specs.Tree as tree;
-ghost use Rattle.module_ast.specs.Tree.{done};
-ghost use Rattle.module_ast.specs.Seen.{before};
-ghost use Rattle.module_ast.specs.Marks.{type_of_callee, indirect_type};
-ghost use Rattle.module_ast.specs.Positions.{Scope};
+ghost use Rattle.module_ast.specs.Structure.Trees as tree;
+ghost use Rattle.module_ast.specs.Structure.{done, before};
+ghost use Rattle.module_ast.specs.Places.{type_of_callee, indirect_type, Scope};
 ghost use Rattle.hook_select.specs.declared.GroupName.TheVariants as groups;
 ghost use Rattle.hook_mono.specs.declared.HookKey.TheVariants as keys;
 ghost use Rattle.hook_select.specs.Groups.{has};

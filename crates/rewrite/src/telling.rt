@@ -1,7 +1,7 @@
 // The code of hook calls.
 
 ghost use Rattle.std.specs.Prelude.{◌≡◌, ◌++◌, ◌∷◌, [], map, pos, negsuc, OnOk, ◌<◌, ◌^◌};
-ghost use Rattle.module_ast.specs.Tree.{i32_const, call};
+ghost use Rattle.module_ast.specs.Structure.{i32_const, call};
 ghost use Rattle.module_ast.specs.Lists.{when};
 ghost use Rattle.hook_select.specs.Groups.{has};
 ghost use Rattle.hook_mono.specs.declared.HookKey.TheVariants as keys;

@@ -3,7 +3,7 @@
 ghost use Rattle.std.specs.Prelude.{◌≡◌, ◌++◌, ◌∷◌, [], map, OnOk, IfOk, ◌<◌, ◌^◌};
 ghost use Rattle.wasm_num.specs.declared.ValType.TheVariants.{I32};
 ghost use Rattle.module_ast.specs.Lists.{when};
-ghost use Rattle.module_ast.specs.Tree as tree;
+ghost use Rattle.module_ast.specs.Structure.Trees as tree;
 ghost use Rattle.hook_mono.specs.declared.HookKey.TheVariants as keys;
 ghost use Rattle.i64_split.specs.Split.{temps, words_code, words_by, HasTemps};
 ghost use Rattle.i64_split.specs.Pushing.{instrs};

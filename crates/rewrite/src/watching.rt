@@ -1,8 +1,7 @@
 // Instructions whose operands and results are told.
 
 ghost use Rattle.std.specs.Prelude.{◌≡◌, ◌++◌, ◌∷◌, [], map, pos, OnOk};
-ghost use Rattle.module_ast.specs.Tree.{Plain};
-ghost use Rattle.module_ast.specs.Plains.{instr_of};
+ghost use Rattle.module_ast.specs.Structure.{Plain, instr_of};
 ghost use Rattle.i64_split.specs.Split.{temps, words_code, HasTemps};
 ghost use Rattle.i64_split.specs.Pushing.{instrs};
 ghost use Rattle.rewrite.specs.Setting.{constant, tell};

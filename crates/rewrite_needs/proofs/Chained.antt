@@ -1,9 +1,9 @@
 -- The blocks around the places of a body: each place finds the blocks that the one before it leaves.
 use Rattle.std.proofs.Common.{◌≡◌, ℕ, ◌+◌, List, [], ◌∷◌, ◌++◌, map, length, length-append, Bool, true, ◌&&◌, refl, sym, subst, append_assoc, arith}
-use Rattle.wasm_num.specs.declared.BlockKind.{BlockKind}
+use Rattle.wasm_sem.specs.Types.{BlockKind}
 use Rattle.wasm_num.specs.declared.BlockKind.TheVariants as kinds
-use Rattle.module_ast.specs.Positions.{Scope, function_scope, block_scope, loop_scope, if_scope, then_scope, else_scope, Opcode, enters, opens, alternates, closes, Place, at, code_size, ends_live, goes_on, code_places, places}
-use Rattle.module_ast.specs.Tree.{Tree, done, plain, block, loop, if_then, if_else}
+use Rattle.module_ast.specs.Places.{Scope, function_scope, block_scope, loop_scope, if_scope, then_scope, else_scope, Opcode, enters, opens, alternates, closes, Place, at, code_size, ends_live, goes_on, code_places, places}
+use Rattle.module_ast.specs.Structure.{Tree, done, plain, block, loop, if_then, if_else}
 use Rattle.wasm_sem.proofs.Placed.{places_length}
 
 abbrev pub kinds_of : List Scope → List BlockKind

@@ -4,8 +4,7 @@
 --     few_more, few_each      the table grows by one for each key at most
 use Rattle.std.proofs.Common.{◌≡◌, ◌+◌, ◌≤◌, List, [], ◌∷◌, ◌++◌, length, length-append, Bool, true, false, cond, filter, refl, sym, ap, subst, arith}
 use Rattle.std.specs.Prelude.{is_some}
-use Rattle.hook_select.specs.declared.Hooks.{Hooks}
-use Rattle.hook_mono.specs.declared.HookKey.{HookKey}
+use Rattle.wasm_sem.specs.Types.{Hooks, HookKey}
 use Rattle.hook_mono.specs.Keys.{is_wanted, find_key, with_key, with_keys}
 use Rattle.hook_mono.proofs.Tables.{key_is_there, key_stays}
 use Rattle.rewrite_needs.specs.Needing.{with_wanted, with_each_wanted}

@@ -5,13 +5,12 @@
 use Rattle.std.proofs.Common.{◌≡◌, inl, ℕ, zero, suc, ◌+◌, ◌-◌, ◌*◌, ◌≤◌, ℤ, nat_abs, List, [], ◌∷◌, ◌++◌, length, take, Bool, true, false, cond, Option, Some, None, leb, refl, sym, ap, ap₂, ◌∙◌, subst, subst₂, flat_map, append-nil, length-append, min, arith}
 use Rattle.std.proofs.lemmas.List.{take_min, take_all, length-map}
 use Rattle.std.proofs.lemmas.List.Sums.{fold-append}
-use Rattle.wasm_num.specs.declared.BlockKind.{BlockKind}
+use Rattle.wasm_sem.specs.Types.{BlockKind, Hooks, HookKey}
 use Rattle.wasm_num.specs.declared.BlockKind.TheVariants as kinds
 use Rattle.module_ast.specs.Lists.{when}
-use Rattle.module_ast.specs.Plains.{plain_of}
-use Rattle.module_ast.specs.Positions as positions
-use Rattle.module_ast.specs.Positions.{Scope, at, closes, code_size, places}
-use Rattle.module_ast.specs.Tree.{Plain, br, br_if, return_}
+use Rattle.module_ast.specs.Structure.{plain_of, Plain, br, br_if, return_}
+use Rattle.module_ast.specs.Places.Positions as positions
+use Rattle.module_ast.specs.Places.{Scope, at, closes, code_size, places}
 use Rattle.branch_resolve.specs.Scopes.{block_of, blocks_around}
 use Rattle.branch_resolve.specs.Walks.{IsOpcodeOf, IsPlaceOf}
 use Rattle.branch_resolve.specs.declared.Block.{Block}
@@ -19,8 +18,6 @@ use Rattle.branch_resolve.specs.declared.place.Place.{Place}
 use Rattle.branch_resolve.specs.declared.place.Opcode.{Opcode}
 use Rattle.branch_resolve.specs.declared.place.Opcode.TheVariants.{Enters, Acts, Opens, Alternates, Closes}
 use Rattle.hook_select.specs.declared.GroupName.TheVariants as groups
-use Rattle.hook_select.specs.declared.Hooks.{Hooks}
-use Rattle.hook_mono.specs.declared.HookKey.{HookKey}
 use Rattle.hook_mono.specs.declared.HookKey.TheVariants as keys
 use Rattle.hook_mono.specs.Needed as needed
 use Rattle.hook_mono.specs.Needed.{Site, end_keys, plain_keys, open_keys, close_keys, place_keys, live_keys}

@@ -1,12 +1,10 @@
 -- Where no group is selected, no key is needed.
 use Rattle.std.proofs.Common.{◌≡◌, List, [], ◌∷◌, Bool, true, false, ◌&&◌, refl, ap, filter, flat_map}
 use Rattle.std.specs.Bool.{beq}
-use Rattle.module_ast.specs.Positions.{places}
-use Rattle.hook_select.specs.declared.GroupName.{GroupName}
+use Rattle.module_ast.specs.Places.{places}
+use Rattle.wasm_sem.specs.Types.{GroupName, Hooks, HookKey}
 use Rattle.hook_select.specs.declared.GroupName.TheVariants as groups
-use Rattle.hook_select.specs.declared.Hooks.{Hooks}
 use Rattle.hook_select.specs.Groups.{has, hooks_of}
-use Rattle.hook_mono.specs.declared.HookKey.{HookKey}
 use Rattle.hook_mono.specs.declared.HookKey.TheVariants.{Plain}
 use Rattle.hook_mono.specs.Keys.{is_wanted, key_group, distinct_keys}
 use Rattle.hook_mono.specs.Needed.{Site, needs_of, live_keys}

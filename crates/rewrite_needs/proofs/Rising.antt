@@ -6,13 +6,12 @@ use Rattle.std.proofs.Common.{◌≡◌, ℕ, zero, suc, ◌+◌, ◌<◌, ◌�
 use Rattle.std.specs.Prelude.{◌==◌}
 use Rattle.std.specs.List.Sorted.{IsNonDecreasingBy, IsPartitionPoint}
 use Rattle.std.proofs.lemmas.Bool.Decides.{nat_tests}
-use Rattle.wasm_num.specs.declared.ValType.{ValType}
+use Rattle.wasm_sem.specs.Types.{ValType}
 use Rattle.wasm_num.specs.declared.ValType.TheVariants.{I32}
 use Rattle.module_ast.specs.Lists.{when}
-use Rattle.module_ast.specs.Marks.{Mark, plain_marks, code_marks, mark_at, operands_behind, starts_of, operands_past}
-use Rattle.module_ast.specs.Positions.{code_size, goes_on}
-use Rattle.module_ast.specs.Tree.{Tree, done, plain, block, loop, if_then, if_else, Plain, drop_, select}
-use Rattle.module_ast.specs.Typing.{Context}
+use Rattle.module_ast.specs.Places.{Mark, plain_marks, code_marks, mark_at, operands_behind, starts_of, operands_past, code_size, goes_on}
+use Rattle.module_ast.specs.Structure.{Tree, done, plain, block, loop, if_then, if_else, Plain, drop_, select}
+use Rattle.module_ast.specs.Validation.{Context}
 use Rattle.rewrite_needs.specs.Rising.{MarksRiseFrom, type_in}
 
 -- ---- the marks of code

@@ -3,12 +3,11 @@
 --     entry, last_room, body_measured      from the entry of a function to its end
 use Rattle.std.proofs.Common.{◌≡◌, List, [], ◌∷◌, ◌++◌, max, Bool, true, false, ◌&&◌, refl, sym, ap, ◌∙◌, arith}
 use Rattle.std.proofs.lemmas.List.Sums.{fold-append}
-use Rattle.wasm_num.specs.declared.ValType.{ValType}
+use Rattle.wasm_sem.specs.Types.{ValType, Hooks}
 use Rattle.wasm_num.specs.declared.BlockKind.TheVariants as kinds
 use Rattle.module_ast.specs.Lists.{when}
-use Rattle.module_ast.specs.Positions.{ends_live}
+use Rattle.module_ast.specs.Places.{ends_live}
 use Rattle.hook_select.specs.declared.GroupName.TheVariants as groups
-use Rattle.hook_select.specs.declared.Hooks.{Hooks}
 use Rattle.hook_select.specs.Groups.{has}
 use Rattle.hook_mono.specs.Needed.{Site}
 use Rattle.i64_split.specs.Split.{ints_in, longs_in}

@@ -1,13 +1,10 @@
 -- The site of a body, among those of its module.
 use Rattle.std.proofs.Common.{◌≡◌, ◌∙◌, ℕ, zero, suc, ◌+◌, ◌<◌, List, [], ◌∷◌, length, Some, None, Bool, sym, ap, ap₂, subst, slice_get, get_or, arith}
 use Rattle.std.proofs.lemmas.Option.{slice_get-get_or}
-use Rattle.module_ast.specs.declared.module.Body.{Body}
-use Rattle.module_ast.specs.declared.module.FuncType.{FuncType}
-use Rattle.module_ast.specs.declared.module.Module.{Module}
-use Rattle.module_ast.specs.Marks.{Mark, marks, func_type_or}
-use Rattle.module_ast.specs.Start.{is_start}
-use Rattle.module_ast.specs.Typing.{Context, push}
-use Rattle.module_ast.specs.Validity.{body_context, function_types}
+use Rattle.wasm_sem.specs.Types.{Body, FuncType, Module}
+use Rattle.module_ast.specs.Places.{Mark, marks, func_type_or}
+use Rattle.module_ast.specs.Structure.{is_start}
+use Rattle.module_ast.specs.Validation.{Context, push, body_context, function_types}
 use Rattle.code_valid.specs.Bodies.{body_of, IsContextOf, IsTypedBody}
 use Rattle.code_valid.specs.declared.marks.Marks.{Marks}
 use Rattle.code_valid.proofs.Computed.{computed}

@@ -2,12 +2,11 @@
 use Rattle.std.proofs.Common.{◌≡◌, ℕ, ◌+◌, List, [], ◌∷◌, ◌++◌, Bool, true, false, refl, ap, ap₂, ◌∙◌, append-nil, arith}
 use Rattle.std.specs.List.{flat_map}
 use Rattle.std.proofs.lemmas.Grind.{flat_map-append}
-use Rattle.wasm_num.specs.declared.ValType.{ValType}
+use Rattle.wasm_sem.specs.Types.{ValType, Hooks}
 use Rattle.wasm_num.specs.declared.BlockKind.TheVariants as kinds
 use Rattle.module_ast.specs.Lists.{when}
-use Rattle.module_ast.specs.Positions.{Scope, Place, at, alternates, closes, code_size, goes_on, ends_live, code_places, function_scope, block_scope, loop_scope, if_scope, then_scope, else_scope}
-use Rattle.module_ast.specs.Tree.{Tree, done, plain, block, loop, if_then, if_else}
-use Rattle.hook_select.specs.declared.Hooks.{Hooks}
+use Rattle.module_ast.specs.Places.{Scope, Place, at, alternates, closes, code_size, goes_on, ends_live, code_places, function_scope, block_scope, loop_scope, if_scope, then_scope, else_scope}
+use Rattle.module_ast.specs.Structure.{Tree, done, plain, block, loop, if_then, if_else}
 use Rattle.hook_mono.specs.Needed.{Site}
 use Rattle.rewrite_needs.specs.Temporaries.{open_temps, close_temps, plain_temps, place_temps, body_temps, code_temps}
 

@@ -5,9 +5,7 @@
 --     branched      a branch needs the ends of all blocks that it leaves
 use Rattle.std.proofs.Common.{◌≡◌, ◌⊎◌, inl, inr, ℕ, suc, ◌-◌, ◌<◌, ◌≤◌, List, [], ◌∷◌, length, map, take, Bool, true, false, cond, leb, leb-true, leb-false, refl, sym, ap, ◌∙◌, subst, arith}
 use Rattle.std.proofs.lemmas.Bool.Decides.{nat_tests}
-use Rattle.wasm_num.specs.declared.BlockKind.{BlockKind}
-use Rattle.hook_select.specs.declared.Hooks.{Hooks}
-use Rattle.hook_mono.specs.declared.HookKey.{HookKey}
+use Rattle.wasm_sem.specs.Types.{BlockKind, Hooks, HookKey}
 use Rattle.hook_mono.specs.declared.HookKey.TheVariants as keys
 use Rattle.rewrite_needs.specs.declared.needs.OpenBlock.{OpenBlock}
 use Rattle.rewrite_needs.specs.Needing.{with_wanted, with_each_wanted, rest_left, all_left, with_ends}

@@ -1,17 +1,13 @@
 -- Needed keys place by place: a branch needs the ends of the open blocks that no branch before it has left.
 use Rattle.std.specs.Prelude.{ℕ, ◌+◌, ◌-◌, ℤ, nat_abs, List, [], ◌∷◌, ◌++◌, Option, None, Some, cond, fold, leb}
-use Rattle.wasm_num.specs.declared.BlockKind.{BlockKind}
+use Rattle.wasm_sem.specs.Types.{BlockKind, Instr, Hooks, HookKey}
 use Rattle.wasm_num.specs.declared.BlockKind.TheVariants as kinds
-use Rattle.module_ast.specs.declared.code.Instr.{Instr}
 use Rattle.module_ast.specs.Lists.{when}
-use Rattle.module_ast.specs.Plains.{plain_of}
-use Rattle.module_ast.specs.Tree.{Plain, br, br_if, return_}
+use Rattle.module_ast.specs.Structure.{plain_of, Plain, br, br_if, return_}
 use Rattle.branch_resolve.specs.declared.place.Place.{Place}
 use Rattle.branch_resolve.specs.declared.place.Opcode.{Opcode}
 use Rattle.branch_resolve.specs.declared.place.Opcode.TheVariants.{Enters, Acts, Opens, Alternates, Closes}
 use Rattle.hook_select.specs.declared.GroupName.TheVariants as groups
-use Rattle.hook_select.specs.declared.Hooks.{Hooks}
-use Rattle.hook_mono.specs.declared.HookKey.{HookKey}
 use Rattle.hook_mono.specs.declared.HookKey.TheVariants as keys
 use Rattle.hook_mono.specs.Keys.{is_wanted, with_key}
 use Rattle.hook_mono.specs.Needed.{Site, plain_keys, open_keys, close_keys}

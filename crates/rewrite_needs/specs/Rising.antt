@@ -1,8 +1,8 @@
 -- Marks in rising order.
 use Rattle.std.specs.Prelude.{ℕ, ◌+◌, ◌≤◌, ◌==◌, List, [], ◌∷◌, Option, None, Some, cond}
-use Rattle.wasm_num.specs.declared.ValType.{ValType}
+use Rattle.wasm_sem.specs.Types.{ValType}
 use Rattle.wasm_num.specs.declared.ValType.TheVariants.{I32}
-use Rattle.module_ast.specs.Marks.{Mark}
+use Rattle.module_ast.specs.Places.{Mark}
 
 -- each stands behind the one before it, and the first at p or behind it
 abbrev pub MarksRiseFrom : (p : ℕ) → List Mark → Type 0

@@ -1,13 +1,10 @@
 -- How many temporaries of each type the templates of a body need at most, place by place.
 use Rattle.std.specs.Prelude.{ℕ, ◌+◌, List, [], ◌∷◌, Bool, Option, None, Some, fold, max}
-use Rattle.wasm_num.specs.declared.ValType.{ValType}
+use Rattle.wasm_sem.specs.Types.{ValType, Instr, Hooks}
 use Rattle.wasm_num.specs.declared.ValType.TheVariants.{I32, I64}
-use Rattle.module_ast.specs.declared.code.Instr.{Instr}
 use Rattle.module_ast.specs.Lists.{when}
-use Rattle.module_ast.specs.Plains.{plain_of}
-use Rattle.module_ast.specs.Positions.{code_size, ends_live}
-use Rattle.module_ast.specs.Tree.{Tree, Plain}
-use Rattle.hook_select.specs.declared.Hooks.{Hooks}
+use Rattle.module_ast.specs.Structure.{plain_of, Tree, Plain}
+use Rattle.module_ast.specs.Places.{code_size, ends_live}
 use Rattle.hook_mono.specs.Needed.{Site}
 use Rattle.i64_split.specs.Split.{ints_in, longs_in}
 use Rattle.rewrite_needs.specs.Temporaries.{plain_temps, code_temps}

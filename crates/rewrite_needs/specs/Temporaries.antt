@@ -1,19 +1,15 @@
 -- The temporaries that the templates of a body need.
 use Rattle.std.specs.Prelude.{ℕ, ◌+◌, ◌||◌, nat_abs, ℤ, List, [], ◌∷◌, ◌++◌, length, flat_map, max, Bool}
-use Rattle.wasm_num.specs.declared.ValType.{ValType}
+use Rattle.wasm_sem.specs.Types.{ValType, BlockKind, Hooks, HookKey}
 use Rattle.wasm_num.specs.declared.ValType.TheVariants.{I32}
-use Rattle.wasm_num.specs.declared.BlockKind.{BlockKind}
 use Rattle.wasm_num.specs.declared.BlockKind.TheVariants as kinds
 use Rattle.wasm_num.specs.Shapes.{num_operands, num_result}
-use Rattle.module_ast.specs.Shapes.{load_type, store_type}
+use Rattle.module_ast.specs.Validation.{load_type, store_type}
 use Rattle.module_ast.specs.Lists.{when}
-use Rattle.module_ast.specs.Marks.{mark_at, type_of_callee, indirect_type}
-use Rattle.module_ast.specs.Positions.{Place, Opcode, acts, opens, closes, places, code_size, goes_on}
-use Rattle.module_ast.specs.Tree.{Tree, done, plain, block, loop, if_then, if_else, Plain, br_if, br_table, return_, call, call_indirect, drop_, select, load, store, memory_size, memory_grow, num}
+use Rattle.module_ast.specs.Places.{mark_at, type_of_callee, indirect_type, Place, Opcode, acts, opens, closes, places, code_size, goes_on}
+use Rattle.module_ast.specs.Structure.{Tree, done, plain, block, loop, if_then, if_else, Plain, br_if, br_table, return_, call, call_indirect, drop_, select, load, store, memory_size, memory_grow, num}
 use Rattle.hook_select.specs.declared.GroupName.TheVariants as groups
-use Rattle.hook_select.specs.declared.Hooks.{Hooks}
 use Rattle.hook_select.specs.Groups.{has}
-use Rattle.hook_mono.specs.declared.HookKey.{HookKey}
 use Rattle.hook_mono.specs.declared.HookKey.TheVariants as keys
 use Rattle.hook_mono.specs.Keys.{is_wanted}
 use Rattle.hook_mono.specs.Needed.{Site}

@@ -1,7 +1,7 @@
 // The keys that a body needs.
 
 ghost use Rattle.std.specs.Prelude.{◌≡◌, ◌+◌, ◌*◌, ◌<◌, ◌≤◌, ◌^◌, [], ◌∷◌, length, option_map, slice_get, Some, nat_abs, IfOk, OnOk, OnErr};
-ghost use Rattle.module_ast.specs.Positions.{code_size, code_nesting, places};
+ghost use Rattle.module_ast.specs.Places.{code_size, code_nesting, places};
 ghost use Rattle.hook_mono.specs.declared.HookKey.TheVariants as keys;
 ghost use Rattle.hook_mono.specs.Needed.{sites, needs_of};
 ghost use Rattle.rewrite_needs.specs.Needing.{instr_keys, told_keys, blocks_kept_by, blocks_kept_at, first_left, rest_left, with_open_block, with_needed, after_branch, after_live, after_opcode, into_block, left_out_to, after_place, kind_opened};

@@ -5,10 +5,8 @@ ghost use Rattle.wasm_num.specs.declared.ValType.TheVariants.{I32};
 ghost use Rattle.wasm_num.specs.Shapes.{num_operands, num_result};
 ghost use Rattle.hook_select.specs.declared.GroupName.TheVariants as groups;
 ghost use Rattle.hook_select.specs.Groups.{has};
-ghost use Rattle.module_ast.specs.Plains.{IsPlainInstr};
-ghost use Rattle.module_ast.specs.Positions.{code_size};
-ghost use Rattle.module_ast.specs.Seen.{before};
-ghost use Rattle.module_ast.specs.Tree.{Tree, done};
+ghost use Rattle.module_ast.specs.Structure.{IsPlainInstr, before, Tree, done};
+ghost use Rattle.module_ast.specs.Places.{code_size};
 ghost use Rattle.rewrite_needs.specs.Temporaries.{pool_of, body_temps};
 ghost use Rattle.rewrite_needs.specs.Room.{room_for, with_one, wider, widened, widened_where, no_room, instr_temps, behind_code, behind_part};
 

@@ -1,9 +1,8 @@
 // A defined function as its hooks see it.
 
 ghost use Rattle.std.specs.Prelude.{◌≡◌, ◌+◌, ◌≤◌, length, slice_get, Some, IfOk};
-ghost use Rattle.module_ast.specs.Marks.{mark_at, type_of_callee, indirect_type, type_of_local, type_of_global};
-ghost use Rattle.module_ast.specs.Positions.{code_size, code_nesting};
-ghost use Rattle.module_ast.specs.Start.{is_start};
+ghost use Rattle.module_ast.specs.Places.{mark_at, type_of_callee, indirect_type, type_of_local, type_of_global, code_size, code_nesting};
+ghost use Rattle.module_ast.specs.Structure.{is_start};
 ghost use Rattle.branch_resolve.specs.Sizes.{sizes_of};
 ghost use Rattle.hook_mono.specs.Needed.{sites};
 ghost use Rattle.rewrite_needs.specs.Rising.{MarksRiseFrom, type_in};

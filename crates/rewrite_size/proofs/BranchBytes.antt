@@ -3,22 +3,18 @@ use Rattle.std.proofs.Common.{◌≡◌, ℕ, zero, suc, ◌+◌, pos, List, [],
 use Rattle.std.specs.Prelude.{unwrap_or}
 use Rattle.leb_binary.specs.Shortest.{unsigned_bytes}
 use Rattle.wasm_num.specs.declared.ValType.TheVariants as types
-use Rattle.module_ast.specs.declared.code.Instr.{Instr}
+use Rattle.wasm_sem.specs.Types.{Instr, Group, ValType}
 use Rattle.module_ast.specs.declared.code.Instr.TheVariants.{Block, Loop, If, IfElse, Br, BrIf, BrTable, Return}
-use Rattle.module_ast.specs.declared.module.Group.{Group}
 use Rattle.module_ast.specs.declared.code.BlockType.TheVariants.{Empty}
-use Rattle.module_ast.specs.Canonical.{plain_bytes, items_bytes, vec_bytes, group_bytes}
+use Rattle.module_ast.specs.Binary.{plain_bytes, items_bytes, vec_bytes, group_bytes}
 use Rattle.module_ast.specs.Lists.{when}
-use Rattle.module_ast.specs.Plains.{plains, plain_of}
-use Rattle.module_ast.specs.Positions.{Scope, target_of, left_by}
-use Rattle.module_ast.specs.Seen.{before}
-use Rattle.module_ast.specs.Tree.{Tree, done, plain, if_then, Plain, br, br_if, br_table, return_}
+use Rattle.module_ast.specs.Structure.{plains, plain_of, before, Tree, done, plain, if_then, Plain, br, br_if, br_table, return_}
+use Rattle.module_ast.specs.Places.{Scope, target_of, left_by}
 use Rattle.hook_select.specs.declared.GroupName.TheVariants as groups
 use Rattle.hook_select.specs.Groups.{has}
 use Rattle.hook_mono.specs.declared.HookKey.TheVariants as keys
 use Rattle.i64_split.specs.declared.Temp.{Temp}
 use Rattle.i64_split.specs.declared.Pool.{Pool}
-use Rattle.wasm_num.specs.declared.ValType.{ValType}
 use Rattle.i64_split.specs.Split.{temps, gets, words_code, pool_groups, locals_group}
 use Rattle.rewrite.specs.Setting.{Setting, constant, tells, tell_ends}
 use Rattle.rewrite.specs.Templates.{tee_code, tell_before, tell_results, template}

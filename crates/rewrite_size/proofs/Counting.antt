@@ -2,11 +2,11 @@
 use Rattle.std.proofs.Common.{◌≡◌, ℕ, ◌+◌, ◌*◌, ◌<◌, ◌≤◌, ◌^◌, List, [], ◌∷◌, ◌++◌, length, refl, length-append, arith}
 use Rattle.std.specs.Prelude.{flat_map}
 use Rattle.std.specs.List.{AllByRecursion}
-use Rattle.module_ast.specs.Canonical.{items_bytes, code_bytes, expr_bytes, vec_bytes, group_bytes, body_bytes}
+use Rattle.module_ast.specs.Binary.{items_bytes, code_bytes, expr_bytes, vec_bytes, group_bytes, body_bytes}
 use Rattle.module_ast.proofs.Sizes.{code_counts}
 use Rattle.module_ast.proofs.Writers.{counted_some}
 use Rattle.module_ast.specs.Lists.{first_or}
-use Rattle.module_ast.specs.Positions.{Scope, Place, places}
+use Rattle.module_ast.specs.Places.{Scope, Place, places}
 use Rattle.branch_resolve.specs.declared.Block.{Block}
 use Rattle.branch_resolve.specs.declared.place.Place.{Place as Read}
 use Rattle.branch_resolve.specs.Scopes.{blocks_around}

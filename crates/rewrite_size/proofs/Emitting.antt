@@ -1,12 +1,10 @@
 -- The bytes of instructions that were put into a list of the program.
 use Rattle.std.proofs.Common.{◌≡◌, ℕ, zero, suc, ◌+◌, ◌<◌, ◌≤◌, ◌^◌, List, [], ◌∷◌, ◌++◌, length, drop, drop-cons, add-one, Some, get_or, refl, sym, ap, ◌∙◌, subst, arith}
-use Rattle.module_ast.specs.declared.code.Instr.{Instr}
+use Rattle.wasm_sem.specs.Types.{Instr}
 use Rattle.module_ast.specs.declared.code.Instr.TheVariants.{Call}
-use Rattle.module_ast.specs.Canonical.{code_bytes}
+use Rattle.module_ast.specs.Binary.{code_bytes}
 use Rattle.wasm_encode.specs.Lengths.{most_bytes}
-use Rattle.module_ast.specs.Plains.{plains, plain_of, IsPlainInstr}
-use Rattle.module_ast.specs.Seen.{code_of}
-use Rattle.module_ast.specs.Tree.{done, plain, Plain, call}
+use Rattle.module_ast.specs.Structure.{plains, plain_of, IsPlainInstr, code_of, done, plain, Plain, call}
 use Rattle.i64_split.specs.Pushing.{instrs}
 use Rattle.rewrite_size.specs.Sizes.{plains_length, plains_most}
 use Rattle.rewrite_size.specs.Sizing.{AreShortInstrs, HaveBytes, instrs_most}

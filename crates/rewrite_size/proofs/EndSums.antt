@@ -1,7 +1,7 @@
 -- The bytes of the end hooks of open blocks, summed from the outermost on.
 use Rattle.std.proofs.Common.{◌≡◌, ℕ, zero, suc, ◌+◌, ◌-◌, ◌<◌, ◌≤◌, inl, inr, List, [], ◌∷◌, length, drop, take, refl, sym, ap, ap₂, ◌∙◌, arith}
 use Rattle.module_ast.specs.Lists.{first_or}
-use Rattle.module_ast.specs.Positions.{Scope, left_by}
+use Rattle.module_ast.specs.Places.{Scope, left_by}
 use Rattle.rewrite.specs.Setting.{Setting, tell_end, tell_ends}
 use Rattle.branch_resolve.specs.declared.Block.{Block}
 use Rattle.branch_resolve.specs.Scopes.{blocks_around}

@@ -3,18 +3,14 @@ use Rattle.std.proofs.lemmas.Option.{none-some, same_Some}
 use Rattle.std.proofs.Common.{◌≡◌, ◌≤◌, ℕ, List, [], ◌∷◌, ◌++◌, length, Some, Bool, false, cond, pos, sym, ap, ◌∙◌, arith}
 use Rattle.wasm_num.specs.declared.ValType.TheVariants.{I32, I64}
 use Rattle.wasm_num.specs.Shapes.{num_operands}
-use Rattle.module_ast.specs.declared.ops.VarOp.{VarOp}
+use Rattle.wasm_sem.specs.Types.{VarOp, Instr, GroupName}
 use Rattle.module_ast.specs.declared.ops.VarOp.TheVariants.{Get, Set, Tee}
-use Rattle.module_ast.specs.declared.code.Instr.{Instr}
 use Rattle.module_ast.specs.declared.code.Instr.TheVariants.{Unreachable, Nop, CallIndirect, Drop, Select, LocalGet, LocalSet, LocalTee, GlobalGet, GlobalSet, Load, Store, MemorySize, MemoryGrow, I32Const, I64Const, Num}
-use Rattle.module_ast.specs.Canonical.{code_bytes}
+use Rattle.module_ast.specs.Binary.{code_bytes}
 use Rattle.module_ast.specs.Lists.{when}
-use Rattle.module_ast.specs.Positions.{Scope}
-use Rattle.module_ast.specs.Seen.{before}
-use Rattle.module_ast.specs.Marks.{type_of_local, type_of_global}
-use Rattle.module_ast.specs.Tree as tree
-use Rattle.module_ast.specs.Tree.{Plain, done}
-use Rattle.hook_select.specs.declared.GroupName.{GroupName}
+use Rattle.module_ast.specs.Places.{Scope, type_of_local, type_of_global}
+use Rattle.module_ast.specs.Structure.{before, Plain, done}
+use Rattle.module_ast.specs.Structure.Trees as tree
 use Rattle.hook_select.specs.declared.GroupName.TheVariants as groups
 use Rattle.hook_select.specs.Groups.{has}
 use Rattle.hook_mono.specs.Keys.{num_group}

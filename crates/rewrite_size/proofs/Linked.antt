@@ -1,8 +1,8 @@
 -- The places of a body in a row: from one to the next at most one block is entered or left.
 use Rattle.std.proofs.Common.{◌≡◌, ℕ, ◌+◌, List, [], ◌∷◌, ◌++◌, inl, inr, Bool, true, ◌&&◌, refl, sym, ap, subst, append_assoc}
 use Rattle.std.specs.Prelude.{◌⊎◌}
-use Rattle.module_ast.specs.Positions.{Scope, function_scope, block_scope, loop_scope, if_scope, then_scope, else_scope, closes, Opcode, Place, at, ends_live, goes_on, code_places, places}
-use Rattle.module_ast.specs.Tree.{Tree, done, plain, block, loop, if_then, if_else}
+use Rattle.module_ast.specs.Places.{Scope, function_scope, block_scope, loop_scope, if_scope, then_scope, else_scope, closes, Opcode, Place, at, ends_live, goes_on, code_places, places}
+use Rattle.module_ast.specs.Structure.{Tree, done, plain, block, loop, if_then, if_else}
 use Rattle.rewrite_size.specs.Sizes.{IsNear, AreLinked}
 
 -- what stands before a place of a sequence in this block: a place of it, or one that enters the block

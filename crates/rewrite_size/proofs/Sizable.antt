@@ -1,13 +1,10 @@
 -- A typed body can be counted: it and the types of its module have no more bytes than a file.
 use Rattle.std.proofs.Common.{◌≡◌, ℕ, zero, suc, ◌+◌, ◌≤◌, ◌^◌, List, [], ◌∷◌, length, Option, Some, None, refl, sym, ap, subst, slice_get, length-append, arith}
 use Rattle.std.specs.List.{AllByRecursion}
-use Rattle.wasm_num.specs.declared.ValType.{ValType}
-use Rattle.module_ast.specs.declared.module.FuncType.{FuncType}
-use Rattle.module_ast.specs.declared.module.Body.{Body}
-use Rattle.module_ast.specs.declared.module.Module.{Module}
-use Rattle.module_ast.specs.Canonical.{val_type_bytes, vec_bytes, items_bytes, func_type_bytes, sized_bytes, body_bytes, module_bytes}
-use Rattle.module_ast.specs.Marks.{func_type_or}
-use Rattle.module_ast.specs.Limits.{IsWhole}
+use Rattle.wasm_sem.specs.Types.{ValType, FuncType, Body, Module}
+use Rattle.module_ast.specs.Binary.{val_type_bytes, vec_bytes, items_bytes, func_type_bytes, sized_bytes, body_bytes, module_bytes}
+use Rattle.module_ast.specs.Places.{func_type_or}
+use Rattle.module_ast.specs.Validation.{IsWhole}
 use Rattle.module_ast.proofs.Each.{all_at}
 use Rattle.module_ast.proofs.Indexed.{in_at, all_in}
 use Rattle.module_ast.proofs.Sizes.{item_counts, section_counts, sized_counts, bodies_count}

@@ -1,12 +1,11 @@
 -- The bytes of rewritten code, counted place by place.
 use Rattle.std.proofs.Common.{◌≡◌, ℕ, ◌+◌, ◌≤◌, pos, List, [], ◌∷◌, ◌++◌, length, Bool, true, false, cond, refl, subst, sym, ap, length-append, arith}
-use Rattle.module_ast.specs.declared.code.BlockType.{BlockType}
+use Rattle.wasm_sem.specs.Types.{BlockType}
 use Rattle.module_ast.specs.declared.code.BlockType.TheVariants.{Empty}
 use Rattle.module_ast.specs.Lists.{when}
-use Rattle.module_ast.specs.Plains.{plains}
-use Rattle.module_ast.specs.Canonical.{block_type_bytes, items_bytes, plain_bytes, code_bytes, expr_bytes, vec_bytes, group_bytes}
-use Rattle.module_ast.specs.Positions.{Scope, Place, function_scope, block_scope, loop_scope, if_scope, then_scope, else_scope, goes_on, left_by, ends_live, at, opens, alternates, closes, code_places, places}
-use Rattle.module_ast.specs.Tree.{Tree, done, plain, block, loop, if_then, if_else, Plain, br_if}
+use Rattle.module_ast.specs.Structure.{plains, Tree, done, plain, block, loop, if_then, if_else, Plain, br_if}
+use Rattle.module_ast.specs.Binary.{block_type_bytes, items_bytes, plain_bytes, code_bytes, expr_bytes, vec_bytes, group_bytes}
+use Rattle.module_ast.specs.Places.{Scope, Place, function_scope, block_scope, loop_scope, if_scope, then_scope, else_scope, goes_on, left_by, ends_live, at, opens, alternates, closes, code_places, places}
 use Rattle.hook_select.specs.declared.GroupName.TheVariants as groups
 use Rattle.hook_select.specs.Groups.{has}
 use Rattle.hook_mono.specs.declared.HookKey.TheVariants as keys

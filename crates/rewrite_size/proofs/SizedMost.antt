@@ -1,23 +1,16 @@
 -- How many bytes templates have at most.
 use Rattle.std.proofs.Common.{◌≡◌, ℕ, ◌+◌, ◌*◌, ◌≤◌, ℤ, pos, negsuc, List, [], ◌∷◌, ◌++◌, length, Option, Some, None, Bool, true, false, cond, refl, slice_get, arith}
-use Rattle.wasm_num.specs.declared.ValType.{ValType}
+use Rattle.wasm_sem.specs.Types.{ValType, BlockKind, NumOp, FuncType, HookKey}
 use Rattle.wasm_num.specs.declared.ValType.TheVariants as types
-use Rattle.wasm_num.specs.declared.BlockKind.{BlockKind}
 use Rattle.wasm_num.specs.declared.BlockKind.TheVariants as kinds
 use Rattle.wasm_num.specs.Shapes.{num_operands, num_result}
-use Rattle.wasm_num.specs.declared.NumOp.{NumOp}
 use Rattle.wasm_num.specs.declared.NumOp.TheVariants.{I32Eqz}
-use Rattle.module_ast.specs.declared.module.FuncType.{FuncType}
 use Rattle.module_ast.specs.Lists.{when}
-use Rattle.module_ast.specs.Shapes.{load_type, store_type}
-use Rattle.module_ast.specs.Marks.{mark_at, type_of_callee, indirect_type, type_by, func_type_or, type_of_local, type_of_global}
-use Rattle.module_ast.specs.Plains.{instr_of}
-use Rattle.module_ast.specs.Positions.{Scope}
-use Rattle.module_ast.specs.Typing.{Context}
-use Rattle.module_ast.specs.Tree.{Plain, unreachable, nop, call, call_indirect, drop_, select, local_get, local_set, local_tee, global_get, global_set, load, store, memory_size, memory_grow, i32_const, i64_const, num}
+use Rattle.module_ast.specs.Validation.{load_type, store_type, Context}
+use Rattle.module_ast.specs.Places.{mark_at, type_of_callee, indirect_type, type_by, func_type_or, type_of_local, type_of_global, Scope}
+use Rattle.module_ast.specs.Structure.{instr_of, Plain, unreachable, nop, call, call_indirect, drop_, select, local_get, local_set, local_tee, global_get, global_set, load, store, memory_size, memory_grow, i32_const, i64_const, num}
 use Rattle.module_ast.proofs.Each.{all_at}
 use Rattle.hook_select.specs.declared.GroupName.TheVariants as groups
-use Rattle.hook_mono.specs.declared.HookKey.{HookKey}
 use Rattle.hook_mono.specs.declared.HookKey.TheVariants as keys
 use Rattle.module_ast.specs.declared.ops.VarOp.TheVariants.{Get, Set, Tee}
 use Rattle.i64_split.specs.declared.Temp.{Temp}

@@ -2,10 +2,9 @@
 use Rattle.std.proofs.Common.{◌≡◌, ℕ, ◌+◌, ◌*◌, ◌<◌, ◌≤◌, ◌^◌, List, [], ◌∷◌, ◌++◌, length, Bool, true, ◌&&◌, length-append, arith, refl}
 use Rattle.std.specs.List.{AllByRecursion}
 use Rattle.leb_binary.specs.Shortest.{unsigned_bytes}
-use Rattle.module_ast.specs.Canonical.{items_bytes, plain_bytes, code_bytes, expr_bytes}
-use Rattle.module_ast.specs.Plains.{instr_of}
-use Rattle.module_ast.specs.Positions.{Scope, Place, function_scope, block_scope, loop_scope, if_scope, then_scope, else_scope, code_size, goes_on, ends_live, at, alternates, closes, code_places, places}
-use Rattle.module_ast.specs.Tree.{Tree, done, plain, block, loop, if_then, if_else, Plain, br_table}
+use Rattle.module_ast.specs.Binary.{items_bytes, plain_bytes, code_bytes, expr_bytes}
+use Rattle.module_ast.specs.Structure.{instr_of, Tree, done, plain, block, loop, if_then, if_else, Plain, br_table}
+use Rattle.module_ast.specs.Places.{Scope, Place, function_scope, block_scope, loop_scope, if_scope, then_scope, else_scope, code_size, goes_on, ends_live, at, alternates, closes, code_places, places}
 use Rattle.module_ast.proofs.Each.{all_both}
 use Rattle.module_ast.proofs.Writers.{unsigned_some, items_many}
 use Rattle.index_remap.specs.declared.Remap.{Remap}

@@ -1,9 +1,8 @@
 -- Instructions that stay as they are where their group is not selected.
 use Rattle.std.specs.Prelude.{Option, Some, None}
 use Rattle.wasm_num.specs.Shapes.{num_operands}
-use Rattle.module_ast.specs.declared.code.Instr.{Instr}
+use Rattle.wasm_sem.specs.Types.{Instr, GroupName}
 use Rattle.module_ast.specs.declared.code.Instr.TheVariants.{Unreachable, Nop, CallIndirect, Drop, Select, LocalGet, LocalSet, LocalTee, GlobalGet, GlobalSet, Load, Store, MemorySize, MemoryGrow, I32Const, I64Const, Num}
-use Rattle.hook_select.specs.declared.GroupName.{GroupName}
 use Rattle.hook_select.specs.declared.GroupName.TheVariants as groups
 use Rattle.hook_mono.specs.Keys.{num_group}
 

@@ -1,15 +1,13 @@
 -- How many bytes of a rewritten body stand for each place of the original.
 use Rattle.std.specs.Prelude.{◌≡◌, ℕ, ◌+◌, ◌<◌, ◌≤◌, ◌^◌, nat_abs, ℤ, ◌⊎◌, List, [], ◌∷◌, length, cond}
 use Rattle.std.specs.List.{AllByRecursion}
-use Rattle.wasm_num.specs.declared.BlockKind.{BlockKind}
+use Rattle.wasm_sem.specs.Types.{BlockKind, FuncType}
 use Rattle.wasm_num.specs.declared.BlockKind.TheVariants as kinds
 use Rattle.module_ast.specs.Lists.{when}
-use Rattle.module_ast.specs.Plains.{instr_of}
-use Rattle.module_ast.specs.Canonical.{items_bytes, plain_bytes, block_type_bytes, code_bytes, body_bytes}
-use Rattle.module_ast.specs.Positions.{Scope, Place, Opcode, enters, acts, opens, alternates, closes}
-use Rattle.module_ast.specs.declared.module.FuncType.{FuncType}
-use Rattle.module_ast.specs.Tree.{Tree, done, plain, block, loop, if_then, if_else, Plain, br, br_if, br_table, return_}
-use Rattle.module_ast.specs.Typing.{Context}
+use Rattle.module_ast.specs.Structure.{instr_of, Tree, done, plain, block, loop, if_then, if_else, Plain, br, br_if, br_table, return_}
+use Rattle.module_ast.specs.Binary.{items_bytes, plain_bytes, block_type_bytes, code_bytes, body_bytes}
+use Rattle.module_ast.specs.Places.{Scope, Place, Opcode, enters, acts, opens, alternates, closes}
+use Rattle.module_ast.specs.Validation.{Context}
 use Rattle.hook_select.specs.declared.GroupName.TheVariants as groups
 use Rattle.hook_mono.specs.declared.HookKey.TheVariants as keys
 use Rattle.index_remap.specs.declared.Remap.{Remap}

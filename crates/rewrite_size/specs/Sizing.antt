@@ -1,14 +1,13 @@
 -- What the count of a rewritten body's bytes promises of its parts.
 use Rattle.std.specs.Prelude.{◌≡◌, ℕ, ◌+◌, ◌<◌, ◌≤◌, ◌^◌, List, [], ◌∷◌, ◌++◌, pos, map, length, Bool}
 use Rattle.std.specs.List.{AllByRecursion}
-use Rattle.module_ast.specs.declared.code.Instr.{Instr}
+use Rattle.wasm_sem.specs.Types.{Instr}
 use Rattle.module_ast.specs.declared.code.Instr.TheVariants.{Block, Loop, If, IfElse, Br, BrIf, BrTable, Return}
-use Rattle.module_ast.specs.Canonical.{body_bytes}
+use Rattle.module_ast.specs.Binary.{body_bytes}
 use Rattle.module_ast.specs.Lists.{when}
-use Rattle.module_ast.specs.Plains.{instr_of}
-use Rattle.module_ast.specs.Positions as positions
-use Rattle.module_ast.specs.Positions.{Scope, code_size, code_nesting}
-use Rattle.module_ast.specs.Tree.{Plain, br}
+use Rattle.module_ast.specs.Structure.{instr_of, Plain, br}
+use Rattle.module_ast.specs.Places.Positions as positions
+use Rattle.module_ast.specs.Places.{Scope, code_size, code_nesting}
 use Rattle.wasm_num.specs.declared.ValType.TheVariants.{I32}
 use Rattle.hook_select.specs.declared.GroupName.TheVariants as groups
 use Rattle.hook_mono.specs.declared.HookKey.TheVariants as keys

@@ -1,8 +1,7 @@
 // How many bytes the types of blocks have.
 
 ghost use Rattle.std.specs.Prelude.{◌≡◌, ◌+◌, ◌<◌, ◌^◌};
-ghost use Rattle.module_ast.specs.Tree.{Tree, done};
-ghost use Rattle.module_ast.specs.Seen.{before};
+ghost use Rattle.module_ast.specs.Structure.{Tree, done, before};
 ghost use Rattle.rewrite_size.specs.Sizes.{types_length};
 
 use module_ast::code::{Code, Instr};

@@ -3,13 +3,11 @@
 ghost use Rattle.std.specs.Prelude.{◌≡◌, ◌+◌, ◌*◌, ◌++◌, ◌∷◌, [], pos, ◌<◌, ◌≤◌, ◌^◌, ℕ, List, length, option_map, slice_get, IfOk, OnOk, true, false, Some};
 ghost use Rattle.wasm_num.specs.declared.ValType.TheVariants.{I32};
 ghost use Rattle.module_ast.specs.Lists.{when, first_or};
-ghost use Rattle.module_ast.specs.Tree as tree;
-ghost use Rattle.module_ast.specs.Tree.{Plain, done};
-ghost use Rattle.module_ast.specs.Plains.{plain_of, IsPlainInstr};
-ghost use Rattle.module_ast.specs.Seen.{before};
-ghost use Rattle.module_ast.specs.Positions as positions;
-ghost use Rattle.module_ast.specs.Positions.{Scope};
-ghost use Rattle.module_ast.specs.Canonical.{plain_bytes, code_bytes, items_bytes, vec_bytes, group_bytes, body_bytes};
+ghost use Rattle.module_ast.specs.Structure.Trees as tree;
+ghost use Rattle.module_ast.specs.Structure.{Plain, done, plain_of, IsPlainInstr, before};
+ghost use Rattle.module_ast.specs.Places.Positions as positions;
+ghost use Rattle.module_ast.specs.Places.{Scope};
+ghost use Rattle.module_ast.specs.Binary.{plain_bytes, code_bytes, items_bytes, vec_bytes, group_bytes, body_bytes};
 ghost use Rattle.branch_resolve.specs.declared.Block.{Block as Around};
 ghost use Rattle.branch_resolve.specs.Walks.{IsPlaceOf};
 ghost use Rattle.branch_resolve.specs.Scopes.{end_of, block_of, blocks_around};
@@ -25,7 +23,7 @@ ghost use Rattle.rewrite.specs.Templates.{template, tell_begin, tell_before, tel
 ghost use Rattle.rewrite_needs.specs.Room.{instr_temps};
 ghost use Rattle.rewrite.specs.Emitted.{block_end_code, target_word, HasRoom};
 ghost use Rattle.hook_mono.specs.Needed.{Site, sites};
-ghost use Rattle.hook_select.specs.declared.GroupName.{GroupName};
+ghost use Rattle.wasm_sem.specs.Types.{GroupName};
 ghost use Rattle.hook_select.specs.Groups.{has};
 ghost use Rattle.rewrite.specs.Conditions.{CanRewrite};
 ghost use Rattle.rewrite_size.specs.Kept.{kept_group};

@@ -1,10 +1,8 @@
 -- Code that is no constant gives nothing as an initialiser or an offset.
 use Rattle.std.proofs.Common.{◌≡◌, List, None, refl, sym}
-use Rattle.wasm_num.specs.declared.ValType.{ValType}
-use Rattle.wasm_num.specs.declared.Value.{Value}
-use Rattle.module_ast.specs.Tree.{Tree, done, plain, global_get, i32_const, i64_const}
-use Rattle.wasm_sem.specs.Store.{zero_of}
-use Rattle.wasm_sem.specs.Link.{initial_value, offset_of}
+use Rattle.wasm_sem.specs.Types.{ValType, Value}
+use Rattle.module_ast.specs.Structure.{Tree, done, plain, global_get, i32_const, i64_const}
+use Rattle.wasm_sem.specs.Execution.{zero_of, initial_value, offset_of}
 use Rattle.wasm_sem.proofs.Straight.{none_some}
 use Rattle.wasm_valid.specs.Constants.{constant_of}
 

@@ -1,12 +1,11 @@
 -- The sizes that a memory begins with and may have, by the first range.
 use Rattle.std.proofs.Common.{◌≡◌, ℕ, ◌*◌, ◌≤◌, true, List, [], ◌∷◌, Option, Some, None, All, min, refl, sym, ap, arith, leb-true, slice_get}
 use Rattle.std.specs.Prelude.{unwrap_or, nat_le, IfSome}
-use Rattle.module_ast.specs.declared.module.Range.{Range}
-use Rattle.module_ast.specs.declared.module.Module.{Module}
-use Rattle.module_ast.specs.Spaces.{memories_of, tables_of}
-use Rattle.module_ast.specs.Validity.{IsValid, memory_pages, memory_limits, IsOrdered, HasPagesWithin}
+use Rattle.wasm_sem.specs.Types.{Range, Module}
+use Rattle.module_ast.specs.Structure.{memories_of, tables_of}
+use Rattle.module_ast.specs.Validation.{IsValid, memory_pages, memory_limits, IsOrdered, HasPagesWithin}
 use Rattle.wasm_sem.specs.declared.Script.{Script}
-use Rattle.wasm_sem.specs.Link.{least_size, page_limit, calls_refusal, refusal_unless, memory_cap, Links, fit_elements, fit_segments, opening_globals}
+use Rattle.wasm_sem.specs.Execution.{least_size, page_limit, calls_refusal, refusal_unless, memory_cap, Links, fit_elements, fit_segments, opening_globals}
 use Rattle.wasm_sem.proofs.Straight.{some_is, none_some}
 use Rattle.std.proofs.lemmas.Bool.{and_parts}
 use Rattle.module_ast.specs.Memory.{page_size}

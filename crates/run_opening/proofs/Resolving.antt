@@ -3,18 +3,13 @@ use Rattle.std.proofs.Common.{◌≡◌, ℕ, ◌+◌, ◌<◌, List, [], ◌∷
 use Rattle.std.proofs.lemmas.List.{drop_more, map-append, length-map}
 use Rattle.std.proofs.lemmas.Option.{slice_get-get_or, get_or_from_slice_get, slice_get-map}
 use Rattle.std.specs.Prelude.{option_map}
-use Rattle.module_ast.specs.declared.module.Body.{Body}
-use Rattle.module_ast.specs.declared.module.FuncType.{FuncType}
-use Rattle.module_ast.specs.declared.module.Import.{Import}
-use Rattle.module_ast.specs.declared.module.Module.{Module}
-use Rattle.module_ast.specs.Limits.{IsWhole}
-use Rattle.module_ast.specs.Marks.{height}
-use Rattle.module_ast.specs.Typing.{push}
-use Rattle.module_ast.specs.Validity.{KeepsRules, function_types, body_context, declared_locals}
+use Rattle.wasm_sem.specs.Types.{Body, FuncType, Import, Module}
+use Rattle.module_ast.specs.Validation.{IsWhole, push, KeepsRules, function_types, body_context, declared_locals}
+use Rattle.module_ast.specs.Places.{height}
 use Rattle.code_valid.specs.declared.marks.Marks.{Marks}
 use Rattle.code_valid.specs.Bodies.{IsTypedBody}
 use Rattle.code_valid.proofs.Computed.{computed}
-use Rattle.wasm_sem.specs.Link.{Callee, own, is_hook, item_callees, import_callees, own_callee, own_callees, callees_of}
+use Rattle.wasm_sem.specs.Execution.{Callee, own, is_hook, item_callees, import_callees, own_callee, own_callees, callees_of}
 use Rattle.wasm_sem.specs.Heights.{function_context}
 use Rattle.wasm_sem.proofs.SoundCallees.{has_at}
 use Rattle.wasm_sem.proofs.Straight.{some_is}

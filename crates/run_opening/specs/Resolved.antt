@@ -1,13 +1,10 @@
 -- The functions of a module, each resolved once.
 use Rattle.std.specs.Prelude.{◌≡◌, ℕ, ◌+◌, ◌^◌, ◌<◌, List, map, All}
-use Rattle.module_ast.specs.declared.module.Module.{Module}
-use Rattle.module_ast.specs.declared.module.FuncType.{FuncType}
-use Rattle.module_ast.specs.declared.module.Body.{Body}
-use Rattle.module_ast.specs.Marks.{height}
-use Rattle.module_ast.specs.Positions.{code_nesting}
-use Rattle.module_ast.specs.Profile.{locals_of}
-use Rattle.module_ast.specs.Validity.{declared_locals}
-use Rattle.wasm_sem.specs.Link.{Callee, host, hook, own, callees_of}
+use Rattle.wasm_sem.specs.Types.{Module, FuncType, Body}
+use Rattle.module_ast.specs.Places.{height, code_nesting}
+use Rattle.module_ast.specs.Binary.{locals_of}
+use Rattle.module_ast.specs.Validation.{declared_locals}
+use Rattle.wasm_sem.specs.Execution.{Callee, host, hook, own, callees_of}
 use Rattle.wasm_sem.specs.Heights.{function_context}
 use Rattle.run_opening.specs.declared.functions.Function.{Function}
 use Rattle.run_opening.specs.declared.functions.Function.TheVariants.{Host, Hook, Own}

@@ -1,8 +1,8 @@
 // How many values blocks take and leave.
 
 ghost use Rattle.std.specs.Prelude.{◌≡◌, length, Some};
-ghost use Rattle.module_ast.specs.Typing.{block_type};
-ghost use Rattle.module_ast.specs.declared.module.FuncType.{FuncType as func_type};
+ghost use Rattle.module_ast.specs.Validation.{block_type};
+ghost use Rattle.wasm_sem.specs.Types.{FuncType as func_type};
 
 use module_ast::code::BlockType;
 use module_ast::module::Module;

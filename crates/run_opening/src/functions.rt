@@ -1,11 +1,9 @@
 // The functions of a module, each resolved once.
 
 ghost use Rattle.std.specs.Prelude.{◌≡◌, ◌+◌, ◌<◌, ◌^◌, ◌∷◌, [], ℕ, Some, All, IfOk, IfSome, MatchOption, length, map, slice_get};
-ghost use Rattle.module_ast.specs.declared.module.Module.{Module as valid_module};
-ghost use Rattle.module_ast.specs.declared.module.Body.{Body as function_body};
-ghost use Rattle.module_ast.specs.Profile.{locals_of};
-ghost use Rattle.wasm_sem.specs.Link.{callee_type, item_callees, import_callees, own_callee, callees_of, is_hook};
-ghost use Rattle.wasm_sem.specs.Machine.{have_same_types, same_func_type};
+ghost use Rattle.wasm_sem.specs.Types.{Module as valid_module, Body as function_body};
+ghost use Rattle.module_ast.specs.Binary.{locals_of};
+ghost use Rattle.wasm_sem.specs.Execution.{callee_type, item_callees, import_callees, own_callee, callees_of, is_hook, have_same_types, same_func_type};
 ghost use Rattle.run_opening.specs.Resolved.{callee_for, HasSize, AreFunctionsOf};
 
 use hook_mono::HOOK_MODULE;

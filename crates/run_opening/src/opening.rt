@@ -2,10 +2,8 @@
 
 ghost use Rattle.std.specs.Prelude.{◌≡◌, ◌*◌, ◌≤◌, ◌+◌, IfOk, OnOk, length, map, replicate, true, slice_get, None, Some};
 ghost use Rattle.module_ast.specs.Memory.{overlay, page_size};
-ghost use Rattle.module_ast.specs.Spaces.{tables_of, memories_of};
-ghost use Rattle.module_ast.specs.Seen.{before};
-ghost use Rattle.module_ast.specs.Tree.{done};
-ghost use Rattle.wasm_sem.specs.Link.{initial_value, offset_of, opening_imports, opening_globals, least_size, page_limit, fit_segments, with_segments, fit_elements, with_elements};
+ghost use Rattle.module_ast.specs.Structure.{tables_of, memories_of, before, done};
+ghost use Rattle.wasm_sem.specs.Execution.{initial_value, offset_of, opening_imports, opening_globals, least_size, page_limit, fit_segments, with_segments, fit_elements, with_elements};
 
 use crate::values::{value_of, zero};
 use module_ast::code::{Code, Instr};

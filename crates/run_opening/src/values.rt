@@ -1,7 +1,7 @@
 // Values that stand for numbers of a script, and those of locals before they are set.
 
 ghost use Rattle.std.specs.Prelude.{◌≡◌};
-ghost use Rattle.wasm_sem.specs.Store.{value_of, zero_of};
+ghost use Rattle.wasm_sem.specs.Execution.{value_of, zero_of};
 
 use wasm_num::{ValType, Value};
 

@@ -15,7 +15,7 @@ use Rattle.json_form.proofs.Lists.{all_of_list}
 use Rattle.wasm_sem.specs.declared.HostWrite.{HostWrite}
 use Rattle.wasm_sem.specs.declared.HostAnswer.{HostAnswer}
 use Rattle.wasm_sem.specs.declared.Script.{Script}
-use Rattle.wasm_sem.specs.Link.{IsWriteInRange, IsScriptInRange}
+use Rattle.wasm_sem.specs.Execution.{IsWriteInRange, IsScriptInRange}
 use Rattle.run_session.specs.declared.script.ScriptFault.{ScriptFault}
 use Rattle.run_session.specs.Forms.{hex_form, write_form, answer_form}
 use Rattle.run_session.specs.Script.{part, after_part, keys_part, calls_part, script_form, ReadsPart}

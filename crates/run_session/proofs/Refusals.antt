@@ -2,14 +2,11 @@
 use Rattle.std.proofs.Common.{◌≡◌, ℕ, zero, suc, ◌+◌, ◌<◌, ℤ, List, [], ◌∷◌, length, drop, Option, Some, None, Result, Ok, Err, Bool, true, false, ◌&&◌, ◌⊎◌, inl, inr, refl, sym, ap, ◌∙◌, subst, slice_get, option_and_then, get_or, add-one}
 use Rattle.std.proofs.lemmas.List.{drop_more}
 use Rattle.std.specs.Result.{IsErrAnd}
-use Rattle.wasm_num.specs.declared.ValType.{ValType}
-use Rattle.module_ast.specs.declared.module.FuncType.{FuncType}
-use Rattle.module_ast.specs.declared.module.Module.{Module}
-use Rattle.module_ast.specs.Spaces.{funcs_of}
-use Rattle.module_ast.specs.Validity.{func_type, IsValid}
+use Rattle.wasm_sem.specs.Types.{ValType, FuncType, Module}
+use Rattle.module_ast.specs.Structure.{funcs_of}
+use Rattle.module_ast.specs.Validation.{func_type, IsValid, IsComplete}
 use Rattle.wasm_sem.specs.declared.Call.{Call}
-use Rattle.wasm_sem.specs.Link.{Callee, callee_type, callees_of, func_at, exported_func, Refusal, first_refusal, fits_type, fit_types, call_refusal, calls_refusal}
-use Rattle.module_ast.specs.Limits.{IsComplete}
+use Rattle.wasm_sem.specs.Execution.{Callee, callee_type, callees_of, func_at, exported_func, Refusal, first_refusal, fits_type, fit_types, call_refusal, calls_refusal}
 use Rattle.wasm_sem.proofs.SoundCallees.{AreCallees, are_callees}
 use Rattle.run_session.specs.declared.link.LinkFault.{LinkFault}
 use Rattle.run_session.specs.declared.link.LinkFault.TheVariants.{NoExport, BadArgs, MemoryCap, TableCap, SegmentRange, NoMemory}

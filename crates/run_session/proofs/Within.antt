@@ -1,8 +1,8 @@
 -- A run makes no more steps than its script has.
 use Rattle.std.proofs.Common.{◌≡◌, ℕ, ◌≤◌, refl, sym, subst, arith}
-use Rattle.module_ast.specs.declared.module.Module.{Module}
+use Rattle.wasm_sem.specs.Types.{Module}
 use Rattle.wasm_sem.specs.declared.Script.{Script}
-use Rattle.wasm_sem.specs.Link.{IsScriptInRange}
+use Rattle.wasm_sem.specs.Execution.{IsScriptInRange}
 use Rattle.wasm_run.specs.Running.{Run}
 use Rattle.run_session.specs.Sessions.{opened_run}
 use Rattle.run_session.specs.Steps.{IsWithinSteps}

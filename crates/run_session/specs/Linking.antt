@@ -1,9 +1,8 @@
 -- How linking is answered: refusals as faults, and the exported functions by their names.
 use Rattle.std.specs.Prelude.{◌≡◌, ℕ, List, ℤ, Option, Some, None, option_and_then, Result, Ok, Err}
-use Rattle.module_ast.specs.declared.module.FuncType.{FuncType}
-use Rattle.module_ast.specs.declared.module.Module.{Module}
-use Rattle.module_ast.specs.Validity.{func_type}
-use Rattle.wasm_sem.specs.Link.{Refusal, no_export, bad_args, memory_cap, table_cap, segment_range, refusal_unless, fit_types, exported_func}
+use Rattle.wasm_sem.specs.Types.{FuncType, Module}
+use Rattle.module_ast.specs.Validation.{func_type}
+use Rattle.wasm_sem.specs.Execution.{Refusal, no_export, bad_args, memory_cap, table_cap, segment_range, refusal_unless, fit_types, exported_func}
 use Rattle.run_session.specs.declared.link.LinkFault.{LinkFault}
 use Rattle.run_session.specs.declared.link.LinkFault.TheVariants.{NoExport, BadArgs, MemoryCap, TableCap, SegmentRange, NoMemory}
 

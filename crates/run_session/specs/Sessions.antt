@@ -1,15 +1,13 @@
 -- What a session answers: whether a module links with a script, what a turn does, and what came of the run.
 use Rattle.std.specs.Prelude.{◌≡◌, ℕ, List, [], ◌∷◌, ◌++◌, Result, Ok, Err, Option, Some, Bool, true, false, ◌&&◌, cond, nat_eq, is_some, is_none}
 use Rattle.std.specs.declared.alloc.AllocError.{AllocError}
-use Rattle.module_ast.specs.declared.module.Module.{Module}
+use Rattle.wasm_sem.specs.Types.{Module}
 use Rattle.wasm_sem.specs.declared.Script.{Script}
 use Rattle.wasm_sem.specs.declared.Answer.{Answer}
 use Rattle.wasm_sem.specs.declared.Answer.TheVariants.{Unfinished}
 use Rattle.wasm_sem.specs.declared.Turn.{Turn}
 use Rattle.wasm_sem.specs.declared.Turn.TheVariants.{Over}
-use Rattle.wasm_sem.specs.Link.{link, Links}
-use Rattle.wasm_sem.specs.Answers.{Summary}
-use Rattle.wasm_sem.specs.Machine.{Configuration, configuration, Phase, starting, calling, over}
+use Rattle.wasm_sem.specs.Execution.{link, Links, Summary, Configuration, configuration, Phase, starting, calling, over}
 use Rattle.wasm_run.specs.Running.{Run, configuration_of}
 use Rattle.wasm_run.specs.Turns.{next_turn, after_turn, started_in}
 use Rattle.run_session.specs.declared.link.LinkFault.{LinkFault}

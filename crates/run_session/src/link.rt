@@ -2,10 +2,9 @@
 
 ghost use Rattle.std.specs.Prelude.{◌≡◌, ◌+◌, nat_le};
 ghost use Rattle.std.specs.Option.{option_copied};
-ghost use Rattle.module_ast.specs.Spaces.{tables_of, memories_of, spaces_of};
-ghost use Rattle.module_ast.specs.Validity.{IsValid};
-ghost use Rattle.wasm_sem.specs.Link.{link, calls_refusal, refusal_unless, memory_cap, table_cap, segment_range, least_size, fits_type, fit_types, fit_elements, fit_segments, fit_all};
-ghost use Rattle.module_ast.specs.Limits.{IsComplete};
+ghost use Rattle.module_ast.specs.Structure.{tables_of, memories_of, spaces_of};
+ghost use Rattle.module_ast.specs.Validation.{IsValid, IsComplete};
+ghost use Rattle.wasm_sem.specs.Execution.{link, calls_refusal, refusal_unless, memory_cap, table_cap, segment_range, least_size, fits_type, fit_types, fit_elements, fit_segments, fit_all};
 ghost use Rattle.wasm_run.specs.Exported.{HasExports};
 ghost use Rattle.run_session.specs.Linking.{ChecksRefusal, exported_type, type_refusal};
 

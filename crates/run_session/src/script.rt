@@ -5,7 +5,7 @@ ghost use Rattle.serde_json.specs.Data.{Data};
 ghost use Rattle.serde_json.specs.View.{view};
 ghost use Rattle.json_form.specs.Form.{count_form, list_form, field_or};
 ghost use Rattle.json_form.specs.Text.{IsText, IsNoText};
-ghost use Rattle.wasm_sem.specs.Link.{IsScriptInRange};
+ghost use Rattle.wasm_sem.specs.Execution.{IsScriptInRange};
 ghost use Rattle.run_session.specs.Script.{ReadsPart, part, fault_at, has_script_keys, keys_part, calls_part, script_form};
 
 use crate::forms::{AnswerForm, CallForm};

@@ -1,9 +1,8 @@
 // A run of a module by a script, in turns.
 
 ghost use Rattle.std.specs.Prelude.{◌≡◌, ◌-◌, ◌≤◌, IfOk, OnErr};
-ghost use Rattle.wasm_sem.specs.Answers.{summary};
+ghost use Rattle.wasm_sem.specs.Execution.{summary, IsScriptInRange};
 ghost use Rattle.wasm_sem.specs.Laws.{slots_in};
-ghost use Rattle.wasm_sem.specs.Link.{IsScriptInRange};
 ghost use Rattle.wasm_run.specs.Moves.{MayWant};
 ghost use Rattle.wasm_run.specs.Noting.{IsNoteOf};
 ghost use Rattle.wasm_run.specs.Running.{configuration_of, IsLinked};

@@ -2,18 +2,13 @@
 use Rattle.std.proofs.Common.{◌≡◌, ◌≢◌, ℕ, zero, suc, ◌+◌, ◌-◌, ◌<◌, ◌≤◌, List, [], ◌∷◌, ◌++◌, length, Option, Some, None, refl, sym, ap, subst, ◌∙◌, arith, append_assoc, append-nil, length-append}
 use Rattle.std.specs.Prelude.{reverse}
 use Rattle.std.proofs.lemmas.List.{length-reverse}
-use Rattle.wasm_num.specs.declared.Value.{Value}
+use Rattle.wasm_sem.specs.Types.{Value, BlockType, Instr, FuncType}
 use Rattle.wasm_num.specs.declared.Value.TheVariants.{I32, I64}
-use Rattle.module_ast.specs.declared.code.BlockType.{BlockType}
-use Rattle.module_ast.specs.declared.code.Instr.{Instr}
 use Rattle.module_ast.specs.declared.code.Instr.TheVariants as instrs
-use Rattle.module_ast.specs.declared.module.FuncType.{FuncType}
-use Rattle.module_ast.specs.Positions.{Scope, block_scope, loop_scope, if_scope, then_scope, else_scope}
-use Rattle.module_ast.specs.Seen.{before}
-use Rattle.module_ast.specs.Tree.{Tree}
-use Rattle.module_ast.specs.Typing.{block_type}
-use Rattle.wasm_sem.specs.Link.{Instance}
-use Rattle.wasm_sem.specs.Machine.{Cont, behind, again, Label, Frame, Env, Next, at_zero, pop_values, arity_of, enter_popped_block, enter_block, frame_past, reduce_code}
+use Rattle.module_ast.specs.Places.{Scope, block_scope, loop_scope, if_scope, then_scope, else_scope}
+use Rattle.module_ast.specs.Structure.{before, Tree}
+use Rattle.module_ast.specs.Validation.{block_type}
+use Rattle.wasm_sem.specs.Execution.{Instance, Cont, behind, again, Label, Frame, Env, Next, at_zero, pop_values, arity_of, enter_popped_block, enter_block, frame_past, reduce_code}
 use Rattle.run_stack.specs.Flat.{Flat, opened}
 use Rattle.run_stack.specs.Kept.{ops_of, again_in, all_values, under, low_of, Lies}
 use Rattle.run_stack.specs.Comes.{IsUnstuck, Comes, HasLabelRoom, IsMoving, next_of}

@@ -1,13 +1,11 @@
 -- Instructions that branch, on what the machine keeps.
 use Rattle.std.proofs.Common.{◌≡◌, ◌≢◌, ℕ, zero, suc, ◌+◌, ◌-◌, List, [], ◌∷◌, ◌++◌, length, refl, sym, ap, subst, ◌∙◌, arith, append_assoc, length-append}
 use Rattle.std.specs.Prelude.{slice_index_or, reverse}
-use Rattle.wasm_num.specs.declared.Value.{Value}
+use Rattle.wasm_sem.specs.Types.{Value, Instr}
 use Rattle.wasm_num.specs.declared.Value.TheVariants.{I32, I64}
-use Rattle.module_ast.specs.declared.code.Instr.{Instr}
 use Rattle.module_ast.specs.declared.code.Instr.TheVariants as instrs
-use Rattle.module_ast.specs.Tree.{Tree, Plain, br_if, br_table}
-use Rattle.wasm_sem.specs.Link.{Instance}
-use Rattle.wasm_sem.specs.Machine.{Label, Frame, Env, Next, branch, exit_label, reduce_plain, frame_behind}
+use Rattle.module_ast.specs.Structure.{Tree, Plain, br_if, br_table}
+use Rattle.wasm_sem.specs.Execution.{Instance, Label, Frame, Env, Next, branch, exit_label, reduce_plain, frame_behind}
 use Rattle.run_stack.specs.Flat.{Flat, first_base, other_spots, closed, CanBranch, Branches}
 use Rattle.run_stack.specs.Kept.{ops_of, all_values, under, low_of, spots_of, all_spots, Lies}
 use Rattle.run_stack.specs.Comes.{IsUnstuck, Comes, IsMoving, next_of}

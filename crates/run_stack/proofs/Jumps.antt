@@ -3,10 +3,9 @@ use Rattle.std.proofs.Common.{◌≡◌, ◌≢◌, ℕ, zero, suc, ◌+◌, ◌
 use Rattle.std.specs.Prelude.{reverse, slice_get}
 use Rattle.std.proofs.lemmas.List.{length-reverse, drop_at, take-append-le, drop-drop}
 use Rattle.std.proofs.lemmas.Option.{same_Some}
-use Rattle.wasm_num.specs.declared.Value.{Value}
-use Rattle.module_ast.specs.Typing.{push}
-use Rattle.wasm_sem.specs.Link.{Instance}
-use Rattle.wasm_sem.specs.Machine.{Cont, behind, again, Label, Frame, Env, pop_values, branch_with, branch, resumed_label, return_to}
+use Rattle.wasm_sem.specs.Types.{Value}
+use Rattle.module_ast.specs.Validation.{push}
+use Rattle.wasm_sem.specs.Execution.{Instance, Cont, behind, again, Label, Frame, Env, pop_values, branch_with, branch, resumed_label, return_to}
 use Rattle.run_stack.specs.Flat.{Spot, Flat, kept, resumed, landed, returned, first_base, other_bases, CanBranch, Branches}
 use Rattle.run_stack.specs.Kept.{ops_of, again_in, spot_in, spots_of, all_values, under, low_of, all_spots, frame_base, all_bases, Lies}
 use Rattle.run_stack.specs.Comes.{IsUnstuck, Comes}

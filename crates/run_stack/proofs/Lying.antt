@@ -2,10 +2,10 @@
 use Rattle.std.proofs.Common.{◌≡◌, ℕ, suc, ◌+◌, ◌-◌, ◌<◌, List, [], ◌∷◌, ◌++◌, length, set, Some, refl, sym, ap, ◌∙◌, arith, append_assoc, length-append}
 use Rattle.std.specs.Prelude.{reverse, slice_get, slice_set}
 use Rattle.std.proofs.lemmas.List.{reverse-reverse, reverse-append, length-reverse, length-set, set-append_left}
-use Rattle.wasm_num.specs.declared.Value.{Value}
-use Rattle.module_ast.specs.Tree.{Tree}
+use Rattle.wasm_sem.specs.Types.{Value}
+use Rattle.module_ast.specs.Structure.{Tree}
 use Rattle.module_ast.proofs.Indexed.{get_first}
-use Rattle.wasm_sem.specs.Machine.{Label, Frame}
+use Rattle.wasm_sem.specs.Execution.{Label, Frame}
 use Rattle.run_stack.specs.Flat.{Flat, first_base, moved_spots, local_place, from_below, set_from_below}
 use Rattle.run_stack.specs.Kept.{ops_of, spots_of, all_values, under, low_of, all_spots, Lies}
 

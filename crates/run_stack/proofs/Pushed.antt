@@ -2,8 +2,8 @@
 use Rattle.std.proofs.Common.{◌≡◌, ◌+◌, List, [], ◌∷◌, ◌++◌, length, arith, refl, sym, ap, ◌∙◌, append-nil, append_assoc}
 use Rattle.std.specs.Prelude.{reverse}
 use Rattle.std.proofs.lemmas.List.{reverse-reverse, reverse-append}
-use Rattle.wasm_num.specs.declared.Value.{Value}
-use Rattle.module_ast.specs.Typing.{push}
+use Rattle.wasm_sem.specs.Types.{Value}
+use Rattle.module_ast.specs.Validation.{push}
 
 pub push_length : (vs xs : List Value) → length (push vs xs) ≡ length vs + length xs
 push_length [] xs = omega arith

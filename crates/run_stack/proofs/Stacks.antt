@@ -3,8 +3,8 @@ use Rattle.std.proofs.Common.{◌≡◌, ℕ, ◌+◌, ◌-◌, ◌<◌, ◌≤�
 use Rattle.std.specs.Prelude.{reverse, slice_get}
 use Rattle.std.proofs.lemmas.List.{reverse-append, reverse-reverse, length-reverse, get_or-reverse}
 use Rattle.std.proofs.lemmas.Option.{slice_get_read, slice_get-get_or}
-use Rattle.wasm_num.specs.declared.Value.{Value}
-use Rattle.module_ast.specs.Tree.{Tree, done}
+use Rattle.wasm_sem.specs.Types.{Value}
+use Rattle.module_ast.specs.Structure.{Tree, done}
 use Rattle.run_stack.specs.Flat.{Spot, Base, Flat, kept, returned, resumed, landed, moved_spots, other_spots, lowest_arity, first_base, closed, from_below, local_place, HasMoreRoom, framed, opened, Enters}
 use Rattle.ctrl_stack.proofs.Lists.{reverse-last, reverse-take, reverse-set}
 

@@ -1,21 +1,15 @@
 -- From instructions of each kind to a step.
 use Rattle.std.proofs.Common.{◌≡◌, ℕ, ◌+◌, ◌<◌, ◌≤◌, List, [], ◌∷◌, ◌++◌, length, Option, Some, None, refl, sym, ap, subst, ◌∙◌, arith, length-append}
 use Rattle.std.specs.Prelude.{reverse, slice_get, slice_set}
-use Rattle.wasm_num.specs.declared.Value.{Value}
-use Rattle.module_ast.specs.declared.code.Instr.{Instr}
+use Rattle.wasm_sem.specs.Types.{Value, Instr, ValType, NumOp}
 use Rattle.module_ast.specs.declared.code.Instr.TheVariants as instrs
-use Rattle.module_ast.specs.Tree.{Tree, done, Plain, plain, nop, drop_, select, local_get, local_set, local_tee, global_get, global_set, load, store, memory_size, memory_grow, i32_const, i64_const, num}
-use Rattle.module_ast.specs.Seen.{before}
+use Rattle.module_ast.specs.Structure.{Tree, done, Plain, plain, nop, drop_, select, local_get, local_set, local_tee, global_get, global_set, load, store, memory_size, memory_grow, i32_const, i64_const, num, before}
 use Rattle.module_ast.proofs.Plains.{the_plain}
 use Rattle.run_store.specs.Held.{Held}
 use Rattle.wasm_sem.specs.declared.Trap.{Trap}
-use Rattle.wasm_sem.specs.Store.{Store}
-use Rattle.wasm_sem.specs.Link.{Instance}
-use Rattle.wasm_sem.specs.Machine.{Frame, Env, configuration, Next, reduces, Reduct, reduct, trapped_by, not_simple, reduce_simple, reduce_num, selected_value, after_get, after_set, after_num, after_load, after_memory_write, after_store, after_grow, after, frame_behind, reduce_plain, reduce_code, step}
+use Rattle.wasm_sem.specs.Execution.{Store, Instance, Frame, Env, configuration, Next, reduces, Reduct, reduct, trapped_by, not_simple, reduce_simple, reduce_num, selected_value, after_get, after_set, after_num, after_load, after_memory_write, after_store, after_grow, after, frame_behind, reduce_plain, reduce_code, step}
 use Rattle.run_stack.specs.Flat.{Flat, moved_spots}
 use Rattle.std.proofs.lemmas.List.{length-reverse, length-set}
-use Rattle.wasm_num.specs.declared.ValType.{ValType}
-use Rattle.wasm_num.specs.declared.NumOp.{NumOp}
 use Rattle.wasm_num.specs.declared.Value.TheVariants.{I32}
 use Rattle.wasm_num.specs.Shapes.{num_operands}
 use Rattle.wasm_num.specs.Numbers.{Num, gives, fails, ill_typed, unary, binary}

@@ -2,17 +2,13 @@
 use Rattle.std.proofs.Common.{◌≡◌, ◌≢◌, ℕ, ◌<◌, List, [], ◌∷◌, ◌++◌, length, Option, Some, None, refl, sym, ap, subst, ◌∙◌, arith}
 use Rattle.std.specs.Prelude.{slice_get, slice_set}
 use Rattle.std.proofs.lemmas.Option.{same_Some, slice_get_within}
-use Rattle.wasm_num.specs.declared.Value.{Value}
-use Rattle.module_ast.specs.declared.code.Instr.{Instr}
+use Rattle.wasm_sem.specs.Types.{Value, Instr, ValType, NumOp}
 use Rattle.module_ast.specs.declared.code.Instr.TheVariants as instrs
-use Rattle.module_ast.specs.Tree.{local_set, local_tee}
+use Rattle.module_ast.specs.Structure.{local_set, local_tee}
 use Rattle.run_store.specs.Held.{Held}
-use Rattle.wasm_sem.specs.Store.{Store}
-use Rattle.wasm_num.specs.declared.ValType.{ValType}
-use Rattle.wasm_num.specs.declared.NumOp.{NumOp}
+use Rattle.wasm_sem.specs.Execution.{Store, Frame, Reduct, reduct, reduce_simple, reduce_num, after_num, after_set}
 use Rattle.wasm_num.specs.Shapes.{num_operands}
 use Rattle.wasm_num.specs.Numbers.{Num, gives, fails, ill_typed, binary}
-use Rattle.wasm_sem.specs.Machine.{Frame, Reduct, reduct, reduce_simple, reduce_num, after_num, after_set}
 use Rattle.wasm_num.specs.Calcs.{IsWellTyped, IsBinary}
 use Rattle.run_stack.specs.Flat.{Flat, local_place, set_from_below}
 use Rattle.run_stack.specs.Kept.{under, Lies}

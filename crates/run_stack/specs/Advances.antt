@@ -1,14 +1,11 @@
 -- What a step inside a frame answers.
 use Rattle.std.specs.Prelude.{◌≡◌, List, ◌∷◌, Result, Ok, Err}
 use Rattle.std.specs.declared.alloc.AllocError.{AllocError}
-use Rattle.wasm_num.specs.declared.Value.{Value}
-use Rattle.module_ast.specs.declared.code.Instr.{Instr}
+use Rattle.wasm_sem.specs.Types.{Value, Instr}
 use Rattle.module_ast.specs.declared.code.Instr.TheVariants as instrs
-use Rattle.module_ast.specs.Tree.{Tree}
-use Rattle.module_ast.specs.Seen.{before}
+use Rattle.module_ast.specs.Structure.{Tree, before}
 use Rattle.run_store.specs.Held.{Held}
-use Rattle.wasm_sem.specs.Link.{Instance}
-use Rattle.wasm_sem.specs.Machine.{Frame, Env, configuration, step}
+use Rattle.wasm_sem.specs.Execution.{Instance, Frame, Env, configuration, step}
 use Rattle.run_stack.specs.Calls.{NextIsNoCall}
 use Rattle.run_stack.specs.Flat.{Flat}
 use Rattle.run_stack.specs.Standing.{IsStanding, Went, Trapped, IsCall}

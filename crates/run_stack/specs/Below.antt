@@ -1,7 +1,7 @@
 -- Values that are read off the top, and stay.
 use Rattle.std.specs.Prelude.{◌≡◌, ℕ, ◌+◌, ◌<◌, List, [], length, drop, Option, None, Some}
-use Rattle.wasm_num.specs.declared.Value.{Value}
-use Rattle.module_ast.specs.Typing.{push}
+use Rattle.wasm_sem.specs.Types.{Value}
+use Rattle.module_ast.specs.Validation.{push}
 use Rattle.wasm_sem.specs.declared.Answer.{Answer}
 use Rattle.wasm_sem.specs.declared.Answer.TheVariants.{Returned}
 use Rattle.run_stack.specs.Flat.{Flat}

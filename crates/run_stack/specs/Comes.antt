@@ -1,14 +1,11 @@
 -- What an instruction that moves control comes to, on what the machine keeps.
 use Rattle.std.specs.Prelude.{◌≡◌, ℕ, ◌≤◌, List, [], ◌∷◌, length}
-use Rattle.wasm_num.specs.declared.Value.{Value}
-use Rattle.module_ast.specs.declared.code.Instr.{Instr}
+use Rattle.wasm_sem.specs.Types.{Value, Instr}
 use Rattle.module_ast.specs.declared.code.Instr.TheVariants as instrs
-use Rattle.module_ast.specs.Tree.{Tree}
-use Rattle.module_ast.specs.Seen.{before}
-use Rattle.module_ast.specs.Typing.{push}
+use Rattle.module_ast.specs.Structure.{Tree, before}
+use Rattle.module_ast.specs.Validation.{push}
 use Rattle.wasm_sem.specs.declared.Answer.TheVariants.{Returned}
-use Rattle.wasm_sem.specs.Link.{Instance}
-use Rattle.wasm_sem.specs.Machine.{Frame, Env, configuration, Next, reduces, traps, ends, stuck, env_after, reduce_code}
+use Rattle.wasm_sem.specs.Execution.{Instance, Frame, Env, configuration, Next, reduces, traps, ends, stuck, env_after, reduce_code}
 use Rattle.run_stack.specs.Flat.{Flat}
 use Rattle.run_stack.specs.Kept.{all_spots, Lies}
 

@@ -1,8 +1,8 @@
 -- What the machine keeps of a configuration: its frames lie in one list of values and one of labels.
 use Rattle.std.specs.Prelude.{◌≡◌, ℕ, ◌+◌, List, [], ◌∷◌, ◌++◌, length, reverse, Option, None, Some}
-use Rattle.wasm_num.specs.declared.Value.{Value}
-use Rattle.module_ast.specs.Tree.{Tree, loop}
-use Rattle.wasm_sem.specs.Machine.{Cont, behind, again, Label, Frame}
+use Rattle.wasm_sem.specs.Types.{Value}
+use Rattle.module_ast.specs.Structure.{Tree, loop}
+use Rattle.wasm_sem.specs.Execution.{Cont, behind, again, Label, Frame}
 use Rattle.run_stack.specs.Flat.{Spot, Base, Flat}
 
 -- the operands of labels, the topmost first

@@ -1,10 +1,9 @@
 -- A step that leaves the innermost function, seen from its code and the operands.
 use Rattle.std.specs.Prelude.{◌≡◌, ◌==◌, ◌<◌, ℕ, List, [], ◌∷◌, length, slice_index_or, Option, None, Some, cond}
-use Rattle.wasm_num.specs.declared.Value.{Value}
+use Rattle.wasm_sem.specs.Types.{Value}
 use Rattle.wasm_num.specs.declared.Value.TheVariants.{I32}
-use Rattle.module_ast.specs.Tree.{Tree, done, plain, br, br_if, br_table, return_}
-use Rattle.wasm_sem.specs.Events.{outermost}
-use Rattle.wasm_sem.specs.Machine.{Frame, Configuration, configuration, at_zero}
+use Rattle.module_ast.specs.Structure.{Tree, done, plain, br, br_if, br_table, return_}
+use Rattle.wasm_sem.specs.Execution.{outermost, Frame, Configuration, configuration, at_zero}
 use Rattle.run_stack.specs.Flat.{Flat, first_rest, lowest_arity, outermost_number}
 
 -- so many operands stand above what a branch to this label takes, where that is the outermost one

@@ -1,8 +1,8 @@
 -- A call through a slot of the table, whose number stands on top of the arguments.
 use Rattle.std.specs.Prelude.{ℕ, List, ◌∷◌, drop, Option, Some, None}
-use Rattle.wasm_num.specs.declared.Value.{Value}
+use Rattle.wasm_sem.specs.Types.{Value}
 use Rattle.wasm_num.specs.declared.Value.TheVariants.{I32}
-use Rattle.module_ast.specs.Tree.{Tree}
+use Rattle.module_ast.specs.Structure.{Tree}
 use Rattle.run_stack.specs.Flat.{Flat, moved_spots}
 
 -- how many operands stand above the arguments: the index of a slot, where the call goes through one

@@ -1,15 +1,12 @@
 -- A step inside a frame that is no call, on what the machine keeps.
 use Rattle.std.specs.Prelude.{◌≡◌, ℕ, ◌≤◌, List, [], ◌∷◌, length}
-use Rattle.wasm_num.specs.declared.Value.{Value}
-use Rattle.module_ast.specs.declared.code.Instr.{Instr}
+use Rattle.wasm_sem.specs.Types.{Value, Instr}
 use Rattle.module_ast.specs.declared.code.Instr.TheVariants as instrs
-use Rattle.module_ast.specs.Tree.{Tree, plain, call, call_indirect}
+use Rattle.module_ast.specs.Structure.{Tree, plain, call, call_indirect}
 use Rattle.run_store.specs.Held.{Held}
 use Rattle.wasm_sem.specs.declared.Trap.{Trap}
 use Rattle.wasm_sem.specs.declared.Answer.TheVariants.{Returned}
-use Rattle.wasm_sem.specs.Store.{Store}
-use Rattle.wasm_sem.specs.Link.{Instance}
-use Rattle.wasm_sem.specs.Machine.{Frame, Env, configuration, Next, reduces, traps, env_after, step}
+use Rattle.wasm_sem.specs.Execution.{Store, Instance, Frame, Env, configuration, Next, reduces, traps, env_after, step}
 use Rattle.run_stack.specs.Flat.{Flat}
 use Rattle.run_stack.specs.Kept.{all_values, all_spots, Lies}
 use Rattle.run_stack.specs.Straight.{held_of}

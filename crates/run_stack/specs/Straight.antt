@@ -1,14 +1,11 @@
 -- Instructions that neither branch, nor call, nor open a block, on what the machine keeps.
 use Rattle.std.specs.Prelude.{◌≡◌, ℕ, ◌≤◌, List, ◌∷◌, ◌++◌, length, Option, None, Some}
-use Rattle.wasm_num.specs.declared.Value.{Value}
-use Rattle.module_ast.specs.declared.code.Instr.{Instr}
+use Rattle.wasm_sem.specs.Types.{Value, Instr}
 use Rattle.module_ast.specs.declared.code.Instr.TheVariants as instrs
-use Rattle.module_ast.specs.Tree.{Tree, done, plain}
-use Rattle.module_ast.specs.Seen.{before}
+use Rattle.module_ast.specs.Structure.{Tree, done, plain, before}
 use Rattle.run_store.specs.Held.{Held}
 use Rattle.wasm_sem.specs.declared.Trap.{Trap}
-use Rattle.wasm_sem.specs.Store.{Store}
-use Rattle.wasm_sem.specs.Machine.{Frame, Reduct, reduct, trapped_by, not_simple, reduce_simple}
+use Rattle.wasm_sem.specs.Execution.{Store, Frame, Reduct, reduct, trapped_by, not_simple, reduce_simple}
 use Rattle.run_stack.specs.Flat.{Flat}
 use Rattle.run_stack.specs.Kept.{under, Lies}
 

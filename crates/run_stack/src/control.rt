@@ -1,12 +1,11 @@
 // Instructions that open a block, or branch.
 
 ghost use Rattle.std.specs.Prelude.{◌≡◌, ◌∷◌, ◌<◌, ◌≤◌, List, length, slice_index_or, Some, None};
-ghost use Rattle.module_ast.specs.Seen.{code_of};
-ghost use Rattle.module_ast.specs.Typing.{block_type};
-ghost use Rattle.module_ast.specs.declared.module.FuncType.{FuncType as func_type};
+ghost use Rattle.module_ast.specs.Structure.{code_of};
+ghost use Rattle.module_ast.specs.Validation.{block_type};
+ghost use Rattle.wasm_sem.specs.Types.{FuncType as func_type};
 ghost use Rattle.run_stack.specs.Flat.{opened};
-ghost use Rattle.wasm_sem.specs.Link.{Instance};
-ghost use Rattle.wasm_sem.specs.Machine.{Env, Frame, exit_label};
+ghost use Rattle.wasm_sem.specs.Execution.{Instance, Env, Frame, exit_label};
 ghost use Rattle.run_stack.specs.Kept.{Lies};
 ghost use Rattle.run_stack.specs.Comes.{IsUnstuck, IsMoving, IsControl, Comes, next_of};
 

@@ -1,8 +1,7 @@
 // Steps that leave a function.
 
 ghost use Rattle.std.specs.Prelude.{◌≡◌, ◌<◌, ℕ, length, MatchOption};
-ghost use Rattle.module_ast.specs.Seen.{code_of, before};
-ghost use Rattle.module_ast.specs.Tree.{Tree, done};
+ghost use Rattle.module_ast.specs.Structure.{code_of, before, Tree, done};
 ghost use Rattle.run_stack.specs.Flat.{first_base, first_rest, outermost_number};
 ghost use Rattle.run_stack.specs.Leaving.{above_outermost, above_results, HasNumber, LeavesFrom};
 

@@ -1,11 +1,11 @@
 // Values, labels and frames.
 
 ghost use Rattle.std.specs.Prelude.{◌≡◌, ℕ, List, slice_get, ◌+◌, ◌-◌, ◌<◌, ◌≤◌, ◌∷◌, [], Some, ◌++◌, ◌^◌, IfOk, IsOk, OnOk, OnErr, length, replicate, drop, reverse, option_map, option_copied, vec_capacity};
-ghost use Rattle.wasm_num.specs.declared.Value.{Value as number};
-ghost use Rattle.module_ast.specs.Seen.{code_of};
-ghost use Rattle.module_ast.specs.Profile.{locals_of};
-ghost use Rattle.module_ast.specs.Validity.{declared_locals};
-ghost use Rattle.wasm_sem.specs.Store.{zeros};
+ghost use Rattle.wasm_sem.specs.Types.{Value as number};
+ghost use Rattle.module_ast.specs.Structure.{code_of};
+ghost use Rattle.module_ast.specs.Binary.{locals_of};
+ghost use Rattle.module_ast.specs.Validation.{declared_locals};
+ghost use Rattle.wasm_sem.specs.Execution.{zeros};
 ghost use Rattle.run_stack.specs.Flat.{Spot, Flat, moved_spots, kept, local_place, from_below, set_from_below, first_base, first_rest, lowest_arity, opened, closed, returned, landed, CanBranch, Branches, HasMoreRoom, framed, Enters};
 ghost use Rattle.run_stack.specs.Slots.{index_count, behind_call, before_call};
 ghost use Rattle.run_stack.specs.Below.{IsBelow, IsAnswerOf};
@@ -30,7 +30,7 @@ pub(crate) struct Label<'m> {
 
 impl<'m> Model for Label<'m> {
     ghost use Rattle.std.specs.Prelude.{option_map};
-    ghost use Rattle.module_ast.specs.Seen.{code_of};
+    ghost use Rattle.module_ast.specs.Structure.{code_of};
     ghost use Rattle.run_stack.specs.Flat.{Spot};
 
     ghost Value = { Spot };

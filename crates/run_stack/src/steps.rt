@@ -1,11 +1,10 @@
 // A step inside a frame.
 
 ghost use Rattle.std.specs.Prelude.{◌≡◌, ◌∷◌, List};
-ghost use Rattle.module_ast.specs.Seen.{code_of, before};
-ghost use Rattle.wasm_sem.specs.Link.{Instance};
-ghost use Rattle.wasm_num.specs.declared.Value.{Value as number};
+ghost use Rattle.module_ast.specs.Structure.{code_of, before};
+ghost use Rattle.wasm_sem.specs.Execution.{Instance, Env, Frame, configuration, step};
+ghost use Rattle.wasm_sem.specs.Types.{Value as number};
 ghost use Rattle.run_store.specs.Held.{Held};
-ghost use Rattle.wasm_sem.specs.Machine.{Env, Frame, configuration, step};
 ghost use Rattle.run_stack.specs.Straight.{IsSimple};
 ghost use Rattle.run_stack.specs.Comes.{IsControl};
 ghost use Rattle.run_stack.specs.Standing.{IsStanding, Went};

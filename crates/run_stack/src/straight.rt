@@ -1,7 +1,7 @@
 // Instructions that neither branch, nor call, nor open a block.
 
 ghost use Rattle.std.specs.Prelude.{IfOk, OnErr, List, None, ◌≡◌};
-ghost use Rattle.wasm_num.specs.declared.Value.{Value as number};
+ghost use Rattle.wasm_sem.specs.Types.{Value as number};
 ghost use Rattle.run_store.specs.Held.{Held};
 ghost use Rattle.run_stack.specs.Straight.{Moment, IsMomentBefore, IsVariable, IsAccess, IsNumber, IsSimple, reduct_at, IsMomentBehind};
 

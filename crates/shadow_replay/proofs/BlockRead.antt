@@ -5,11 +5,10 @@ use Rattle.std.proofs.lemmas.Bool.Decides.{nat_tests}
 use Rattle.std.proofs.lemmas.List.{get_or_append_left, get_or-append_right}
 use Rattle.std.proofs.lemmas.Option.{slice_get-map}
 use Rattle.wasm_num.specs.declared.BlockKind.TheVariants as kinds
-use Rattle.module_ast.specs.declared.module.Loc.{Loc}
-use Rattle.module_ast.specs.declared.module.Module.{Module}
-use Rattle.module_ast.specs.Tree.{Tree, done, plain, block, loop, if_then, if_else}
-use Rattle.module_ast.specs.Positions.{code_size}
-use Rattle.wasm_sem.specs.Link.{Callee, host, hook, own, callees_of}
+use Rattle.wasm_sem.specs.Types.{Loc, Module}
+use Rattle.module_ast.specs.Structure.{Tree, done, plain, block, loop, if_then, if_else}
+use Rattle.module_ast.specs.Places.{code_size}
+use Rattle.wasm_sem.specs.Execution.{Callee, host, hook, own, callees_of}
 use Rattle.wasm_sem.proofs.Straight.{some_is, none_some}
 use Rattle.shadow_replay.specs.Blocks.{of_kind, block_in, callee_block, block_at}
 use Rattle.shadow_replay.specs.BlockRows.{code_row, row_block, callee_row, block_rows}

@@ -1,12 +1,11 @@
 -- The state of a shadow that is new is the store of the run as it opens, with no mark.
 use Rattle.std.proofs.Common.{◌≡◌, ℕ, ◌*◌, List, [], ◌∷◌, length, replicate, None, Bool, false, refl, ap, ap₂, ◌∙◌, take, arith, ◌++◌, ◌-◌}
 use Rattle.std.proofs.lemmas.List.{take_all}
-use Rattle.wasm_num.specs.declared.Value.{Value}
-use Rattle.module_ast.specs.declared.module.Module.{Module}
+use Rattle.wasm_sem.specs.Types.{Value, Module}
 use Rattle.module_ast.specs.Memory.{page_size}
-use Rattle.module_ast.specs.Spaces.{memories_of}
+use Rattle.module_ast.specs.Structure.{memories_of}
 use Rattle.wasm_sem.specs.declared.Script.{Script}
-use Rattle.wasm_sem.specs.Link.{least_size, page_limit, with_segments, opening_globals, opening_store}
+use Rattle.wasm_sem.specs.Execution.{least_size, page_limit, with_segments, opening_globals, opening_store}
 use Rattle.shadow_replay.specs.declared.Warning.{Warning}
 use Rattle.shadow_replay.specs.declared.marked.Marked.{Marked}
 use Rattle.shadow_replay.specs.Laws.{shadow_of, tainted}

@@ -2,13 +2,9 @@
 use Rattle.std.proofs.Common.{◌≡◌, ℤ, List, [], ◌∷◌, ◌++◌, Option, Some, None, Result, Ok, Err, IsSome, length, take, drop, refl, sym, ap, ◌∙◌, append-nil, subst}
 use Rattle.std.specs.Prelude.{OnOk, reverse, is_some}
 use Rattle.std.proofs.lemmas.List.{reverse-reverse}
-use Rattle.wasm_num.specs.declared.BlockKind.{BlockKind}
-use Rattle.wasm_num.specs.declared.Value.{Value}
-use Rattle.module_ast.specs.declared.module.FuncType.{FuncType}
-use Rattle.module_ast.specs.declared.module.Module.{Module}
-use Rattle.module_ast.specs.Typing.{push, block_type}
-use Rattle.wasm_sem.specs.Machine.{pop_values}
-use Rattle.module_ast.specs.declared.module.Loc.{Loc}
+use Rattle.wasm_sem.specs.Types.{BlockKind, Value, FuncType, Module, Loc}
+use Rattle.module_ast.specs.Validation.{push, block_type}
+use Rattle.wasm_sem.specs.Execution.{pop_values}
 use Rattle.shadow_replay.specs.declared.blocks.Block.{Block}
 use Rattle.shadow_replay.specs.Blocks.{block_at, label_arity}
 use Rattle.shadow_replay.specs.Replayed.{Replay, block_begun}

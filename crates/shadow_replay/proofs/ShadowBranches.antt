@@ -2,11 +2,9 @@
 use Rattle.std.proofs.Common.{◌≡◌, ℕ, ℤ, zero, suc, List, [], ◌∷◌, Option, Some, None, IsSome, option_and_then, refl, sym, ap, ◌∙◌, subst}
 use Rattle.std.specs.Prelude.{Result, Ok, Err, OnOk}
 use Rattle.wasm_num.specs.declared.ValType.TheVariants as types
-use Rattle.wasm_num.specs.declared.Value.{Value}
-use Rattle.module_ast.specs.declared.module.Loc.{Loc}
+use Rattle.wasm_sem.specs.Types.{Value, Loc, Module}
 use Rattle.hook_select.specs.declared.Event.TheVariants as events
-use Rattle.module_ast.specs.declared.module.Module.{Module}
-use Rattle.wasm_sem.specs.Events.{TraceItem, event}
+use Rattle.wasm_sem.specs.Execution.{TraceItem, event}
 use Rattle.shadow_replay.specs.Shadow.{ShadowFrame, Shadow, swap, event_effect, holds, holds_results}
 use Rattle.shadow_replay.specs.Stacked.{exchanged_in, exchanged, outer_count}
 use Rattle.shadow_replay.specs.Taint.{Watch, exchange}

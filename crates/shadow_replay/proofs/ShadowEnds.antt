@@ -2,9 +2,9 @@
 use Rattle.std.proofs.Common.{◌≡◌, ℕ, zero, suc, ◌+◌, ◌<◌, ◌≤◌, List, [], ◌∷◌, ◌++◌, Option, Some, None, IsSome, Bool, length, option_and_then, take, drop, refl, sym, ap, ◌∙◌, subst, arith, append-nil}
 use Rattle.std.specs.Prelude.{reverse, Result, Ok, Err, is_ok, OnOk, true}
 use Rattle.std.proofs.lemmas.List.{reverse-reverse, length-drop, drop_all}
-use Rattle.wasm_num.specs.declared.Value.{Value}
-use Rattle.module_ast.specs.Typing.{push}
-use Rattle.wasm_sem.specs.Machine.{pop_values}
+use Rattle.wasm_sem.specs.Types.{Value}
+use Rattle.module_ast.specs.Validation.{push}
+use Rattle.wasm_sem.specs.Execution.{pop_values}
 use Rattle.shadow_replay.specs.declared.marked.Marked.{Marked}
 use Rattle.shadow_replay.specs.Shadow.{ShadowLabel, ShadowFrame, HeldValues, Shadow, have_types, types_of, swap, swap_in, with_operands, branch_values, with_held, with_results, holds, holds_results, drops_last, drops_label}
 use Rattle.shadow_replay.specs.Stacked.{values_in, marks_in, Standing, Has, HasLabel, exchanged_in, exchanged, arity_in, outer_count, operand_count, top_operands, frame_left, label_landed, AreOperandsBelow}

@@ -4,15 +4,9 @@ use Rattle.std.specs.Prelude.{reverse}
 use Rattle.std.proofs.lemmas.List.{length-drop, drop-drop}
 use Rattle.std.proofs.Math.Seq.{drop-nil}
 use Rattle.std.proofs.lemmas.Option.{get_or_from_slice_get}
-use Rattle.wasm_num.specs.declared.ValType.{ValType}
+use Rattle.wasm_sem.specs.Types.{ValType, Value, FuncType, Loc, Module}
 use Rattle.wasm_num.specs.declared.ValType.TheVariants as types
-use Rattle.wasm_num.specs.declared.Value.{Value}
-use Rattle.module_ast.specs.declared.module.FuncType.{FuncType}
-use Rattle.module_ast.specs.declared.module.Loc.{Loc}
-use Rattle.module_ast.specs.declared.module.Module.{Module}
-use Rattle.wasm_sem.specs.Link.{Callee, callee_type, callees_of}
-use Rattle.wasm_sem.specs.Machine.{pop_values, same_func_type}
-use Rattle.wasm_sem.specs.Events.{entry}
+use Rattle.wasm_sem.specs.Execution.{Callee, callee_type, callees_of, pop_values, same_func_type, entry}
 use Rattle.wasm_sem.proofs.Straight.{some_is}
 use Rattle.shadow_replay.specs.declared.marked.Marked.{Marked}
 use Rattle.shadow_replay.specs.Shadow.{ShadowFrame, Shadow, have_types, with_prepared, takes_arguments, calls_callee, calls_typed, swap, prepared_locals, prepared_typed, prepared_slot, enters, effect}

@@ -3,14 +3,11 @@ use Rattle.std.proofs.Common.{◌≡◌, ℕ, suc, replicate, ◌+◌, ◌-◌, 
 use Rattle.std.specs.Prelude.{reverse}
 use Rattle.std.proofs.lemmas.List.{map-append, take_more, drop_more, reverse-append, length-take-le, length-drop, drop-drop}
 use Rattle.std.proofs.lemmas.Option.{slice_get-get_or}
-use Rattle.wasm_num.specs.declared.Value.{Value}
-use Rattle.module_ast.specs.declared.module.Loc.{Loc}
-use Rattle.module_ast.specs.declared.module.Module.{Module}
+use Rattle.wasm_sem.specs.Types.{Value, Loc, Module}
 use Rattle.module_ast.specs.Lists.{when}
 use Rattle.module_ast.specs.Memory.{overlay}
 use Rattle.wasm_sem.specs.declared.HostWrite.{HostWrite}
-use Rattle.wasm_sem.specs.Store.{is_within, written_memory}
-use Rattle.wasm_sem.specs.Link.{Callee, host, hook, own, callees_of}
+use Rattle.wasm_sem.specs.Execution.{is_within, written_memory, Callee, host, hook, own, callees_of}
 use Rattle.wasm_sem.proofs.Straight.{some_is}
 use Rattle.shadow_replay.specs.declared.Warning.{Warning}
 use Rattle.shadow_replay.specs.declared.marked.Marked.{Marked}

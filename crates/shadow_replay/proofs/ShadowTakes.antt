@@ -2,24 +2,17 @@
 use Rattle.std.proofs.Common.{◌≡◌, subst, ℕ, zero, suc, ◌+◌, ◌≤◌, List, [], ◌∷◌, ◌++◌, Option, Some, None, IsSome, Bool, true, false, length, set, slice_get, option_and_then, take, drop, refl, sym, ap, ◌∙◌, arith, append_assoc}
 use Rattle.std.specs.Prelude.{reverse, is_some}
 use Rattle.std.proofs.lemmas.List.{reverse-append, map-set}
-use Rattle.wasm_num.specs.declared.NumOp.{NumOp}
-use Rattle.wasm_num.specs.declared.ValType.{ValType}
+use Rattle.wasm_sem.specs.Types.{NumOp, ValType, LoadOp, Value, Loc, Module}
 use Rattle.wasm_num.specs.declared.ValType.TheVariants as types
-use Rattle.module_ast.specs.declared.ops.LoadOp.{LoadOp}
 use Rattle.module_ast.specs.Memory.{load_value}
-use Rattle.module_ast.specs.Shapes.{load_type, load_width}
-use Rattle.wasm_num.specs.declared.Value.{Value}
+use Rattle.module_ast.specs.Validation.{load_type, load_width, push}
 use Rattle.wasm_num.specs.Shapes.{num_operands, num_result}
-use Rattle.module_ast.specs.declared.module.Loc.{Loc}
-use Rattle.module_ast.specs.declared.module.Module.{Module}
 use Rattle.module_ast.specs.declared.ops.VarOp.TheVariants.{Set}
-use Rattle.module_ast.specs.Typing.{push}
 use Rattle.hook_select.specs.declared.Event.TheVariants as events
 use Rattle.hook_mono.specs.Words.{type_of}
 use Rattle.shadow_replay.specs.declared.Warning.{Warning}
 use Rattle.shadow_replay.specs.declared.marked.Marked.{Marked}
-use Rattle.wasm_sem.specs.Machine.{pop_values}
-use Rattle.wasm_sem.specs.Events.{TraceItem, event}
+use Rattle.wasm_sem.specs.Execution.{pop_values, TraceItem, event}
 use Rattle.wasm_sem.proofs.SoundNumbers.{IsNumSound, num_sound}
 use Rattle.wasm_sem.proofs.Straight.{some_is}
 use Rattle.shadow_replay.specs.Shadow.{ShadowFrame, Shadow, have_types, have_type, if_true, if_alike, if_there, writes_global, event_effect, with_operands, with_swapped, swap_in, swap}

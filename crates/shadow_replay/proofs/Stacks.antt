@@ -2,7 +2,7 @@
 use Rattle.std.proofs.Common.{◌≡◌, ℕ, ◌+◌, ◌-◌, ◌<◌, ◌≤◌, suc, negsuc, List, [], ◌∷◌, ◌++◌, Bool, length, map, take, drop, get_or, set, refl, sym, ap, ◌∙◌, subst, arith, length-append, append_assoc}
 use Rattle.std.specs.Prelude.{reverse}
 use Rattle.std.proofs.lemmas.List.{reverse-append, length-reverse, length-drop, length-map, take-append-drop, take_at, drop_at, set_at, length-take-le, drop-append-le, take_more, take_more_set, take_all, map-append, map-set, drop-map}
-use Rattle.wasm_num.specs.declared.Value.{Value}
+use Rattle.wasm_sem.specs.Types.{Value}
 use Rattle.wasm_num.specs.declared.BlockKind.TheVariants as kinds
 use Rattle.shadow_replay.specs.Taint.{set_first}
 use Rattle.shadow_replay.specs.declared.marked.Marked.{Marked}

@@ -1,12 +1,9 @@
 -- Locals of a function before they are set.
 use Rattle.std.proofs.Common.{◌≡◌, ℕ, zero, suc, ◌+◌, ◌-◌, ◌<◌, List, [], ◌∷◌, ◌++◌, false, length, take, drop, replicate, get_or, refl, sym, ap, ◌∙◌, arith, append_assoc}
 use Rattle.std.proofs.lemmas.List.{map-append, take_all, drop_more}
-use Rattle.wasm_num.specs.declared.ValType.{ValType}
-use Rattle.wasm_num.specs.declared.Value.{Value}
-use Rattle.module_ast.specs.declared.module.Group.{Group}
-use Rattle.module_ast.specs.Validity.{declared_locals}
-use Rattle.wasm_sem.specs.Store.{zero_of, zeros}
-use Rattle.wasm_sem.specs.Link.{Callee, host, hook, own}
+use Rattle.wasm_sem.specs.Types.{ValType, Value, Group}
+use Rattle.module_ast.specs.Validation.{declared_locals}
+use Rattle.wasm_sem.specs.Execution.{zero_of, zeros, Callee, host, hook, own}
 use Rattle.shadow_replay.specs.declared.marked.Marked.{Marked}
 use Rattle.shadow_replay.specs.Shadow.{prepared_locals}
 use Rattle.shadow_replay.specs.Taint.{each_marked}

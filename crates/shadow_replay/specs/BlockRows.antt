@@ -1,9 +1,9 @@
 -- The blocks of a module, function by function and position by position.
 use Rattle.std.specs.Prelude.{List, [], ◌∷◌, ◌++◌, map, ℤ, pos, negsuc, Option, None, Some, slice_index_or}
 use Rattle.wasm_num.specs.declared.BlockKind.TheVariants as kinds
-use Rattle.module_ast.specs.declared.module.Module.{Module}
-use Rattle.module_ast.specs.Tree.{Tree, done, plain, block, loop, if_then, if_else}
-use Rattle.wasm_sem.specs.Link.{Callee, host, hook, own, callees_of}
+use Rattle.wasm_sem.specs.Types.{Module}
+use Rattle.module_ast.specs.Structure.{Tree, done, plain, block, loop, if_then, if_else}
+use Rattle.wasm_sem.specs.Execution.{Callee, host, hook, own, callees_of}
 use Rattle.shadow_replay.specs.Blocks.{of_kind}
 use Rattle.module_ast.specs.declared.code.BlockType.TheVariants.{Empty, Value, Indexed}
 use Rattle.shadow_replay.specs.declared.blocks.Begun.{Begun}

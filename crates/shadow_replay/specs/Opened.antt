@@ -1,9 +1,9 @@
 -- The state before the first item of a run.
 use Rattle.std.specs.Prelude.{ℕ, List, [], None, false}
-use Rattle.module_ast.specs.declared.module.Module.{Module}
-use Rattle.module_ast.specs.Spaces.{memories_of}
+use Rattle.wasm_sem.specs.Types.{Module}
+use Rattle.module_ast.specs.Structure.{memories_of}
 use Rattle.wasm_sem.specs.declared.Script.{Script}
-use Rattle.wasm_sem.specs.Link.{page_limit, opening_store}
+use Rattle.wasm_sem.specs.Execution.{page_limit, opening_store}
 use Rattle.shadow_replay.specs.declared.marked.Marked.{Marked}
 use Rattle.shadow_replay.specs.Laws.{shadow_of, tainted}
 use Rattle.shadow_replay.specs.Replayed.{Replay, shadow_seen}

@@ -1,20 +1,13 @@
 -- What a shadow is seen as: a state with its marks, beside the module, the bound on its pages, and what is watched.
 use Rattle.std.specs.Prelude.{◌≡◌, ℕ, List, [], ◌∷◌, length, map, reverse, take, drop, slice_get, Option, Some, None, option_map, option_and_then, IsSome, Bool}
 use Rattle.wasm_num.specs.declared.ValType.TheVariants as types
-use Rattle.wasm_num.specs.declared.NumOp.{NumOp}
-use Rattle.wasm_num.specs.declared.Value.{Value}
+use Rattle.wasm_sem.specs.Types.{NumOp, Value, FuncType, Loc, Module, StoreOp, Event}
 use Rattle.wasm_num.specs.Shapes.{num_operands, num_result}
-use Rattle.module_ast.specs.declared.module.FuncType.{FuncType}
-use Rattle.module_ast.specs.declared.module.Loc.{Loc}
-use Rattle.module_ast.specs.declared.module.Module.{Module}
 use Rattle.module_ast.specs.Memory.{with_bytes, store_bytes, grown_memory}
-use Rattle.module_ast.specs.declared.ops.StoreOp.{StoreOp}
-use Rattle.module_ast.specs.Shapes.{store_width}
-use Rattle.hook_select.specs.declared.Event.{Event}
+use Rattle.module_ast.specs.Validation.{store_width}
 use Rattle.hook_select.specs.declared.Event.TheVariants as events
 use Rattle.wasm_sem.specs.declared.HostWrite.{HostWrite}
-use Rattle.wasm_sem.specs.Events.{TraceItem, host_call}
-use Rattle.wasm_sem.specs.Link.{callees_of}
+use Rattle.wasm_sem.specs.Execution.{TraceItem, host_call, callees_of}
 use Rattle.shadow_replay.specs.declared.Warning.{Warning}
 use Rattle.shadow_replay.specs.declared.marked.Marked.{Marked}
 use Rattle.shadow_replay.specs.Blocks.{block_at}

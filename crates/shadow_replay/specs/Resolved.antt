@@ -1,8 +1,7 @@
 -- The locals that functions begin with.
 use Rattle.std.specs.Prelude.{List, ◌++◌, map, false}
-use Rattle.wasm_num.specs.declared.ValType.{ValType}
-use Rattle.wasm_sem.specs.Store.{zero_of}
-use Rattle.wasm_sem.specs.Link.{Callee, host, hook, own}
+use Rattle.wasm_sem.specs.Types.{ValType}
+use Rattle.wasm_sem.specs.Execution.{zero_of, Callee, host, hook, own}
 use Rattle.shadow_replay.specs.declared.marked.Marked.{Marked}
 
 -- zeros that are not marked

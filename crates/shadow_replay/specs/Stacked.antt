@@ -1,8 +1,7 @@
 -- The operands, labels and frames of a shadow as they are kept: the operands of all labels of all frames in one list, each
 -- with its mark, and for each label how many stand below its own. Topmost and innermost first.
 use Rattle.std.specs.Prelude.{◌≡◌, ℕ, ◌-◌, ◌<◌, ◌≤◌, ℤ, negsuc, List, [], ◌∷◌, ◌++◌, length, map, reverse, take, drop, Bool, slice_set}
-use Rattle.wasm_num.specs.declared.Value.{Value}
-use Rattle.wasm_num.specs.declared.BlockKind.{BlockKind}
+use Rattle.wasm_sem.specs.Types.{Value, BlockKind}
 use Rattle.wasm_num.specs.declared.BlockKind.TheVariants as kinds
 use Rattle.shadow_replay.specs.declared.marked.Marked.{Marked}
 use Rattle.shadow_replay.specs.Shadow.{ShadowLabel, ShadowFrame}

@@ -1,20 +1,14 @@
 -- The machine with a mark on each byte and value: one step moves the marks as it moves what is marked.
 use Rattle.std.specs.Prelude.{ℕ, zero, suc, ◌+◌, List, [], ◌∷◌, ◌++◌, length, reverse, take, Option, Some, None, Bool, false, slice_get, slice_index_or}
-use Rattle.wasm_num.specs.declared.Value.{Value}
+use Rattle.wasm_sem.specs.Types.{Value, FuncType, Loc, Module}
 use Rattle.wasm_num.specs.declared.Value.TheVariants.{I32}
 use Rattle.wasm_num.specs.Shapes.{num_operands}
-use Rattle.module_ast.specs.declared.module.FuncType.{FuncType}
-use Rattle.module_ast.specs.declared.module.Loc.{Loc}
-use Rattle.module_ast.specs.declared.module.Module.{Module}
 use Rattle.module_ast.specs.Memory.{grown_memory}
-use Rattle.module_ast.specs.Shapes.{load_width, store_width}
-use Rattle.module_ast.specs.Tree.{Tree, done, plain, block, loop, if_then, if_else, Plain, br, br_if, br_table, return_, call, call_indirect, drop_, select, local_get, local_set, local_tee, global_get, global_set, load, store, memory_size, memory_grow, i32_const, i64_const, num}
+use Rattle.module_ast.specs.Validation.{load_width, store_width}
+use Rattle.module_ast.specs.Structure.{Tree, done, plain, block, loop, if_then, if_else, Plain, br, br_if, br_table, return_, call, call_indirect, drop_, select, local_get, local_set, local_tee, global_get, global_set, load, store, memory_size, memory_grow, i32_const, i64_const, num}
 use Rattle.wasm_sem.specs.declared.HostAnswer.{HostAnswer}
 use Rattle.wasm_sem.specs.declared.Script.{Script}
-use Rattle.wasm_sem.specs.Store.{Store, values_of, zeros, answer_at, writes_done}
-use Rattle.wasm_sem.specs.Link.{Callee, host, hook, own, callee_type, Entry, Instance, instance, opening_store}
-use Rattle.wasm_sem.specs.Machine.{Label, Frame, Env, Configuration, configuration, Next, reduces, traps, ends, stuck, Phase, starting, calling, over, at_zero, frame_behind, start_entry, call_entry, step, after_step, opening_configuration}
-use Rattle.wasm_sem.specs.Events.{here}
+use Rattle.wasm_sem.specs.Execution.{Store, values_of, zeros, answer_at, writes_done, Callee, host, hook, own, callee_type, Entry, Instance, instance, opening_store, Label, Frame, Env, Configuration, configuration, Next, reduces, traps, ends, stuck, Phase, starting, calling, over, at_zero, frame_behind, start_entry, call_entry, step, after_step, opening_configuration, here}
 use Rattle.shadow_replay.specs.Taint.{Watch, Taint, is_watched, each_marked, nth_mark, exchange, join, local_mark, mark_local, mark_global, read_mark, mark_bytes, add_pages, unmark_writes, begin_frame, end_frame, no_frames, warn}
 
 -- ---- instructions on the store, locals and operands alone

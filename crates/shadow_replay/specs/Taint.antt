@@ -1,7 +1,7 @@
 -- Marks on the bytes and values of a state, true where something comes from a source, and the warnings so far.
 use Rattle.std.specs.Prelude.{ℕ, suc, ◌*◌, List, [], ◌∷◌, ◌++◌, map, take, drop, replicate, Option, Some, None, Bool, false, ◌==◌, slice_index_or, slice_set}
 use Rattle.std.specs.List.{list_any}
-use Rattle.module_ast.specs.declared.module.Loc.{Loc}
+use Rattle.wasm_sem.specs.Types.{Loc}
 use Rattle.module_ast.specs.Lists.{first_or, when}
 use Rattle.module_ast.specs.Memory.{page_size, overlay}
 use Rattle.wasm_sem.specs.declared.HostWrite.{HostWrite}

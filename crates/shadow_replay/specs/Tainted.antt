@@ -1,19 +1,13 @@
 -- The shadow state with a mark on each byte and value, which the items of a trace move beside what they rebuild.
 use Rattle.std.specs.Prelude.{ℕ, zero, suc, ◌+◌, ◌-◌, ◌^◌, ◌==◌, List, [], ◌∷◌, ◌++◌, length, reverse, take, Option, Some, None, option_and_then, Bool, false, cond, slice_get}
-use Rattle.wasm_num.specs.declared.Value.{Value}
+use Rattle.wasm_sem.specs.Types.{Value, FuncType, Loc, Module, Event}
 use Rattle.wasm_num.specs.declared.BlockKind.TheVariants as kinds
 use Rattle.wasm_num.specs.Shapes.{num_operands}
-use Rattle.module_ast.specs.declared.module.FuncType.{FuncType}
-use Rattle.module_ast.specs.declared.module.Loc.{Loc}
-use Rattle.module_ast.specs.declared.module.Module.{Module}
 use Rattle.module_ast.specs.declared.ops.VarOp.TheVariants.{Get, Set, Tee}
-use Rattle.module_ast.specs.Shapes.{load_width, store_width}
-use Rattle.hook_select.specs.declared.Event.{Event}
+use Rattle.module_ast.specs.Validation.{load_width, store_width}
 use Rattle.hook_select.specs.declared.Event.TheVariants as events
 use Rattle.wasm_sem.specs.declared.HostWrite.{HostWrite}
-use Rattle.wasm_sem.specs.Link.{Callee, host, hook, own, callee_type, callees_of}
-use Rattle.wasm_sem.specs.Machine.{at_zero, same_func_type}
-use Rattle.wasm_sem.specs.Events.{TraceItem, entry, host_call, event, hook_call}
+use Rattle.wasm_sem.specs.Execution.{Callee, host, hook, own, callee_type, callees_of, at_zero, same_func_type, TraceItem, entry, host_call, event, hook_call}
 use Rattle.shadow_replay.specs.Shadow.{ShadowLabel, ShadowFrame, HeldValues, Shadow, effect}
 use Rattle.shadow_replay.specs.Taint.{Watch, Taint, is_watched, each_marked, nth_mark, exchange, join, local_mark, mark_local, mark_global, read_mark, mark_bytes, add_pages, unmark_writes, begin_frame, end_frame, no_frames, warn}
 

@@ -1,11 +1,9 @@
 // The blocks of a module by the places where they begin.
 
 ghost use Rattle.std.specs.Prelude.{◌≡◌, ◌++◌, ◌∷◌, [], None, Some, IfOk, OnOk, length, map};
-ghost use Rattle.module_ast.specs.declared.module.Module.{Module as valid_module};
-ghost use Rattle.module_ast.specs.Seen.{before};
-ghost use Rattle.module_ast.specs.Typing.{block_type};
-ghost use Rattle.module_ast.specs.declared.module.FuncType.{FuncType as func_type};
-ghost use Rattle.module_ast.specs.Tree.{Tree};
+ghost use Rattle.wasm_sem.specs.Types.{Module as valid_module, FuncType as func_type};
+ghost use Rattle.module_ast.specs.Structure.{before, Tree};
+ghost use Rattle.module_ast.specs.Validation.{block_type};
 ghost use Rattle.run_opening.specs.Resolved.{callee_for};
 ghost use Rattle.shadow_replay.specs.BlockRows.{code_row, callee_row, block_rows, row_block};
 ghost use Rattle.shadow_replay.specs.Blocks.{of_kind, block_at, label_arity};

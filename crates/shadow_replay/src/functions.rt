@@ -1,7 +1,7 @@
 // The locals that functions begin with.
 
 ghost use Rattle.std.specs.Prelude.{◌≡◌, ◌++◌, replicate, IfOk, OnOk};
-ghost use Rattle.module_ast.specs.Validity.{declared_locals};
+ghost use Rattle.module_ast.specs.Validation.{declared_locals};
 ghost use Rattle.run_opening.specs.Resolved.{callee_for};
 ghost use Rattle.shadow_replay.specs.Resolved.{zero_locals, begun_with};
 

@@ -1,7 +1,7 @@
 // Marks of lists of values and of bytes.
 
 ghost use Rattle.std.specs.Prelude.{◌≡◌, true, false, length, replicate, IfOk};
-ghost use Rattle.wasm_sem.specs.Store.{is_within, written_memory};
+ghost use Rattle.wasm_sem.specs.Execution.{is_within, written_memory};
 ghost use Rattle.shadow_replay.specs.Shadow.{lie_within};
 ghost use Rattle.shadow_replay.specs.Stacked.{marks_in};
 ghost use Rattle.shadow_replay.specs.Taint.{is_watched, some_marked, each_marked, unmarked_by, argument_warnings};

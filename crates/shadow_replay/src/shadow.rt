@@ -5,14 +5,13 @@ ghost use Rattle.hook_select.specs.declared.Event.TheVariants.{Begin};
 ghost use Rattle.wasm_num.specs.Shapes.{num_operands};
 ghost use Rattle.shadow_replay.specs.Stacked.{Has, exchanged};
 ghost use Rattle.shadow_replay.specs.Taint.{nth_mark, read_mark};
-ghost use Rattle.wasm_sem.specs.Events.{event, entry};
-ghost use Rattle.wasm_sem.specs.Link.{callees_of, IsScriptInRange, Links};
+ghost use Rattle.wasm_sem.specs.Execution.{event, entry, callees_of, IsScriptInRange, Links};
 ghost use Rattle.run_opening.specs.Resolved.{callee_for};
 ghost use Rattle.shadow_replay.specs.Fit.{IsItemFit};
 ghost use Rattle.shadow_replay.specs.Opened.{opening_replay, replay_with};
 ghost use Rattle.shadow_replay.specs.Replayed.{TakesItem, MovesStanding, joined, number_effect, IsFitEvent, IsOnOperands, IsOnLocal, IsOnGlobal, IsOnMemory, IsBranch, IsReturn, IsCallEvent, BeginsFunction, BeginsBlock, CallsFunction, CallsSlot, Prepares, function_begun, block_begun, called, called_through, call_warnings, answered, StoresBytes, Grows, HoldsValues, EndsLabel, TakesGiven, held_below, ended, stored_memory};
 ghost use Rattle.module_ast.specs.Memory.{load_value, grown_memory};
-ghost use Rattle.module_ast.specs.Shapes.{load_width};
+ghost use Rattle.module_ast.specs.Validation.{load_width};
 
 use crate::Warning;
 use crate::blocks::Blocks;
@@ -102,7 +101,7 @@ impl<'m> Model for Shadow<'m> {
         } };
 
     ghost use Rattle.std.specs.Prelude.{map};
-    ghost use Rattle.wasm_sem.specs.Link.{callees_of};
+    ghost use Rattle.wasm_sem.specs.Execution.{callees_of};
     ghost use Rattle.run_opening.specs.Resolved.{callee_for};
     ghost use Rattle.shadow_replay.specs.BlockRows.{block_rows};
 

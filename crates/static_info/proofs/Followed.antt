@@ -6,10 +6,8 @@ use Rattle.std.specs.List.{AllZip}
 use Rattle.std.proofs.lemmas.List.{drop_more, drop_all}
 use Rattle.std.proofs.lemmas.Bool.{eqb-true}
 use Rattle.std.proofs.lemmas.List.Elements.{All-nil, All-cons, All-head, All-tail}
-use Rattle.module_ast.specs.declared.module.Import.{Import}
+use Rattle.wasm_sem.specs.Types.{Import, Module, HookKey}
 use Rattle.module_ast.specs.declared.module.Item.TheVariants.{Func}
-use Rattle.module_ast.specs.declared.module.Module.{Module}
-use Rattle.hook_mono.specs.declared.HookKey.{HookKey}
 use Rattle.static_info.specs.Belongs.{FuncImport, func_import, func_imports, IsOwn, IsHook, ImportsHooks}
 use Rattle.static_info.specs.Following.{HooksFollow}
 

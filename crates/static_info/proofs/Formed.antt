@@ -10,23 +10,15 @@ use Rattle.std.proofs.lemmas.Int.{ints}
 use Rattle.std.proofs.lemmas.List.{take_at, drop_at, length-map}
 use Rattle.std.proofs.lemmas.List.Elements.{All-from_recursion, All-cons, All-nil, All-append}
 use Rattle.std.proofs.lemmas.Option.{slice_get-get_or, slice_get_within, get_or_from_slice_get}
-use Rattle.wasm_num.specs.declared.BlockKind.{BlockKind}
+use Rattle.wasm_sem.specs.Types.{BlockKind, FuncType, Body, Module, Hooks, HookKey}
 use Rattle.wasm_num.specs.declared.BlockKind.TheVariants as kinds
-use Rattle.module_ast.specs.declared.module.FuncType.{FuncType}
-use Rattle.module_ast.specs.declared.module.Body.{Body}
-use Rattle.module_ast.specs.declared.module.Module.{Module}
 use Rattle.module_ast.specs.Lists.{when}
-use Rattle.module_ast.specs.Limits.{IsWhole}
-use Rattle.module_ast.specs.Positions.{Scope, Place, Opcode, enters, acts, opens, alternates, closes, at, code_size, code_places, ends_live, places, function_scope}
-use Rattle.module_ast.specs.Spaces.{imported_funcs}
-use Rattle.module_ast.specs.Tree.{Tree, Plain, br, br_if, br_table, return_, call, call_indirect}
-use Rattle.module_ast.specs.Typing.{push}
-use Rattle.module_ast.specs.Validity.{IsValid, function_types, body_context}
+use Rattle.module_ast.specs.Validation.{IsWhole, push, IsValid, function_types, body_context}
+use Rattle.module_ast.specs.Places.{Scope, Place, Opcode, enters, acts, opens, alternates, closes, at, code_size, code_places, ends_live, places, function_scope}
+use Rattle.module_ast.specs.Structure.{imported_funcs, Tree, Plain, br, br_if, br_table, return_, call, call_indirect}
 use Rattle.module_ast.proofs.Each.{all_both, all_when, all_each, all_filtered, all_flat}
 use Rattle.code_valid.proofs.Few.{entries_fit, imported_few}
 use Rattle.code_valid.proofs.Sizes.{few_positions, flat}
-use Rattle.hook_select.specs.declared.Hooks.{Hooks}
-use Rattle.hook_mono.specs.declared.HookKey.{HookKey}
 use Rattle.hook_mono.specs.Keys.{IsProper, is_wanted, find_key, with_keys}
 use Rattle.hook_mono.specs.Needed.{Site, sites, end_keys, plain_keys, open_keys, close_keys, opcode_keys, live_keys, wanted_keys, needed_keys, import_count}
 use Rattle.branch_resolve.specs.declared.Block.{Block}

@@ -2,9 +2,8 @@
 use Rattle.std.proofs.Common.{◌≡◌, ◌⊎◌, inl, inr, ℕ, ◌-◌, ◌^◌, ◌==◌, ℤ, pos, negsuc, List, [], ◌∷◌, Bool, true, false, cond, Option, Some, None, option_map, refl, sym, ap, ap₂, ◌∙◌}
 use Rattle.std.proofs.lemmas.Bool.{eqb-true}
 use Rattle.std.proofs.lemmas.Option.{option_and_then_some}
-use Rattle.wasm_num.specs.declared.ValType.{ValType}
+use Rattle.wasm_sem.specs.Types.{ValType, BlockKind}
 use Rattle.wasm_num.specs.declared.ValType.TheVariants.{I32, I64}
-use Rattle.wasm_num.specs.declared.BlockKind.{BlockKind}
 use Rattle.serde_json.specs.Data.{Data, string, array, item, no_items}
 use Rattle.serde_json.specs.Find.{as_str}
 use Rattle.wasm_num.specs.Kinds.{kind_number, kind_of_number}

@@ -3,10 +3,9 @@
 --     one_more      one place more
 use Rattle.std.proofs.Common.{◌≡◌, ℤ, List, [], ◌∷◌, ◌++◌, flat_map, Some, sym, ap, ap₂, ◌∙◌, append_assoc}
 use Rattle.module_ast.specs.Lists.{when}
-use Rattle.module_ast.specs.Plains.{plain_of}
-use Rattle.module_ast.specs.Positions as positions
-use Rattle.module_ast.specs.Tree.{Plain}
-use Rattle.module_ast.specs.declared.code.Instr.{Instr}
+use Rattle.module_ast.specs.Structure.{plain_of, Plain}
+use Rattle.module_ast.specs.Places.Positions as positions
+use Rattle.wasm_sem.specs.Types.{Instr}
 use Rattle.module_ast.specs.declared.code.Instr.TheVariants as instrs
 use Rattle.branch_resolve.specs.declared.Block.{Block}
 use Rattle.branch_resolve.specs.declared.place.Place.{Place}

@@ -11,7 +11,7 @@ use Rattle.std.proofs.lemmas.Option.{option_and_then_some}
 use Rattle.serde_json.specs.Data.{Data, number, string, array, object, null, boolean, Members, no_members, member}
 use Rattle.serde_json.specs.Find.{as_str, get}
 use Rattle.leb_binary.specs.Texts.{Text}
-use Rattle.hook_mono.specs.declared.HookKey.{HookKey}
+use Rattle.wasm_sem.specs.Types.{HookKey}
 use Rattle.hook_mono.specs.Keys.{IsProper}
 use Rattle.json_form.specs.declared.form.FormFault.{FormFault}
 use Rattle.json_form.specs.declared.form.FormFault.TheVariants.{Wrong, NoMemory}

@@ -16,11 +16,9 @@ use Rattle.std.proofs.lemmas.Bool.{eqb-true, eq-eqb}
 use Rattle.std.proofs.lemmas.Option.{option_and_then_some}
 use Rattle.serde_json.specs.Data.{Data, string}
 use Rattle.serde_json.specs.Find.{as_str}
-use Rattle.hook_select.specs.declared.GroupName.{GroupName}
+use Rattle.wasm_sem.specs.Types.{GroupName, Hooks, HookKey}
 use Rattle.hook_select.specs.declared.GroupName.TheVariants as groups
-use Rattle.hook_select.specs.declared.Hooks.{Hooks}
 use Rattle.hook_select.specs.Groups.{groups as all_groups, groups_in, is_among, group_name, group_named, group_eq, group_number, has, hooks_of, with_group}
-use Rattle.hook_mono.specs.declared.HookKey.{HookKey}
 use Rattle.hook_mono.specs.Keys.{IsProper, key_eq, find_key, with_key, with_keys, distinct_keys}
 use Rattle.hook_mono.specs.Names.{IsKeyOf}
 use Rattle.hook_mono.specs.Reading.{key_named}

@@ -1,6 +1,6 @@
 -- Items are read one after another.
 use Rattle.std.proofs.Common.{◌≡◌, ℕ, List, [], ◌∷◌, ◌++◌, map, Option, refl, sym, ap, ◌∙◌, append_assoc}
-use Rattle.wasm_sem.specs.Events.{TraceItem, entry, host_call, event, hook_call}
+use Rattle.wasm_sem.specs.Execution.{TraceItem, entry, host_call, event, hook_call}
 use Rattle.static_info.specs.declared.Info.{Info}
 use Rattle.static_info.specs.Items.{read_entry, read_call, read}
 

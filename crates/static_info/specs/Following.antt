@@ -1,7 +1,6 @@
 -- The function imports of a module, one after another.
 use Rattle.std.specs.Prelude.{◌≡◌, ℕ, zero, suc, List, [], ◌∷◌}
-use Rattle.module_ast.specs.declared.module.Module.{Module}
-use Rattle.hook_mono.specs.declared.HookKey.{HookKey}
+use Rattle.wasm_sem.specs.Types.{Module, HookKey}
 use Rattle.static_info.specs.Belongs.{FuncImport, IsOwn, IsHook}
 
 -- so many functions of other modules follow, and then these hooks, and no more

@@ -1,6 +1,6 @@
 -- What a walk over a body tells of its blocks and br_tables.
 use Rattle.std.specs.Prelude.{ℤ, List, [], ◌∷◌, ◌++◌}
-use Rattle.module_ast.specs.declared.code.Instr.{Instr}
+use Rattle.wasm_sem.specs.Types.{Instr}
 use Rattle.module_ast.specs.declared.code.Instr.TheVariants as instrs
 use Rattle.branch_resolve.specs.declared.Block.{Block}
 use Rattle.branch_resolve.specs.declared.place.Opcode.{Opcode}

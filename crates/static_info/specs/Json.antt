@@ -1,16 +1,13 @@
 -- The JSON value of information.
 use Rattle.std.specs.Prelude.{◌≡◌, ℕ, ℤ, List, [], ◌∷◌, map, Bool, true, false, codes}
-use Rattle.wasm_num.specs.declared.ValType.{ValType}
+use Rattle.wasm_sem.specs.Types.{ValType, GroupName, Hooks, HookKey}
 use Rattle.serde_json.specs.Data.{Data, number, string, array, object, unsigned, no_members, member}
 use Rattle.serde_json.specs.Find.{of_integer}
 use Rattle.serde_json.specs.View.{items_of}
 use Rattle.serde_json.specs.Written.{compact_text}
 use Rattle.leb_binary.specs.Texts.{Text}
-use Rattle.hook_select.specs.declared.GroupName.{GroupName}
-use Rattle.hook_select.specs.declared.Hooks.{Hooks}
 use Rattle.hook_select.specs.Groups.{groups_in, group_name}
 use Rattle.wasm_num.specs.Kinds.{kind_number}
-use Rattle.hook_mono.specs.declared.HookKey.{HookKey}
 use Rattle.hook_mono.specs.Names.{name_of, letters}
 use Rattle.json_form.specs.Text.{IsText}
 use Rattle.branch_resolve.specs.declared.Block.{Block}

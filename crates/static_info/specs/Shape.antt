@@ -1,14 +1,10 @@
 -- The shape of the JSON value of information, before its places are compared.
 use Rattle.std.specs.Prelude.{◌-◌, ◌^◌, ◌==◌, ◌&&◌, ℕ, ℤ, pos, negsuc, List, [], ◌∷◌, length, fold, Bool, true, false, cond, codes, bytes_eq, Option, Some, option_and_then}
-use Rattle.wasm_num.specs.declared.ValType.{ValType}
-use Rattle.wasm_num.specs.declared.BlockKind.{BlockKind}
+use Rattle.wasm_sem.specs.Types.{ValType, BlockKind, GroupName, Hooks, HookKey}
 use Rattle.wasm_num.specs.Kinds.{kind_of_number}
 use Rattle.serde_json.specs.Data.{Data, object, Members, no_members, member}
 use Rattle.serde_json.specs.Find.{as_str}
-use Rattle.hook_select.specs.declared.GroupName.{GroupName}
-use Rattle.hook_select.specs.declared.Hooks.{Hooks}
 use Rattle.hook_select.specs.Groups.{group_eq, group_named, groups_in, hooks_of, with_group}
-use Rattle.hook_mono.specs.declared.HookKey.{HookKey}
 use Rattle.hook_mono.specs.Keys.{distinct_keys}
 use Rattle.hook_mono.specs.Reading.{letter_types, key_named}
 use Rattle.json_form.specs.Form.{count_form, whole_form, list_form, text_form, field_form, given_if, has_length, only_length, item_form, ◌>>=◌}

@@ -2,8 +2,8 @@
 
 ghost use Rattle.std.specs.Prelude.{◌≡◌, ◌+◌, ◌≤◌, ◌++◌, map, IfOk, OnOk};
 ghost use Rattle.module_ast.specs.Lists.{when};
-ghost use Rattle.module_ast.specs.Positions.{code_size, code_nesting};
-ghost use Rattle.module_ast.specs.Spaces.{imported_funcs};
+ghost use Rattle.module_ast.specs.Places.{code_size, code_nesting};
+ghost use Rattle.module_ast.specs.Structure.{imported_funcs};
 ghost use Rattle.branch_resolve.specs.Sizes.{sizes_of};
 ghost use Rattle.hook_mono.specs.Needed.{needed_keys};
 ghost use Rattle.static_info.specs.Form.{IsWellFormed};

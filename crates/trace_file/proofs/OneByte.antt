@@ -15,7 +15,7 @@ use Rattle.module_ast.specs.declared.ops.LoadOp.{LoadOp}
 use Rattle.module_ast.specs.declared.ops.LoadOp.TheVariants.{I32Load}
 use Rattle.module_ast.specs.declared.ops.StoreOp.{StoreOp}
 use Rattle.module_ast.specs.declared.ops.StoreOp.TheVariants.{I32Store}
-use Rattle.module_ast.specs.Opcodes.{load_opcode, load_of_opcode, store_opcode, store_of_opcode}
+use Rattle.module_ast.specs.Binary.{load_opcode, load_of_opcode, store_opcode, store_of_opcode}
 use Rattle.module_ast.proofs.Opcodes.{load_found, load_exact, store_found, store_exact}
 use Rattle.trace_file.specs.Begins.{Begins, OnlyBegins, NoneBegins}
 use Rattle.trace_file.specs.Fields.{var_number, var_ops, var_of_number}

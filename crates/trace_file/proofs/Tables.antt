@@ -22,7 +22,7 @@ use Rattle.trace_file.proofs.Spellings.{apart_place, apart_number, apart_signed,
 use Rattle.trace_file.proofs.OneByte.{apart_codes, kinds, vars, nums, loads, stores}
 use Rattle.wasm_num.specs.Kinds.{kind_number, kind_of_number}
 use Rattle.wasm_num.specs.Opcodes.{num_opcode, num_of_opcode}
-use Rattle.module_ast.specs.Opcodes.{load_opcode, load_of_opcode, store_opcode, store_of_opcode}
+use Rattle.module_ast.specs.Binary.{load_opcode, load_of_opcode, store_opcode, store_of_opcode}
 
 pub data Kind : Type 0 where
   place : Kind

@@ -14,7 +14,7 @@ use Rattle.module_ast.specs.declared.ops.VarOp.TheVariants.{Get, Set, Tee}
 use Rattle.module_ast.specs.declared.ops.LoadOp.{LoadOp}
 use Rattle.module_ast.specs.declared.ops.StoreOp.{StoreOp}
 use Rattle.wasm_num.specs.Opcodes.{num_opcode}
-use Rattle.module_ast.specs.Opcodes.{load_opcode, store_opcode}
+use Rattle.module_ast.specs.Binary.{load_opcode, store_opcode}
 use Rattle.wasm_num.specs.Kinds.{kind_number}
 
 pub data Field : Type 0 where

@@ -3,7 +3,7 @@
 ghost use Rattle.std.specs.Prelude.{◌≡◌, ◌∷◌, []};
 ghost use Rattle.wasm_num.specs.Kinds.{kind_number};
 ghost use Rattle.wasm_num.specs.Opcodes.{num_opcode};
-ghost use Rattle.module_ast.specs.Opcodes.{load_opcode, store_opcode};
+ghost use Rattle.module_ast.specs.Binary.{load_opcode, store_opcode};
 ghost use Rattle.trace_file.specs.Fields.{var_number, var_of_number};
 
 use crate::field::{ReadTraceFault, Take};

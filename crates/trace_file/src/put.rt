@@ -3,7 +3,7 @@
 ghost use Rattle.std.specs.Prelude.{◌≡◌, ◌≤◌, ◌^◌, ◌+◌, ℕ, List, length, [], ◌∷◌, ◌++◌, OnOk, OnErr, IfErr};
 ghost use Rattle.leb_binary.specs.Shortest.{unsigned_bytes, signed_bytes};
 ghost use Rattle.wasm_num.specs.Opcodes.{num_opcode};
-ghost use Rattle.module_ast.specs.Opcodes.{load_opcode, store_opcode};
+ghost use Rattle.module_ast.specs.Binary.{load_opcode, store_opcode};
 ghost use Rattle.wasm_num.specs.Kinds.{kind_number};
 ghost use Rattle.trace_file.specs.declared.put.TraceFault.TheVariants.{NoMemory};
 ghost use Rattle.trace_file.specs.Fields.{FitsNumber, FitsSigned, FitsLocation, FitsValue, FitsCallee, FitValues, place_bytes, value_bytes, var_number, callee_bytes, values_bytes};

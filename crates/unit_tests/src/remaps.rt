@@ -1,11 +1,9 @@
 // Two hooks put behind the one import of a small module.
 
 ghost use Rattle.std.specs.Prelude.{◌≡◌, [], ◌∷◌, All, IfOk};
-ghost use Rattle.module_ast.specs.Tree.{block, call, done, plain, return_};
-ghost use Rattle.module_ast.specs.Seen.{code_of};
+ghost use Rattle.module_ast.specs.Structure.{block, call, done, plain, return_, code_of};
 ghost use Rattle.module_ast.specs.declared.code.BlockType.TheVariants.{Empty};
-ghost use Rattle.module_ast.specs.declared.module.Element.{Element};
-ghost use Rattle.module_ast.specs.declared.module.Export.{Export};
+ghost use Rattle.wasm_sem.specs.Types.{Element, Export};
 ghost use Rattle.index_remap.specs.Remap.{MapsIndex, MapsReference, MapsModule};
 
 use index_remap::Remap;

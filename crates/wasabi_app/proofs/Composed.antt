@@ -1,20 +1,13 @@
 -- Reports on an output, from runs that are the same.
 use Rattle.std.proofs.Common.{◌≡◌, ◌≢◌, ℕ, suc, List, [], ◌∷◌, ◌++◌, length, All, IsTrue, is_some, refl, sym, ap, subst, ◌∙◌, append_assoc}
 use Rattle.std.proofs.lemmas.List.Elements.{All-nil, All-cons, All-head, All-tail}
-use Rattle.module_ast.specs.declared.module.Import.{Import}
-use Rattle.module_ast.specs.declared.module.Item.{Item}
+use Rattle.wasm_sem.specs.Types.{Import, Item, Module, Event, Hooks}
 use Rattle.module_ast.specs.declared.module.Item.TheVariants.{Func, Table, Memory, Global}
-use Rattle.module_ast.specs.declared.module.Module.{Module}
-use Rattle.module_ast.specs.Spaces.{funcs_of, imported_funcs}
-use Rattle.hook_select.specs.declared.Event.{Event}
-use Rattle.hook_select.specs.declared.Hooks.{Hooks}
+use Rattle.module_ast.specs.Structure.{funcs_of, imported_funcs}
 use Rattle.hook_select.specs.Events.{group_of}
 use Rattle.wasm_sem.specs.declared.Script.{Script}
-use Rattle.wasm_sem.specs.Events.{events_in}
+use Rattle.wasm_sem.specs.Execution.{events_in, IsFree, Links, hook_module, Configuration, configuration, run_of, trace_of}
 use Rattle.wasm_sem.specs.Laws.{slots_in}
-use Rattle.wasm_sem.specs.Link.{IsFree, Links, hook_module}
-use Rattle.wasm_sem.specs.Machine.{Configuration, configuration, run_of}
-use Rattle.wasm_sem.specs.Trace.{trace_of}
 use Rattle.static_info.specs.Belongs.{func_import, func_imports, IsOwn, Belongs}
 use Rattle.static_info.specs.declared.Info.{Info}
 use Rattle.static_info.specs.Info.{info_of}

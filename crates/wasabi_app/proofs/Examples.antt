@@ -4,12 +4,11 @@ use Rattle.std.specs.Prelude.{codes}
 use Rattle.wasm_num.specs.declared.ValType.TheVariants as types
 use Rattle.module_ast.specs.Ascii.{ascii_text}
 use Rattle.module_ast.specs.declared.module.ExportKind.TheVariants as kinds
-use Rattle.module_ast.specs.declared.module.Module.{Module}
+use Rattle.wasm_sem.specs.Types.{Module}
 use Rattle.module_ast.specs.declared.ops.StoreOp.TheVariants.{I32Store8}
-use Rattle.module_ast.specs.Tree.{done, plain, local_get, store, memory_grow, i32_const}
+use Rattle.module_ast.specs.Structure.{done, plain, local_get, store, memory_grow, i32_const}
 use Rattle.wasm_sem.specs.declared.Script.{Script}
-use Rattle.wasm_sem.specs.Link.{link}
-use Rattle.wasm_sem.specs.Machine.{Configuration, configuration, run_of}
+use Rattle.wasm_sem.specs.Execution.{link, Configuration, configuration, run_of}
 use Rattle.static_info.specs.Info.{info_of}
 use Rattle.shadow_replay.specs.Laws.{tainted_shadow_after}
 use Rattle.shadow_replay.specs.Taint.{Watch}

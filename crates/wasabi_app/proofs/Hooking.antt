@@ -5,13 +5,10 @@ use Rattle.std.proofs.lemmas.Bool.Decides.{nat_tests}
 use Rattle.std.proofs.lemmas.List.Elements.{All-head, All-tail}
 use Rattle.std.proofs.lemmas.Slice.Eq.{bytes_eq-Decides}
 use Rattle.outside_io.specs.Outside.{Contents, Unchanged, Wrote}
-use Rattle.module_ast.specs.declared.module.Import.{Import}
-use Rattle.module_ast.specs.declared.module.Module.{Module}
-use Rattle.module_ast.specs.Canonical.{module_bytes}
-use Rattle.module_ast.specs.Decoding.{Gram}
+use Rattle.wasm_sem.specs.Types.{Import, Module, Hooks}
+use Rattle.module_ast.specs.Binary.{module_bytes, Gram}
 use Rattle.module_ast.proofs.LeastModules.{module_least}
-use Rattle.wasm_sem.specs.Link.{IsFree, is_hook, hook_module}
-use Rattle.hook_select.specs.declared.Hooks.{Hooks}
+use Rattle.wasm_sem.specs.Execution.{IsFree, is_hook, hook_module}
 use Rattle.name_map.specs.declared.Names.{Names}
 use Rattle.name_map.specs.Written.{name_section_bytes}
 use Rattle.instrument.specs.Made.{narrow_file}

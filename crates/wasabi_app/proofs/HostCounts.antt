@@ -1,16 +1,12 @@
 -- How many host calls a run makes is how many its trace has, one in a step at most.
 use Rattle.std.proofs.Common.{◌≡◌, ℕ, zero, suc, ◌+◌, ◌≤◌, List, [], ◌∷◌, ◌++◌, Bool, true, false, refl, sym, ap, subst, ◌∙◌, arith, add-one}
-use Rattle.wasm_num.specs.declared.Value.{Value}
-use Rattle.module_ast.specs.declared.module.Module.{Module}
-use Rattle.module_ast.specs.Positions.{function_scope}
+use Rattle.wasm_sem.specs.Types.{Value, Module}
+use Rattle.module_ast.specs.Places.{function_scope}
 use Rattle.wasm_sem.specs.declared.Answer.{Answer}
 use Rattle.wasm_sem.specs.declared.Answer.TheVariants.{Returned, Trapped}
 use Rattle.wasm_sem.specs.declared.Script.{Script}
-use Rattle.wasm_sem.specs.Events.{TraceItem, entry, host_call, event, hook_call, shown_items}
-use Rattle.wasm_sem.specs.Link.{Callee, Instance, instance}
-use Rattle.wasm_sem.specs.Machine.{Label, Frame, Phase, starting, calling, over, Env, Configuration, configuration, Next, reduces, traps, ends, stuck, env_after, return_to, step, after_step, opening_configuration, run, run_of}
+use Rattle.wasm_sem.specs.Execution.{TraceItem, entry, host_call, event, hook_call, shown_items, Callee, Instance, instance, Label, Frame, Phase, starting, calling, over, Env, Configuration, configuration, Next, reduces, traps, ends, stuck, env_after, return_to, step, after_step, opening_configuration, run, run_of, told_items, items_by, items, trace, trace_of}
 use Rattle.wasm_sem.specs.Rules.{answered_env, AreEvents, no_more, an_event, Invokes, begins, too_deep, replies, hears, Jumps, lands, leaves, crosses, unfed, unheld, Rule, computes, halts, jumps, stays, calls, misses, opens, skips, falls, finishes, enters, rests, lacks}
-use Rattle.wasm_sem.specs.Trace.{told_items, items_by, items, trace, trace_of}
 use Rattle.wasm_sem.proofs.Rules.{begin_events, post_events, jump_events, only_quiet, quiet_events, rule_of}
 use Rattle.wasm_run.specs.Beside.{hosts_in}
 

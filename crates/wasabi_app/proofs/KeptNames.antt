@@ -3,16 +3,13 @@ use Rattle.std.proofs.Common.{◌≡◌, ◌≢◌, ℕ, ◌+◌, ◌^◌, ◌<�
 use Rattle.std.proofs.lemmas.List.Elements.{All-nil, All-weaker}
 use Rattle.leb_binary.specs.Shortest.{unsigned_bytes}
 use Rattle.leb_binary.specs.Texts.{Text}
-use Rattle.module_ast.specs.declared.module.Module.{Module}
+use Rattle.wasm_sem.specs.Types.{Module, Hooks}
 use Rattle.module_ast.specs.declared.module.Which.TheVariants.{Functions}
 use Rattle.module_ast.specs.Ascii.{ascii_text}
-use Rattle.module_ast.specs.Canonical.{module_bytes, sized_bytes}
-use Rattle.module_ast.specs.Decoding.{Gram}
-use Rattle.module_ast.specs.Spaces.{imported_funcs, funcs_of}
-use Rattle.module_ast.specs.Fits.{Fits}
+use Rattle.module_ast.specs.Binary.{module_bytes, sized_bytes, Gram, Fits, IsWithin}
+use Rattle.module_ast.specs.Structure.{imported_funcs, funcs_of}
 use Rattle.module_ast.proofs.LeastModules.{module_least}
 use Rattle.module_ast.proofs.ReadFits.{read_fits}
-use Rattle.hook_select.specs.declared.Hooks.{Hooks}
 use Rattle.hook_mono.specs.Needed.{needed_keys}
 use Rattle.index_remap.specs.declared.Remap.{Remap}
 use Rattle.index_remap.specs.Remap.{MapsIndex}
@@ -37,9 +34,7 @@ use Rattle.instrument.proofs.OutputSame.{same}
 use Rattle.instrument.proofs.OutputShell.{output_has_shell}
 use Rattle.instrument.proofs.OutputSpelled.{output_is_spelled}
 use Rattle.instrument.proofs.OutputWithin.{output_is_within}
-use Rattle.module_ast.specs.Limits.{narrow, wide}
-use Rattle.module_ast.specs.Profile.{IsWithin}
-use Rattle.module_ast.specs.Validity.{IsValid}
+use Rattle.module_ast.specs.Validation.{narrow, wide, IsValid}
 use Rattle.app_plan.specs.Wants.{AreKept}
 use Rattle.wasabi_app.specs.KeptNames.{DroppedNamesLeaveNothing, HasNameSection, IsOutput, IsSoundWith, named_output, output_names}
 

@@ -1,10 +1,9 @@
 -- A subject and a script that were loaded: they do not link, or they were run.
 use Rattle.std.proofs.Common.{◌≡◌, ◌≢◌, ℕ, ◌<◌, List, length, refl, sym, ap, subst, ◌∙◌, cond, Bool, true, false, Option, Some, None, Result, Ok, Err, IfOk, IfErr}
-use Rattle.module_ast.specs.declared.module.Module.{Module}
+use Rattle.wasm_sem.specs.Types.{Module}
 use Rattle.wasm_sem.specs.declared.Script.{Script}
-use Rattle.wasm_sem.specs.Answers.{Summary}
+use Rattle.wasm_sem.specs.Execution.{Summary, Refusal as LinkRefusal, no_export, bad_args, memory_cap, table_cap, segment_range, link, Links}
 use Rattle.wasm_sem.specs.Link as linking
-use Rattle.wasm_sem.specs.Link.{Refusal as LinkRefusal, no_export, bad_args, memory_cap, table_cap, segment_range, link, Links}
 use Rattle.run_session.specs.declared.link.LinkFault.{LinkFault}
 use Rattle.run_session.specs.declared.link.LinkFault.TheVariants.{NoExport, BadArgs, MemoryCap, TableCap, SegmentRange, NoMemory}
 use Rattle.run_session.specs.Linking.{TellsRefusal}

@@ -1,18 +1,12 @@
 -- No end of an output is refused.
 use Rattle.std.proofs.Common.{◌≡◌, ℕ, List, [], ◌∷◌, ◌++◌, Option, Some, None, IsSome, Bool, true, ◌&&◌, refl, sym, ap, ap₂, subst, ◌∙◌}
-use Rattle.module_ast.specs.declared.module.Loc.{Loc}
-use Rattle.module_ast.specs.declared.module.Module.{Module}
-use Rattle.hook_select.specs.declared.GroupName.{GroupName}
+use Rattle.wasm_sem.specs.Types.{Loc, Module, GroupName, Hooks}
 use Rattle.hook_select.specs.declared.GroupName.TheVariants.{Begin, End}
-use Rattle.hook_select.specs.declared.Hooks.{Hooks}
 use Rattle.hook_select.specs.Groups.{has}
 use Rattle.wasm_sem.specs.declared.Script.{Script}
-use Rattle.wasm_sem.specs.Events.{TraceItem}
+use Rattle.wasm_sem.specs.Execution.{TraceItem, IsScriptInRange, Links, run_of, trace_of}
 use Rattle.wasm_sem.specs.Laws.{AllGroupsKeepAll}
-use Rattle.wasm_sem.specs.Link.{IsScriptInRange, Links}
-use Rattle.wasm_sem.specs.Machine.{run_of}
 use Rattle.wasm_sem.specs.Nests.{Bracket}
-use Rattle.wasm_sem.specs.Trace.{trace_of}
 use Rattle.wasm_sem.proofs.SoundRead.{read_complete}
 use Rattle.static_info.specs.declared.Info.{Info}
 use Rattle.static_info.specs.Info.{info_of}

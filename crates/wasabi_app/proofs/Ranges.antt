@@ -6,23 +6,17 @@ use Rattle.std.specs.List.{AllByRecursion, slice_index}
 use Rattle.std.proofs.lemmas.Int.{ints}
 use Rattle.std.proofs.lemmas.List.{reverse-append}
 use Rattle.std.proofs.lemmas.List.Elements.{All-nil, All-cons, All-head, All-tail, All-filter, All-from_recursion, All-map, All-push, All-take, All-weaker, recursion_from_All}
-use Rattle.wasm_num.specs.declared.ValType.{ValType}
+use Rattle.wasm_sem.specs.Types.{ValType, NumOp, Value, Loc, GroupName, Event, HookKey}
 use Rattle.wasm_num.specs.declared.ValType.TheVariants as types
-use Rattle.wasm_num.specs.declared.NumOp.{NumOp}
-use Rattle.wasm_num.specs.declared.Value.{Value}
 use Rattle.wasm_num.specs.declared.Value.TheVariants.{I32, I64}
 use Rattle.wasm_num.specs.Shapes.{num_operands}
-use Rattle.module_ast.specs.declared.module.Loc.{Loc}
-use Rattle.hook_select.specs.declared.GroupName.{GroupName}
 use Rattle.hook_select.specs.declared.GroupName.TheVariants as groups
-use Rattle.hook_select.specs.declared.Event.{Event}
-use Rattle.hook_mono.specs.declared.HookKey.{HookKey}
 use Rattle.hook_mono.specs.declared.HookKey.TheVariants as keys
 use Rattle.hook_mono.specs.Words.{plain_values, value_types}
 use Rattle.branch_resolve.specs.declared.Block.{Block}
 use Rattle.index_remap.specs.declared.Remap.{Remap}
 use Rattle.index_remap.specs.Remap.{unmap_index}
-use Rattle.wasm_sem.specs.Events.{in_slot}
+use Rattle.wasm_sem.specs.Execution.{in_slot}
 use Rattle.wasm_sem.specs.Typed.{HasType, HaveTypes}
 use Rattle.wasm_sem.proofs.SoundCallees.{every_at}
 use Rattle.wasm_sem.proofs.Straight.{some_is}

@@ -1,7 +1,7 @@
 -- A trace whose events the analyses take as they are read.
 use Rattle.std.proofs.Common.{◌≡◌, ℕ, ◌^◌, ◌≤◌, inl, inr, List, [], ◌∷◌, ◌++◌, length, All, Option, Some, Result, Err, refl, sym, ap, subst, ◌∙◌, arith, append-nil, length-append}
 use Rattle.outside_io.specs.Outside.{Contents}
-use Rattle.hook_select.specs.declared.Event.{Event}
+use Rattle.wasm_sem.specs.Types.{Event}
 use Rattle.trace_file.specs.Files.{events_bytes, IsTrace, Reading, HasRead}
 use Rattle.trace_file.proofs.Whole.{one_list, first_of}
 use Rattle.analyses.specs.Tools.{ToolState}

@@ -1,9 +1,8 @@
 -- A subject, an information and a script that were loaded for reports: they do not link, or they were run.
 use Rattle.std.proofs.Common.{◌≡◌, ℕ, ◌⊎◌, Bool, List, ◌++◌, refl, inl, inr, sym, ap, ap₂, subst, ◌∙◌, Some, Result, Ok, Err, IfOk, IfErr}
-use Rattle.module_ast.specs.declared.module.Module.{Module}
+use Rattle.wasm_sem.specs.Types.{Module}
 use Rattle.wasm_sem.specs.declared.Script.{Script}
-use Rattle.wasm_sem.specs.Answers.{Summary}
-use Rattle.wasm_sem.specs.Link.{link, Links}
+use Rattle.wasm_sem.specs.Execution.{Summary, link, Links}
 use Rattle.run_session.specs.declared.link.LinkFault.{LinkFault}
 use Rattle.run_session.specs.declared.link.LinkFault.TheVariants.{NoMemory}
 use Rattle.run_session.specs.Linking.{TellsRefusal}

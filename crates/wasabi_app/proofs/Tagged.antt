@@ -2,24 +2,17 @@
 use Rattle.std.proofs.Common.{◌≡◌, ℕ, zero, suc, ◌+◌, ◌<◌, ◌≤◌, List, [], ◌∷◌, ◌++◌, length, map, Option, Some, None, Bool, true, false, nat_le, refl, sym, ap, subst, ◌∙◌, arith, add-one, append_assoc}
 use Rattle.std.proofs.lemmas.Bool.Decides.{nat_tests}
 use Rattle.outside_io.specs.Outside.{Contents}
-use Rattle.module_ast.specs.declared.module.Module.{Module}
-use Rattle.module_ast.specs.Decoding.{Gram}
-use Rattle.module_ast.specs.Limits.{narrow}
-use Rattle.module_ast.specs.Profile.{IsWithin}
-use Rattle.module_ast.specs.Validity.{IsValid}
+use Rattle.wasm_sem.specs.Types.{Module, Event, GroupName}
+use Rattle.module_ast.specs.Binary.{Gram, IsWithin}
+use Rattle.module_ast.specs.Validation.{narrow, IsValid}
 use Rattle.module_ast.proofs.LeastModules.{module_least}
 use Rattle.module_ast.proofs.ReadFits.{read_fits}
-use Rattle.hook_select.specs.declared.Event.{Event}
-use Rattle.hook_select.specs.declared.GroupName.{GroupName}
 use Rattle.hook_select.specs.declared.GroupName.TheVariants as groups
 use Rattle.hook_select.specs.Groups.{has}
 use Rattle.wasm_sem.specs.declared.Script.{Script}
-use Rattle.wasm_sem.specs.Events.{TraceItem, entry, host_call, event, hook_call}
+use Rattle.wasm_sem.specs.Execution.{TraceItem, entry, host_call, event, hook_call, instance, link, IsFree, IsScriptInRange, Links, Configuration, configuration, opening_configuration, run_of, items, trace, trace_of}
 use Rattle.wasm_sem.specs.Laws.{slots_in}
 use Rattle.wasm_sem.specs.Link as linking
-use Rattle.wasm_sem.specs.Link.{instance, link, IsFree, IsScriptInRange, Links}
-use Rattle.wasm_sem.specs.Machine.{Configuration, configuration, opening_configuration, run_of}
-use Rattle.wasm_sem.specs.Trace.{items, trace, trace_of}
 use Rattle.wasm_sem.proofs.AllChosen.{all_groups_keep}
 use Rattle.wasm_sem.proofs.Runs.{trace_add}
 use Rattle.wasm_sem.proofs.SoundRead.{read_complete}

@@ -1,14 +1,12 @@
 -- A module and its output that run side by side: one is followed by a shadow of the other.
 use Rattle.std.proofs.Common.{◌≡◌, ◌∙◌, ℕ, ◌^◌, ◌<◌, ◌≤◌, List, [], ◌∷◌, length, refl, sym, ap, ap₂, subst, arith, length-append}
-use Rattle.module_ast.specs.declared.module.Import.{Import}
-use Rattle.module_ast.specs.declared.module.Item.{Item}
+use Rattle.wasm_sem.specs.Types.{Import, Item, Module}
 use Rattle.module_ast.specs.declared.module.Item.TheVariants.{Func, Table, Memory, Global}
-use Rattle.module_ast.specs.declared.module.Module.{Module}
 use Rattle.module_ast.specs.declared.module.Which.TheVariants.{Functions}
-use Rattle.module_ast.specs.Limits.{wide}
-use Rattle.module_ast.specs.Spaces.{imported_funcs}
+use Rattle.module_ast.specs.Validation.{wide}
+use Rattle.module_ast.specs.Structure.{imported_funcs}
 use Rattle.wasm_sem.specs.declared.Script.{Script}
-use Rattle.wasm_sem.specs.Link.{IsFree, IsScriptInRange, Links}
+use Rattle.wasm_sem.specs.Execution.{IsFree, IsScriptInRange, Links}
 use Rattle.static_info.specs.declared.Info.{Info}
 use Rattle.static_info.specs.Info.{info_of}
 use Rattle.shadow_replay.specs.Opened.{opening_replay}

@@ -1,8 +1,8 @@
 -- A subject, the information on its original and a script that were loaded, and what came of the rest.
 use Rattle.std.proofs.Common.{◌≡◌, ◌≤◌, List, Bool, Some, Result}
 use Rattle.outside_io.specs.Outside.{Unchanged}
-use Rattle.module_ast.specs.declared.module.Module.{Module}
-use Rattle.module_ast.specs.Limits.{wide}
+use Rattle.wasm_sem.specs.Types.{Module}
+use Rattle.module_ast.specs.Validation.{wide}
 use Rattle.wasm_sem.specs.declared.Script.{Script}
 use Rattle.name_map.specs.declared.Names.{Names}
 use Rattle.static_info.specs.declared.Info.{Info}

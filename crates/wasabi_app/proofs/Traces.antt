@@ -5,24 +5,17 @@ use Rattle.std.proofs.lemmas.List.{length-map}
 use Rattle.std.proofs.lemmas.List.Elements.{All-weaker}
 use Rattle.std.proofs.lemmas.Option.{slice_get_within}
 use Rattle.outside_io.specs.Outside.{Contents}
-use Rattle.module_ast.specs.declared.module.FuncType.{FuncType}
-use Rattle.module_ast.specs.declared.module.Module.{Module}
+use Rattle.wasm_sem.specs.Types.{FuncType, Module, Event}
 use Rattle.module_ast.specs.declared.module.Which.TheVariants.{Functions, Parameters}
-use Rattle.module_ast.specs.Limits.{IsComplete, wide}
-use Rattle.module_ast.specs.Profile.{most_values, IsWithin}
-use Rattle.module_ast.specs.Spaces.{funcs_of}
-use Rattle.module_ast.specs.Validity.{IsValid}
+use Rattle.module_ast.specs.Validation.{IsComplete, wide, IsValid}
+use Rattle.module_ast.specs.Binary.{most_values, IsWithin}
+use Rattle.module_ast.specs.Structure.{funcs_of}
 use Rattle.module_ast.proofs.Sizes.{within_all}
-use Rattle.hook_select.specs.declared.Event.{Event}
 use Rattle.wasm_sem.specs.declared.HookCall.{HookCall}
 use Rattle.wasm_sem.specs.declared.Script.{Script}
-use Rattle.wasm_sem.specs.Answers.{hook_in}
-use Rattle.wasm_sem.specs.Events.{events_in}
+use Rattle.wasm_sem.specs.Execution.{hook_in, events_in, callees_of, instance, link, IsScriptInRange, Links, Configuration, configuration, run_of, items, trace_of}
 use Rattle.wasm_sem.specs.Laws.{slots_in}
 use Rattle.wasm_sem.specs.Link as linking
-use Rattle.wasm_sem.specs.Link.{callees_of, instance, link, IsScriptInRange, Links}
-use Rattle.wasm_sem.specs.Machine.{Configuration, configuration, run_of}
-use Rattle.wasm_sem.specs.Trace.{items, trace_of}
 use Rattle.wasm_sem.specs.Typed.{IsConfigurationTyped}
 use Rattle.wasm_sem.proofs.Operands.{have_length}
 use Rattle.wasm_sem.proofs.Sound.{always_typed}

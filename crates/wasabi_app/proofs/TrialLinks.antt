@@ -6,12 +6,10 @@ use Rattle.std.proofs.lemmas.Bool.Decides.{nat_tests}
 use Rattle.std.proofs.lemmas.List.Elements.{All-from_recursion}
 use Rattle.std.proofs.lemmas.List.FromFn.{length-range_with_len}
 use Rattle.wasm_num.specs.declared.ValType.TheVariants.{I32}
-use Rattle.module_ast.specs.declared.module.Import.{Import}
-use Rattle.module_ast.specs.declared.module.Module.{Module}
-use Rattle.module_ast.specs.Spaces.{funcs_of}
+use Rattle.wasm_sem.specs.Types.{Import, Module}
+use Rattle.module_ast.specs.Structure.{funcs_of}
 use Rattle.wasm_sem.specs.declared.HostAnswer.{HostAnswer}
-use Rattle.wasm_sem.specs.Link.{IsFree, IsScriptInRange, IsWriteInRange, Links, Refusal, call_refusal, callees_of, exported_func, first_refusal, bad_args, fit_all, fit_elements, opening_globals, fit_types, func_at, hook_module, refusal_unless, segment_range, table_cap}
-use Rattle.wasm_sem.specs.Machine.{run_of}
+use Rattle.wasm_sem.specs.Execution.{IsFree, IsScriptInRange, IsWriteInRange, Links, Refusal, call_refusal, callees_of, exported_func, first_refusal, bad_args, fit_all, fit_elements, opening_globals, fit_types, func_at, hook_module, refusal_unless, segment_range, table_cap, run_of}
 use Rattle.wasm_sem.proofs.SoundCallees.{are_callees, callable}
 use Rattle.module_gen.specs.Made.{exports, functions, made, note_import, type_indices}
 use Rattle.module_gen.proofs.MadeLists.{index_last, unary_type}

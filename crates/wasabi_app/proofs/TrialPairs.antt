@@ -1,16 +1,14 @@
 -- The output of a module, as it is read again, and what is told of both.
 use Rattle.std.proofs.Common.{◌≡◌, ◌∙◌, ◌⊎◌, inl, inr, ℕ, ◌≤◌, List, length, sym, ap, subst, arith, Result, Ok, Err, IfOk, OnOk}
-use Rattle.module_ast.specs.declared.module.Module.{Module}
-use Rattle.module_ast.specs.Canonical.{module_bytes}
-use Rattle.module_ast.specs.Decoding.{Gram}
-use Rattle.module_ast.specs.Limits.{wide}
-use Rattle.module_ast.specs.Spaces.{funcs_of}
+use Rattle.wasm_sem.specs.Types.{Module, Event}
+use Rattle.module_ast.specs.Binary.{module_bytes, Gram}
+use Rattle.module_ast.specs.Validation.{wide}
+use Rattle.module_ast.specs.Structure.{funcs_of}
 use Rattle.wasm_sem.specs.declared.Script.{Script}
-use Rattle.wasm_sem.specs.Answers.{Summary, summary_of}
+use Rattle.wasm_sem.specs.Execution.{Summary, summary_of}
 use Rattle.static_info.specs.Belongs.{Belongs}
 use Rattle.static_info.specs.Info.{info_of}
 use Rattle.static_info.specs.declared.Info.{Info}
-use Rattle.hook_select.specs.declared.Event.{Event}
 use Rattle.instrument.specs.Made.{IsMade, longest_output}
 use Rattle.instrument.specs.Output.{output, output_bytes}
 use Rattle.instrument.proofs.OutputShell.{output_has_shell}

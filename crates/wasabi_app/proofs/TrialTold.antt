@@ -1,15 +1,12 @@
 -- A trial tells of the original.
 use Rattle.std.proofs.Common.{◌≡◌, ◌∙◌, ℕ, ◌+◌, ◌≤◌, List, [], ◌∷◌, length, map, true, not, Option, refl, sym, ap, ap₂, subst, arith, All, IsTrue, is_some}
-use Rattle.module_ast.specs.declared.module.Module.{Module}
-use Rattle.module_ast.specs.Canonical.{module_bytes}
+use Rattle.wasm_sem.specs.Types.{Module, Event, Hooks}
+use Rattle.module_ast.specs.Binary.{module_bytes}
 use Rattle.module_ast.specs.Memory.{pages}
-use Rattle.hook_select.specs.declared.Event.{Event}
-use Rattle.hook_select.specs.declared.Hooks.{Hooks}
 use Rattle.hook_select.specs.Events.{group_of}
 use Rattle.wasm_sem.specs.declared.Answer.{Answer}
 use Rattle.wasm_sem.specs.declared.Script.{Script}
-use Rattle.wasm_sem.specs.Answers.{Summary, start_answer, call_answers, summary, summary_of}
-use Rattle.wasm_sem.specs.Machine.{Configuration, configuration, Env, Phase, over, is_last, is_over, run_of}
+use Rattle.wasm_sem.specs.Execution.{Summary, start_answer, call_answers, summary, summary_of, Configuration, configuration, Env, Phase, over, is_last, is_over, run_of}
 use Rattle.wasm_sem.proofs.Ended.{stays_over}
 use Rattle.instrument.specs.Same.{IsOver, IsPrefix, SameRuns, env_in, env_of}
 use Rattle.instrument.proofs.OutputSame.{same}

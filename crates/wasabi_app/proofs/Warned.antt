@@ -1,16 +1,10 @@
 -- Warnings come at host calls alone, so that those of two lists with as many host calls of one run are the same.
 use Rattle.std.proofs.Common.{◌≡◌, ℕ, zero, suc, ◌+◌, List, [], ◌∷◌, ◌++◌, Option, Some, None, Bool, true, false, cond, refl, sym, ap, ◌∙◌, arith, append_assoc, append-nil}
 use Rattle.wasm_num.specs.declared.BlockKind.TheVariants as kinds
-use Rattle.wasm_num.specs.declared.BlockKind.{BlockKind}
-use Rattle.module_ast.specs.declared.module.FuncType.{FuncType}
-use Rattle.module_ast.specs.declared.module.Loc.{Loc}
-use Rattle.module_ast.specs.declared.module.Module.{Module}
+use Rattle.wasm_sem.specs.Types.{BlockKind, FuncType, Loc, Module, Event}
 use Rattle.module_ast.specs.declared.ops.VarOp.TheVariants.{Get, Set, Tee}
-use Rattle.hook_select.specs.declared.Event.{Event}
 use Rattle.hook_select.specs.declared.Event.TheVariants as events
-use Rattle.wasm_sem.specs.Events.{TraceItem, entry, host_call, event, hook_call}
-use Rattle.wasm_sem.specs.Link.{Callee}
-use Rattle.wasm_sem.specs.Machine.{at_zero}
+use Rattle.wasm_sem.specs.Execution.{TraceItem, entry, host_call, event, hook_call, Callee, at_zero}
 use Rattle.shadow_replay.specs.Shadow.{ShadowFrame, ShadowLabel, HeldValues, Shadow, effect}
 use Rattle.shadow_replay.specs.Taint.{Watch, Taint, exchange, add_pages, unmark_writes, warn}
 use Rattle.shadow_replay.specs.Tainted.{PreparedMarks, ShadowMarks, TaintedShadow, move, holds_marks, holds_results_marks, drops_held_marks, drops_fallen_marks, drops_marks, ends_marks, calls_marks, calls_typed_marks, answers_marks, event_marks, item_marks, with_marks, tainted_effect, tainted_effects}

@@ -5,7 +5,7 @@ use Rattle.clap.specs.Words.{Kinds as Faults, Text, fault_of, first_of, matches_
 use Rattle.clap.specs.ValueTests.{is_unsigned_in}
 use Rattle.clap.specs.declared.builder.value_parser.ValueParser.TheVariants.{Unsigned}
 use Rattle.clap.proofs.ValueTestLemmas.{accepts-Accepts}
-use Rattle.hook_select.specs.declared.Hooks.{Hooks}
+use Rattle.wasm_sem.specs.Types.{Hooks}
 use Rattle.hook_select.specs.Groups.{read_list}
 use Rattle.app_plan.specs.declared.kinds.Kinds.{Kinds}
 use Rattle.app_plan.specs.Kinds.{read_kinds}

@@ -1,14 +1,11 @@
 -- What the reports on an output, and a trial, tell of the original.
 use Rattle.std.specs.Prelude.{◌≡◌, ℕ, List, Bool, true, IsTrue, is_some, All, map}
-use Rattle.module_ast.specs.declared.module.Module.{Module}
-use Rattle.module_ast.specs.Decoding.{Gram}
-use Rattle.module_ast.specs.Limits.{wide}
-use Rattle.hook_select.specs.declared.Event.{Event}
-use Rattle.hook_select.specs.declared.Hooks.{Hooks}
+use Rattle.wasm_sem.specs.Types.{Module, Event, Hooks}
+use Rattle.module_ast.specs.Binary.{Gram}
+use Rattle.module_ast.specs.Validation.{wide}
 use Rattle.hook_select.specs.Events.{group_of}
 use Rattle.wasm_sem.specs.declared.Script.{Script}
-use Rattle.wasm_sem.specs.Events.{events_in}
-use Rattle.wasm_sem.specs.Link.{IsScriptInRange, Links}
+use Rattle.wasm_sem.specs.Execution.{events_in, IsScriptInRange, Links}
 use Rattle.name_map.specs.declared.Names.{Names}
 use Rattle.static_info.specs.declared.Info.{Info}
 use Rattle.static_info.specs.Belongs.{Belongs}

@@ -1,6 +1,6 @@
 -- How the making of an output ends.
 use Rattle.std.specs.Prelude.{◌≡◌, ◌≢◌, ℕ, List, length, Some, None, Err}
-use Rattle.module_ast.specs.declared.module.Module.{Module}
+use Rattle.wasm_sem.specs.Types.{Module}
 use Rattle.name_map.specs.declared.Names.{Names}
 use Rattle.analyses.specs.Tools.{ToolState}
 use Rattle.wasabi_app.specs.Making.{hook_count, named_length, information_text, Line}

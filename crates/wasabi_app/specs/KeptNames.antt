@@ -1,13 +1,10 @@
 -- What is written for a module whose names are kept.
 use Rattle.std.specs.Prelude.{◌≡◌, ◌≢◌, ◌⊎◌, ℕ, ◌≤◌, List, [], ◌∷◌, ◌++◌, length, Bool, false, codes}
 use Rattle.leb_binary.specs.Texts.{Text}
-use Rattle.module_ast.specs.declared.module.Module.{Module}
-use Rattle.module_ast.specs.Decoding.{Gram}
-use Rattle.module_ast.specs.Limits.{wide}
-use Rattle.module_ast.specs.Profile.{IsWithin}
-use Rattle.module_ast.specs.Spaces.{funcs_of}
-use Rattle.module_ast.specs.Validity.{IsValid}
-use Rattle.hook_select.specs.declared.Hooks.{Hooks}
+use Rattle.wasm_sem.specs.Types.{Module, Hooks}
+use Rattle.module_ast.specs.Binary.{Gram, IsWithin}
+use Rattle.module_ast.specs.Validation.{wide, IsValid}
+use Rattle.module_ast.specs.Structure.{funcs_of}
 use Rattle.hook_mono.specs.Needed.{needed_keys}
 use Rattle.name_map.specs.declared.Names.{Names}
 use Rattle.name_map.specs.Laws.{Follow}

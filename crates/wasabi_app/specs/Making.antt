@@ -1,7 +1,6 @@
 -- What the mode `instrument` makes.
 use Rattle.std.specs.Prelude.{ℕ, List, length, Bool, Option, option_map}
-use Rattle.module_ast.specs.declared.module.Module.{Module}
-use Rattle.hook_select.specs.declared.Hooks.{Hooks}
+use Rattle.wasm_sem.specs.Types.{Module, Hooks}
 use Rattle.hook_mono.specs.Needed.{needed_keys}
 use Rattle.static_info.specs.Info.{info_of}
 use Rattle.static_info.specs.Json.{info_text}

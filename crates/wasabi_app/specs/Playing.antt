@@ -1,10 +1,9 @@
 -- A module that is linked with a script and run.
 use Rattle.std.specs.Prelude.{ℕ, List, cond, Option, Some, None}
-use Rattle.module_ast.specs.declared.module.Module.{Module}
+use Rattle.wasm_sem.specs.Types.{Module}
 use Rattle.wasm_sem.specs.declared.Script.{Script}
 use Rattle.wasm_sem.specs.Link as linking
-use Rattle.wasm_sem.specs.Link.{link}
-use Rattle.wasm_sem.specs.Answers.{Summary, summary_of}
+use Rattle.wasm_sem.specs.Execution.{link, Summary, summary_of}
 use Rattle.app_runs.specs.RunTexts.{has_trapped, run_text}
 use Rattle.app_runs.specs.Linking.{link_reason, link_text}
 use Rattle.app_plan.specs.Plans.{Finish, done, trapped, unfinished, Plan, refusing}

@@ -1,13 +1,11 @@
 -- That what `record` wrote replays as the end of the report.
 use Rattle.std.specs.Prelude.{◌≡◌, ℕ, ◌≤◌, List, [], ◌∷◌, ◌++◌, length, false, Option, Some}
 use Rattle.outside_io.specs.Outside.{Contents, Holds, WhereKnown}
-use Rattle.module_ast.specs.declared.module.Module.{Module}
-use Rattle.module_ast.specs.Limits.{IsComplete, wide}
-use Rattle.module_ast.specs.Profile.{IsWithin}
-use Rattle.module_ast.specs.Validity.{IsValid}
-use Rattle.hook_select.specs.declared.Event.{Event}
+use Rattle.wasm_sem.specs.Types.{Module, Event}
+use Rattle.module_ast.specs.Validation.{IsComplete, wide, IsValid}
+use Rattle.module_ast.specs.Binary.{IsWithin}
 use Rattle.wasm_sem.specs.declared.Script.{Script}
-use Rattle.wasm_sem.specs.Link.{IsScriptInRange, Links}
+use Rattle.wasm_sem.specs.Execution.{IsScriptInRange, Links}
 use Rattle.static_info.specs.declared.Info.{Info}
 use Rattle.static_info.specs.Belongs.{Belongs}
 use Rattle.static_info.specs.Form.{IsWellFormed}

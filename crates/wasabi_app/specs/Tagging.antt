@@ -1,11 +1,10 @@
 -- That the warnings of the mode `taint` are those of the original's run with marks.
 use Rattle.std.specs.Prelude.{◌≡◌, ℕ, ◌≤◌, List, length, ◌++◌, Option}
 use Rattle.outside_io.specs.Outside.{Contents}
-use Rattle.module_ast.specs.declared.module.Module.{Module}
-use Rattle.module_ast.specs.Limits.{narrow}
+use Rattle.wasm_sem.specs.Types.{Module}
+use Rattle.module_ast.specs.Validation.{narrow}
 use Rattle.wasm_sem.specs.declared.Script.{Script}
-use Rattle.wasm_sem.specs.Link.{IsScriptInRange, Links}
-use Rattle.wasm_sem.specs.Machine.{run_of}
+use Rattle.wasm_sem.specs.Execution.{IsScriptInRange, Links, run_of}
 use Rattle.wasm_run.specs.Beside.{hosts_in}
 use Rattle.shadow_replay.specs.declared.Warning.{Warning}
 use Rattle.shadow_replay.specs.Taint.{Watch}

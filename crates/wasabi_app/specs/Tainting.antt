@@ -1,6 +1,6 @@
 -- The warnings on a module that runs with hooks.
 use Rattle.std.specs.Prelude.{List, [], Option, Some, None}
-use Rattle.module_ast.specs.declared.module.Module.{Module}
+use Rattle.wasm_sem.specs.Types.{Module}
 use Rattle.wasm_sem.specs.declared.Script.{Script}
 use Rattle.shadow_replay.specs.declared.Warning.{Warning}
 use Rattle.shadow_replay.specs.Laws.{tainted_shadow_after}

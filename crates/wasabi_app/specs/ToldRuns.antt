@@ -1,7 +1,7 @@
 -- A subject, the information on its original and a script, read one after the other.
 use Rattle.std.specs.Prelude.{ℕ, List, Bool, Option, Some, Result, Err, option_map, option_and_then}
-use Rattle.module_ast.specs.declared.module.Module.{Module}
-use Rattle.module_ast.specs.Limits.{wide}
+use Rattle.wasm_sem.specs.Types.{Module}
+use Rattle.module_ast.specs.Validation.{wide}
 use Rattle.wasm_sem.specs.declared.Script.{Script}
 use Rattle.name_map.specs.declared.Names.{Names}
 use Rattle.static_info.specs.declared.Info.{Info}

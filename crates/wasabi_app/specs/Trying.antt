@@ -1,13 +1,9 @@
 -- How the trial of a module ends.
 use Rattle.std.specs.Prelude.{◌≡◌, ℕ, ◌<◌, ◌≤◌, ◌⊎◌, List, length, Result, IfOk, OnOk, OnErr}
-use Rattle.module_ast.specs.declared.module.Module.{Module}
-use Rattle.module_ast.specs.Canonical.{module_bytes}
-use Rattle.module_ast.specs.Fits.{Fits}
-use Rattle.module_ast.specs.Limits.{narrow}
-use Rattle.module_ast.specs.Profile.{IsWithin}
-use Rattle.module_ast.specs.Validity.{IsValid}
-use Rattle.wasm_sem.specs.Answers.{summary_of}
-use Rattle.wasm_sem.specs.Link.{IsFree}
+use Rattle.wasm_sem.specs.Types.{Module}
+use Rattle.module_ast.specs.Binary.{module_bytes, Fits, IsWithin}
+use Rattle.module_ast.specs.Validation.{narrow, IsValid}
+use Rattle.wasm_sem.specs.Execution.{summary_of, IsFree}
 use Rattle.static_info.specs.declared.Info.{Info}
 use Rattle.static_info.specs.Info.{info_of}
 use Rattle.instrument.specs.Made.{longest_output}

@@ -1,13 +1,10 @@
 -- How a run that a shadow follows ends.
 use Rattle.std.specs.Prelude.{◌≡◌, ℕ, ◌≤◌, List, length, map, None, Some, Err, string_bytes}
-use Rattle.module_ast.specs.declared.module.Module.{Module}
-use Rattle.module_ast.specs.Canonical.{module_bytes}
-use Rattle.module_ast.specs.Fits.{Fits}
-use Rattle.module_ast.specs.Limits.{IsComplete, narrow}
-use Rattle.module_ast.specs.Profile.{IsWithin}
-use Rattle.module_ast.specs.Validity.{IsValid}
+use Rattle.wasm_sem.specs.Types.{Module}
+use Rattle.module_ast.specs.Binary.{module_bytes, Fits, IsWithin}
+use Rattle.module_ast.specs.Validation.{IsComplete, narrow, IsValid}
 use Rattle.wasm_sem.specs.declared.Script.{Script}
-use Rattle.wasm_sem.specs.Link.{IsFree}
+use Rattle.wasm_sem.specs.Execution.{IsFree}
 use Rattle.static_info.specs.declared.Info.{Info}
 use Rattle.static_info.specs.Belongs.{Belongs}
 use Rattle.static_info.specs.Form.{IsWellFormed}

@@ -1,7 +1,7 @@
 // The mode `record`.
 
 ghost use Rattle.std.specs.Prelude.{◌≡◌, ◌≤◌, Err, IfErr, IfOk, IfSome, List, Some, length, option_map, string_bytes};
-ghost use Rattle.wasm_sem.specs.Link.{IsScriptInRange, Links};
+ghost use Rattle.wasm_sem.specs.Execution.{IsScriptInRange, Links};
 ghost use Rattle.static_info.specs.Belongs.{Belongs};
 ghost use Rattle.static_info.specs.Form.{IsWellFormed};
 ghost use Rattle.instrument.specs.Made.{longest_output};

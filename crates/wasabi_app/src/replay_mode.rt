@@ -1,7 +1,7 @@
 // The mode `replay`.
 
 ghost use Rattle.std.specs.Prelude.{◌≡◌, ◌≤◌, ◌^◌, All, List, [], ◌∷◌, OnErr, OnOk, Some, map, length, IfOk};
-ghost use Rattle.hook_select.specs.declared.Event.{Event as EventSpec};
+ghost use Rattle.wasm_sem.specs.Types.{Event as EventSpec};
 ghost use Rattle.trace_file.specs.Files.{IsTrace};
 ghost use Rattle.analyses.specs.Tools.{ToolState};
 ghost use Rattle.app_plan.specs.Feeding.{AreFedPart, fed, fresh_tools};

@@ -1,7 +1,7 @@
 // The mode `taint`.
 
 ghost use Rattle.std.specs.Prelude.{◌≡◌, ◌++◌, ◌<◌, ◌≤◌, ◌^◌, IfErr, IfOk, List, OnOk, Some, length, map, option_map, string_bytes};
-ghost use Rattle.wasm_sem.specs.Link.{IsFree, IsScriptInRange, Links, link};
+ghost use Rattle.wasm_sem.specs.Execution.{IsFree, IsScriptInRange, Links, link};
 ghost use Rattle.run_session.specs.Linking.{TellsRefusal};
 ghost use Rattle.run_session.specs.Sessions.{told_outcome};
 ghost use Rattle.instrument.specs.Made.{IsMade, longest_output};

@@ -1,7 +1,7 @@
 // A module that is to be run, with the information on its original and a script.
 
 ghost use Rattle.std.specs.Prelude.{◌≡◌, ◌≤◌, IfErr, IfOk, option_map};
-ghost use Rattle.wasm_sem.specs.Link.{IsScriptInRange};
+ghost use Rattle.wasm_sem.specs.Execution.{IsScriptInRange};
 ghost use Rattle.static_info.specs.Belongs.{Belongs};
 ghost use Rattle.static_info.specs.Form.{IsWellFormed};
 ghost use Rattle.app_plan.specs.Printing.{shelf_state};

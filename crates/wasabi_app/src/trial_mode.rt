@@ -1,9 +1,9 @@
 // The mode `trial`.
 
 ghost use Rattle.std.specs.Prelude.{◌≡◌, ◌≤◌, IfErr, IfOk, OnOk, Some, length, map, string_bytes};
-ghost use Rattle.module_ast.specs.Canonical.{module_bytes};
-ghost use Rattle.module_ast.specs.Limits.{wide};
-ghost use Rattle.module_ast.specs.Spaces.{funcs_of};
+ghost use Rattle.module_ast.specs.Binary.{module_bytes};
+ghost use Rattle.module_ast.specs.Validation.{wide};
+ghost use Rattle.module_ast.specs.Structure.{funcs_of};
 ghost use Rattle.static_info.specs.Belongs.{Belongs};
 ghost use Rattle.static_info.specs.Form.{IsWellFormed};
 ghost use Rattle.instrument.specs.Made.{IsMade, longest_output, narrow_file};

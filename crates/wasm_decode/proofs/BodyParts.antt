@@ -1,9 +1,8 @@
 -- Bodies: their locals, and the parts of what a reader hands on.
 use Rattle.std.proofs.Common.{◌≡◌, ℕ, List, [], ◌∷◌}
 use Rattle.std.specs.Prelude.{Bool, true, false, Option}
-use Rattle.module_ast.specs.Grammar as grammar
-use Rattle.module_ast.specs.Grammar.{IsSized, IsBody, AreItems, local_count}
-use Rattle.module_ast.specs.Profile.{some_in}
+use Rattle.module_ast.specs.Binary.Grammar as grammar
+use Rattle.module_ast.specs.Binary.{IsSized, IsBody, AreItems, local_count, some_in}
 use Rattle.wasm_decode.specs.Forms.{Form, ItemsStandFor}
 use Rattle.wasm_decode.specs.Drafts.{HaveFewLocals}
 

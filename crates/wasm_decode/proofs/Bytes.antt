@@ -4,7 +4,7 @@ use Rattle.leb_binary.specs.Leb.{IsFront, HasNoFront}
 use Rattle.leb_binary.specs.Reading.{IsSlice}
 use Rattle.leb_binary.proofs.Fronts.{one_unsigned, front_one}
 use Rattle.leb_binary.specs.Reading.{IsByte}
-use Rattle.module_ast.specs.Grammar.{IsU32, IsVec, AreItems}
+use Rattle.module_ast.specs.Binary.{IsU32, IsVec, AreItems}
 use Rattle.module_ast.proofs.Compose.{vec_some}
 use Rattle.wasm_decode.proofs.Slices.{slice_parts}
 

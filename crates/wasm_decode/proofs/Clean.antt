@@ -1,8 +1,7 @@
 -- Where no part of a draft floats, no section does.
 use Rattle.std.proofs.Common.{◌≡◌, ℕ, ◌<◌, ◌≤◌, List, refl, ap, ◌∙◌, arith}
 use Rattle.std.specs.Prelude.{Bool, true, false, Option}
-use Rattle.module_ast.specs.Grammar.{ModuleNode, Kind, id_of, type_section, import_section, global_section, element_section, code_section, data_section}
-use Rattle.module_ast.specs.Profile.{some_in, section_floats}
+use Rattle.module_ast.specs.Binary.{ModuleNode, Kind, id_of, type_section, import_section, global_section, element_section, code_section, data_section, some_in, section_floats}
 use Rattle.module_ast.proofs.Trees.{IsView, list_view}
 use Rattle.wasm_decode.specs.Forms.{Form, ItemsStandFor}
 

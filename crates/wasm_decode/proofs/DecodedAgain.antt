@@ -3,10 +3,7 @@ use Rattle.std.proofs.Common.{◌≡◌, ℕ, List, [], ◌∷◌, inl, inr, tru
 use Rattle.module_ast.specs.declared.module.Module.{Module}
 use Rattle.module_ast.specs.declared.module.Limits.{Limits}
 use Rattle.module_ast.specs.declared.module.Which.{Which}
-use Rattle.module_ast.specs.Canonical.{module_bytes, without_customs}
-use Rattle.module_ast.specs.Profile.{tree_of, section_floats, bound_of, limited_counts, AreWithin, IsWithin, IsFirstAbove}
-use Rattle.module_ast.specs.Decoding.{Gram, FileFloats, FileExceeds}
-use Rattle.module_ast.specs.Fits.{Fits}
+use Rattle.module_ast.specs.Binary.{module_bytes, without_customs, tree_of, section_floats, bound_of, limited_counts, AreWithin, IsWithin, IsFirstAbove, Gram, FileFloats, FileExceeds, Fits}
 use Rattle.module_ast.proofs.WrittenModules.{module_spelled}
 use Rattle.module_ast.proofs.ModuleTrees.{modules_unique, modules_plain}
 use Rattle.code_decode.proofs.Modules.{trees_one, faults_have_no_tree}

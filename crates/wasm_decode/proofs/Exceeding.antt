@@ -9,7 +9,7 @@ use Rattle.module_ast.specs.declared.module.Segment.{Segment}
 use Rattle.module_ast.specs.declared.module.Limits.{Limits}
 use Rattle.module_ast.specs.declared.module.Which.{Which}
 use Rattle.module_ast.specs.declared.module.Which.TheVariants.{Functions, Types, Parameters, Locals, Nesting}
-use Rattle.module_ast.specs.Profile.{locals_of, limited_counts, bound_of, order_of, AreWithin, IsFirstAbove, IsFirstExceeded, IsWithin}
+use Rattle.module_ast.specs.Binary.{locals_of, limited_counts, bound_of, order_of, AreWithin, IsFirstAbove, IsFirstExceeded, IsWithin}
 use Rattle.wasm_decode.specs.Forms.{draft_items, first_above}
 use Rattle.wasm_decode.specs.Kinds.{global_form, element_form, segment_form, body_form}
 use Rattle.wasm_decode.specs.Settled.{without_deep, or_else}

@@ -1,7 +1,7 @@
 -- Items without code, and those that never float.
 use Rattle.std.proofs.Common.{◌≡◌, ℕ, List, [], ◌∷◌, refl, sym, ap, ◌∙◌}
 use Rattle.std.specs.Prelude.{map, Bool, true, false, Option, cond, nat_lt}
-use Rattle.module_ast.specs.Profile.{some_in}
+use Rattle.module_ast.specs.Binary.{some_in}
 use Rattle.wasm_decode.specs.Forms.{draft_items, ItemsStandFor}
 use Rattle.wasm_decode.specs.Kinds.{flat}
 

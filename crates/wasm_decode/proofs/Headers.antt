@@ -3,7 +3,7 @@ use Rattle.std.proofs.Common.{◌≡◌, ℕ, ◌<◌, List, [], ◌∷◌, ◌+
 use Rattle.std.proofs.lemmas.List.{take-append-drop}
 use Rattle.leb_binary.specs.Leb.{IsFront, HasNoFront}
 use Rattle.leb_binary.specs.Reading.{IsByte}
-use Rattle.module_ast.specs.Grammar.{AreItems, Section, IsSection, AreOrdered, ModuleNode, header, module_of, HasSections, HasBodies, IsModule, HasNext, FailsInSection}
+use Rattle.module_ast.specs.Binary.{AreItems, Section, IsSection, AreOrdered, ModuleNode, header, module_of, HasSections, HasBodies, IsModule, HasNext, FailsInSection}
 use Rattle.wasm_decode.specs.Files.{AreBytes, FailsAt}
 
 -- bytes, by their places

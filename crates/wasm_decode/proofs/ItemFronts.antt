@@ -3,7 +3,7 @@ use Rattle.std.proofs.Common.{◌≡◌, ℕ, List, arith}
 use Rattle.leb_binary.specs.Leb.{IsFront, HasNoFront}
 use Rattle.leb_binary.specs.Reading.{IsByte}
 use Rattle.module_ast.specs.declared.module.ExportKind.TheVariants as kinds
-use Rattle.module_ast.specs.Grammar.{IsU32, IsTableType, IsMemoryType, IsGlobalType, IsItem, func_item, table_item, memory_item, global_item, IsExportKind}
+use Rattle.module_ast.specs.Binary.{IsU32, IsTableType, IsMemoryType, IsGlobalType, IsItem, func_item, table_item, memory_item, global_item, IsExportKind}
 use Rattle.module_ast.proofs.Compose.{op_end}
 use Rattle.code_decode.proofs.TypeBytes.{no_byte}
 use Rattle.wasm_decode.proofs.Ops.{op_parts}

@@ -2,7 +2,7 @@
 use Rattle.std.proofs.Common.{◌≡◌, ℕ, List, ◌∷◌, ◌++◌, sym, ap, ◌∙◌}
 use Rattle.leb_binary.specs.Leb.{IsFront}
 use Rattle.leb_binary.specs.Reading.{IsByte}
-use Rattle.module_ast.specs.Grammar.{IsOp}
+use Rattle.module_ast.specs.Binary.{IsOp}
 
 -- the byte, and what stands behind it
 pub record OpParts (o b : ℕ) (P : List ℕ → Type 0) (mid rest : List ℕ) : Type 0 where

@@ -3,7 +3,7 @@ use Rattle.std.proofs.Common.{◌≡◌, ℕ, ◌<◌, ◌≤◌, ◌⊎◌, inl
 use Rattle.std.specs.Prelude.{max}
 use Rattle.leb_binary.specs.Leb.{IsFront}
 use Rattle.leb_binary.specs.Reading.{IsByte}
-use Rattle.module_ast.specs.Grammar.{Kind, Content, Section, ModuleNode, IsContent, IsSized, IsSection, HasNext, AreOrdered, id_of, with_section, with_sections, module_of, empty_module, custom_section}
+use Rattle.module_ast.specs.Binary.{Kind, Content, Section, ModuleNode, IsContent, IsSized, IsSection, HasNext, AreOrdered, id_of, with_section, with_sections, module_of, empty_module, custom_section}
 use Rattle.code_decode.proofs.Items.{same_kind}
 use Rattle.wasm_decode.specs.Files.{last_of}
 

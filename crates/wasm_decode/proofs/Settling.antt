@@ -11,10 +11,9 @@ use Rattle.module_ast.specs.declared.module.Element.{Element}
 use Rattle.module_ast.specs.declared.module.Segment.{Segment}
 use Rattle.module_ast.specs.declared.module.Which.TheVariants.{Nesting}
 use Rattle.module_ast.specs.declared.module.Range.{Range}
-use Rattle.module_ast.specs.Grammar as grammar
-use Rattle.module_ast.specs.Grammar.{Kind, local_count, custom_section, type_section, import_section, function_section, table_section, memory_section, global_section, export_section, start_section, element_section, code_section, data_section}
-use Rattle.module_ast.specs.Profile as profile
-use Rattle.module_ast.specs.Profile.{tree_of, locals_of, limited_counts, AreWithin, IsFirstAbove}
+use Rattle.module_ast.specs.Binary.Grammar as grammar
+use Rattle.module_ast.specs.Binary.{Kind, local_count, custom_section, type_section, import_section, function_section, table_section, memory_section, global_section, export_section, start_section, element_section, code_section, data_section, tree_of, locals_of, limited_counts, AreWithin, IsFirstAbove}
+use Rattle.module_ast.specs.Binary.Profile as profile
 use Rattle.wasm_decode.specs.declared.draft.Draft.{Draft}
 use Rattle.wasm_decode.specs.Forms.{Form, draft_items, first_above, ItemsStandFor}
 use Rattle.wasm_decode.specs.Kinds.{func_type_form, import_form, global_form, element_form, segment_form, body_form}

@@ -4,7 +4,7 @@ use Rattle.std.proofs.lemmas.Bool.{cases_lt}
 use Rattle.std.proofs.lemmas.List.{take-append-drop, length-take-le}
 use Rattle.leb_binary.specs.Leb.{IsFront, HasNoFront}
 use Rattle.leb_binary.specs.Reading.{IsSlice}
-use Rattle.module_ast.specs.Grammar.{IsU32, IsSized}
+use Rattle.module_ast.specs.Binary.{IsU32, IsSized}
 use Rattle.module_ast.proofs.Compose.{sized_some, sized_short, sized_none}
 
 pub slice_parts : (n : ℕ) (start after taken : List ℕ) → IsFront (IsSlice n) start after taken → (start ≡ taken ++ after) × (length taken ≡ n)

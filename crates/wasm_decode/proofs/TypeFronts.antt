@@ -5,7 +5,7 @@ use Rattle.leb_binary.specs.Leb.{IsFront, HasNoFront}
 use Rattle.leb_binary.specs.Reading.{IsByte}
 use Rattle.leb_binary.proofs.Fronts.{one_unsigned, front_one}
 use Rattle.module_ast.specs.declared.module.Range.{Range}
-use Rattle.module_ast.specs.Grammar.{IsU32, Both, AreLimits, IsMemoryType, IsMutability}
+use Rattle.module_ast.specs.Binary.{IsU32, Both, AreLimits, IsMemoryType, IsMutability}
 use Rattle.module_ast.proofs.Compose.{both_some, both_parts, op_end}
 use Rattle.code_decode.proofs.TypeBytes.{one_byte, no_byte}
 use Rattle.wasm_decode.proofs.Ops.{op_parts}

@@ -1,9 +1,9 @@
 -- What an expression that was read is of a tree.
 use Rattle.std.specs.Prelude.{◌≡◌, ℕ, ◌<◌, ◌≤◌, true}
-use Rattle.module_ast.specs.Tree.{Tree}
-use Rattle.module_ast.specs.Grammar as grammar
-use Rattle.module_ast.specs.Positions.{code_nesting}
-use Rattle.module_ast.specs.Profile.{code_node, code_floats}
+use Rattle.module_ast.specs.Structure.{Tree}
+use Rattle.module_ast.specs.Binary.Grammar as grammar
+use Rattle.module_ast.specs.Places.{code_nesting}
+use Rattle.module_ast.specs.Binary.{code_node, code_floats}
 use Rattle.code_decode.specs.declared.expr.Expr.{Expr}
 use Rattle.code_decode.specs.declared.expr.Expr.TheVariants.{Built, Floats, Deep}
 

@@ -1,7 +1,7 @@
 -- Bodies with few locals.
 use Rattle.std.specs.Prelude.{◌^◌, ◌<◌, List, [], ◌∷◌}
 use Rattle.module_ast.specs.declared.module.Body.{Body}
-use Rattle.module_ast.specs.Profile.{locals_of}
+use Rattle.module_ast.specs.Binary.{locals_of}
 
 -- each has fewer than 2 ^ 32
 abbrev pub AreFew : List Body → Type 0

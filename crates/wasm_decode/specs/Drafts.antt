@@ -1,7 +1,7 @@
 -- A module as far as it was read.
 use Rattle.std.specs.Prelude.{◌≡◌, ℕ, ◌^◌, ◌<◌, List, [], ◌∷◌, length}
-use Rattle.module_ast.specs.Grammar as grammar
-use Rattle.module_ast.specs.Grammar.{Kind, custom_section, type_section, import_section, function_section, table_section, memory_section, global_section, export_section, start_section, element_section, code_section, data_section, local_count}
+use Rattle.module_ast.specs.Binary.Grammar as grammar
+use Rattle.module_ast.specs.Binary.{Kind, custom_section, type_section, import_section, function_section, table_section, memory_section, global_section, export_section, start_section, element_section, code_section, data_section, local_count}
 use Rattle.wasm_decode.specs.declared.part.Part.{Part}
 use Rattle.wasm_decode.specs.declared.draft.Draft.{Draft}
 use Rattle.wasm_decode.specs.Forms.{Form}

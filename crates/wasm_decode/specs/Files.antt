@@ -1,6 +1,6 @@
 -- Files as far as they were read.
 use Rattle.std.specs.Prelude.{◌≡◌, ℕ, ◌<◌, List, [], ◌∷◌, ◌++◌, max}
-use Rattle.module_ast.specs.Grammar.{Section, IsSection, AreItems, AreOrdered, HasNext, id_of}
+use Rattle.module_ast.specs.Binary.{Section, IsSection, AreItems, AreOrdered, HasNext, id_of}
 
 abbrev pub AreBytes : List ℕ → Type 0
 AreBytes [] = Unit {0}

@@ -1,6 +1,6 @@
 -- What a reader knows of items, which may be floating or too deep.
 use Rattle.std.specs.Prelude.{◌≡◌, ℕ, List, [], ◌∷◌, map, Bool, true, false, Option, Some, None, cond, nat_lt}
-use Rattle.module_ast.specs.Profile.{some_in}
+use Rattle.module_ast.specs.Binary.{some_in}
 
 -- One kind of item: whether it floats, the program's value as a tree of the grammar, how deep its code nests, and the
 -- value without its code.

@@ -8,10 +8,10 @@ use Rattle.module_ast.specs.declared.module.Export.{Export}
 use Rattle.module_ast.specs.declared.module.Element.{Element}
 use Rattle.module_ast.specs.declared.module.Segment.{Segment}
 use Rattle.module_ast.specs.declared.module.Body.{Body}
-use Rattle.module_ast.specs.Tree.{done}
-use Rattle.module_ast.specs.Grammar as grammar
-use Rattle.module_ast.specs.Positions.{code_nesting}
-use Rattle.module_ast.specs.Profile.{is_floating, some_in, item_floats, code_floats, func_type_node, import_node, global_node, export_node, element_node, segment_node, body_node}
+use Rattle.module_ast.specs.Structure.{done}
+use Rattle.module_ast.specs.Binary.Grammar as grammar
+use Rattle.module_ast.specs.Places.{code_nesting}
+use Rattle.module_ast.specs.Binary.{is_floating, some_in, item_floats, code_floats, func_type_node, import_node, global_node, export_node, element_node, segment_node, body_node}
 use Rattle.wasm_decode.specs.Forms.{Form}
 
 -- items without code

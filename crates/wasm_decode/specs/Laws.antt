@@ -3,11 +3,7 @@ use Rattle.std.specs.Prelude.{◌≡◌, ℕ}
 use Rattle.module_ast.specs.declared.module.Module.{Module}
 use Rattle.module_ast.specs.declared.module.Limits.{Limits}
 use Rattle.module_ast.specs.declared.module.Which.{Which}
-use Rattle.module_ast.specs.Grammar.{IsFault}
-use Rattle.module_ast.specs.Canonical.{module_bytes, without_customs}
-use Rattle.module_ast.specs.Profile.{IsWithin}
-use Rattle.module_ast.specs.Decoding.{Gram, FileFloats, FileExceeds}
-use Rattle.module_ast.specs.Fits.{Fits}
+use Rattle.module_ast.specs.Binary.{IsFault, module_bytes, without_customs, IsWithin, Gram, FileFloats, FileExceeds, Fits}
 
 -- A decoder that is exact has one answer for the canonical bytes of a module, want of memory aside: the module without its
 -- custom sections, where that is within the limits.

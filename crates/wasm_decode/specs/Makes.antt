@@ -1,6 +1,6 @@
 -- Items of the grammar, of their parts.
 use Rattle.std.specs.Prelude.{ℕ, List}
-use Rattle.module_ast.specs.Grammar.{GlobalTypeNode, GlobalNode, ElementNode, SegmentNode, GroupNode, BodyNode, CodeNode}
+use Rattle.module_ast.specs.Binary.{GlobalTypeNode, GlobalNode, ElementNode, SegmentNode, GroupNode, BodyNode, CodeNode}
 
 abbrev pub global_by : GlobalTypeNode → CodeNode → GlobalNode
 global_by g t = record { ty = g; init = t }

@@ -1,11 +1,9 @@
 // Bodies of functions.
 
 ghost use Rattle.std.specs.Prelude.{◌≡◌, ◌≤◌, ℕ, List, true, map, length, MatchOption, IfOk, IsErrOf};
-ghost use Rattle.module_ast.specs.Decoding.{IsNoBody};
-ghost use Rattle.module_ast.specs.Grammar as grammar;
-ghost use Rattle.module_ast.specs.Grammar.{IsBody, IsSized};
-ghost use Rattle.module_ast.specs.Profile as profile;
-ghost use Rattle.module_ast.specs.Profile.{some_in};
+ghost use Rattle.module_ast.specs.Binary.{IsNoBody, IsBody, IsSized, some_in};
+ghost use Rattle.module_ast.specs.Binary.Grammar as grammar;
+ghost use Rattle.module_ast.specs.Binary.Profile as profile;
 ghost use Rattle.code_decode.specs.Locals.{group_floats};
 ghost use Rattle.wasm_decode.specs.Built.{IsBuilt};
 ghost use Rattle.wasm_decode.specs.Kinds.{body_form};

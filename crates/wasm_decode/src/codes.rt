@@ -2,11 +2,10 @@
 
 ghost use Rattle.std.specs.Prelude.{◌≡◌, ℕ, true, MatchOption, IfOk, IsErrOf};
 ghost use Rattle.leb_binary.specs.Leb.{IsFront, HasNoFront};
-ghost use Rattle.module_ast.specs.Grammar as grammar;
+ghost use Rattle.module_ast.specs.Binary.Grammar as grammar;
 ghost use Rattle.leb_binary.specs.Reading.{IsByte};
-ghost use Rattle.module_ast.specs.Grammar.{AreItems, IsVec, IsGlobal, IsElement, IsSegment};
-ghost use Rattle.module_ast.specs.Profile as profile;
-ghost use Rattle.module_ast.specs.Profile.{is_floating};
+ghost use Rattle.module_ast.specs.Binary.{AreItems, IsVec, IsGlobal, IsElement, IsSegment, is_floating};
+ghost use Rattle.module_ast.specs.Binary.Profile as profile;
 ghost use Rattle.wasm_decode.specs.Built.{IsBuilt};
 ghost use Rattle.wasm_decode.specs.Kinds.{global_form, element_form, segment_form};
 ghost use Rattle.wasm_decode.specs.Parts.{IsPiece};

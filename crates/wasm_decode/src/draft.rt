@@ -1,7 +1,7 @@
 // What was read of a module.
 
 ghost use Rattle.std.specs.Prelude.{◌≡◌, ℕ};
-ghost use Rattle.module_ast.specs.Grammar.{empty_module};
+ghost use Rattle.module_ast.specs.Binary.{empty_module};
 ghost use Rattle.wasm_decode.specs.Drafts.{IsDraft};
 
 use crate::part::Part;

@@ -2,7 +2,7 @@
 
 ghost use Rattle.std.specs.Prelude.{◌≡◌, ◌≢◌, ◌<◌, ◌≤◌, ◌⊎◌, true, false, ℕ, List, ◌++◌, length, IfOk, IfSome, MatchOption, IsErrOf};
 ghost use Rattle.leb_binary.specs.Leb.{IsFront, HasNoFront};
-ghost use Rattle.module_ast.specs.Grammar.{Section, AreItems, AreOrdered, IsSection, header, module_of};
+ghost use Rattle.module_ast.specs.Binary.{Section, AreItems, AreOrdered, IsSection, header, module_of};
 ghost use Rattle.module_ast.specs.declared.module.Which.{Which};
 ghost use Rattle.wasm_decode.specs.Drafts.{IsDraft};
 ghost use Rattle.wasm_decode.specs.Files.{AreBytes, FailsAt};

@@ -2,10 +2,8 @@
 #![tactic(auto)]
 
 ghost use Rattle.std.specs.Prelude.{◌≡◌, ◌≤◌, ℕ, length, IfOk, IsErrOf};
-ghost use Rattle.module_ast.specs.Grammar.{IsFault};
-ghost use Rattle.module_ast.specs.Limits.{IsWhole};
-ghost use Rattle.module_ast.specs.Profile.{IsWithin};
-ghost use Rattle.module_ast.specs.Decoding.{Gram, FileFloats, FileExceeds};
+ghost use Rattle.module_ast.specs.Binary.{IsFault, IsWithin, Gram, FileFloats, FileExceeds};
+ghost use Rattle.module_ast.specs.Validation.{IsWhole};
 ghost use Rattle.module_ast.specs.declared.module.Which.{Which};
 ghost use Rattle.wasm_decode.specs.declared.fault.DecodeFault.{DecodeFault};
 

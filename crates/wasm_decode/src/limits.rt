@@ -1,7 +1,7 @@
 // Which quantities of a module are above their limits.
 
 ghost use Rattle.std.specs.Prelude.{◌≡◌, ◌<◌, ◌≤◌, ◌^◌, ◌++◌, ℕ, List, length, map, MatchOption};
-ghost use Rattle.module_ast.specs.Profile.{AreWithin, IsFirstAbove, IsFirstExceeded, bound_of, limited_counts, most_values, order_of, locals_of};
+ghost use Rattle.module_ast.specs.Binary.{AreWithin, IsFirstAbove, IsFirstExceeded, bound_of, limited_counts, most_values, order_of, locals_of};
 ghost use Rattle.module_ast.specs.declared.module.Body.{Body};
 ghost use Rattle.module_ast.specs.declared.module.Which.{Which};
 ghost use Rattle.wasm_decode.specs.Counts.{AreFew};

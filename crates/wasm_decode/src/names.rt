@@ -2,10 +2,9 @@
 
 ghost use Rattle.std.specs.Prelude.{◌≡◌, true, MatchOption, IfOk, OnErr, IsErrOf};
 ghost use Rattle.leb_binary.specs.Leb.{IsName, IsFront, HasNoFront};
-ghost use Rattle.module_ast.specs.Grammar as grammar;
-ghost use Rattle.module_ast.specs.Grammar.{IsItem, IsImport, IsExport, IsExportKind};
-ghost use Rattle.module_ast.specs.Profile as profile;
-ghost use Rattle.module_ast.specs.Profile.{item_floats};
+ghost use Rattle.module_ast.specs.Binary.Grammar as grammar;
+ghost use Rattle.module_ast.specs.Binary.{IsItem, IsImport, IsExport, IsExportKind, item_floats};
+ghost use Rattle.module_ast.specs.Binary.Profile as profile;
 ghost use Rattle.wasm_decode.specs.Kinds.{import_form, export_form};
 ghost use Rattle.code_decode.proofs.Items.{one_import, one_export};
 

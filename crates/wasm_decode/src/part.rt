@@ -3,7 +3,7 @@
 ghost use Rattle.std.specs.Prelude.{◌≡◌, ℕ, List, [], ◌∷◌, ◌++◌, length, ◌≤◌, Bool, false, Option, None, IfOk, IsErrOf};
 ghost use Rattle.leb_binary.specs.Leb.{IsFront, HasNoFront};
 ghost use Rattle.leb_binary.specs.Fronts.{OneFront};
-ghost use Rattle.module_ast.specs.Grammar.{IsVec};
+ghost use Rattle.module_ast.specs.Binary.{IsVec};
 ghost use Rattle.wasm_decode.specs.Forms.{Form, first_of};
 ghost use Rattle.wasm_decode.specs.Parts.{IsPiece, IsPart};
 

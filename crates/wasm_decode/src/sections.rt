@@ -3,7 +3,7 @@
 ghost use Rattle.std.specs.Prelude.{◌≡◌, ◌≤◌, ℕ, List, length, IfOk, IsErrOf};
 ghost use Rattle.leb_binary.specs.Leb.{IsFront};
 ghost use Rattle.leb_binary.specs.Texts.{Text};
-ghost use Rattle.module_ast.specs.Grammar.{ModuleNode, Section, IsU32, IsVec, IsSized, IsCustom, IsContent, id_of, with_section};
+ghost use Rattle.module_ast.specs.Binary.{ModuleNode, Section, IsU32, IsVec, IsSized, IsCustom, IsContent, id_of, with_section};
 ghost use Rattle.wasm_decode.specs.Drafts.{IsVectorRead, IsDraft};
 
 use crate::bodies::Bodies;

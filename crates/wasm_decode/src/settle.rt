@@ -1,9 +1,8 @@
 // A module of what was read.
 
 ghost use Rattle.std.specs.Prelude.{◌≡◌, ◌≤◌, ℕ, MatchOption, IfOk, IsErrOf};
-ghost use Rattle.module_ast.specs.Grammar as grammar;
-ghost use Rattle.module_ast.specs.Grammar.{Kind, id_of};
-ghost use Rattle.module_ast.specs.Profile.{FloatsFirstIn, IsFirstExceeded, IsWithin, limited_counts, tree_of};
+ghost use Rattle.module_ast.specs.Binary.Grammar as grammar;
+ghost use Rattle.module_ast.specs.Binary.{Kind, id_of, FloatsFirstIn, IsFirstExceeded, IsWithin, limited_counts, tree_of};
 ghost use Rattle.module_ast.specs.declared.module.Which.{Which};
 ghost use Rattle.module_ast.specs.declared.module.Which.TheVariants.{Nesting};
 ghost use Rattle.module_ast.specs.declared.module.Module.{Module};

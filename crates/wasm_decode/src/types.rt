@@ -2,9 +2,8 @@
 
 ghost use Rattle.std.specs.Prelude.{◌≡◌, ℕ, true, MatchOption, IfOk, OnErr, IsErrOf};
 ghost use Rattle.leb_binary.specs.Leb.{IsFront, HasNoFront};
-ghost use Rattle.module_ast.specs.Grammar as grammar;
-ghost use Rattle.module_ast.specs.Grammar.{IsU32, IsFuncType, IsMemoryType, IsTableType, IsMutability, IsGlobalType};
-ghost use Rattle.module_ast.specs.Profile.{is_floating, global_type_node};
+ghost use Rattle.module_ast.specs.Binary.Grammar as grammar;
+ghost use Rattle.module_ast.specs.Binary.{IsU32, IsFuncType, IsMemoryType, IsTableType, IsMutability, IsGlobalType, is_floating, global_type_node};
 ghost use Rattle.module_ast.specs.declared.module.Range.{Range};
 ghost use Rattle.wasm_decode.specs.Kinds.{index_form, range_form, func_type_form};
 ghost use Rattle.code_decode.proofs.Items.{one_u32, one_func_type, one_memory_type, one_table_type};

@@ -3,7 +3,7 @@ use Rattle.std.proofs.Common.{◌≡◌, ◌+◌, ◌≤◌, List, [], ◌∷◌
 use Rattle.leb_binary.specs.Shortest.{unsigned_bytes}
 use Rattle.module_ast.specs.declared.module.Body.{Body}
 use Rattle.module_ast.specs.declared.module.Module.{Module}
-use Rattle.module_ast.specs.Canonical.{vec_section, module_bytes}
+use Rattle.module_ast.specs.Binary.{vec_section, module_bytes}
 use Rattle.wasm_encode.specs.Outline.{front_bytes, back_bytes, entry_bytes, entries_bytes, code_head}
 
 -- the section of code: what stands before its entries, and these

@@ -1,7 +1,7 @@
 -- The bytes of all bodies are among those of the module.
 use Rattle.std.proofs.Common.{◌++◌, ◌<◌, ◌^◌, length, ap, arith, length-append}
 use Rattle.module_ast.specs.declared.module.Module.{Module}
-use Rattle.module_ast.specs.Canonical.{module_bytes}
+use Rattle.module_ast.specs.Binary.{module_bytes}
 use Rattle.wasm_encode.specs.Outline.{front_bytes, back_bytes, entries_bytes, code_head}
 use Rattle.wasm_encode.proofs.Outlines.{in_three}
 

@@ -1,7 +1,7 @@
 -- A section of two runs of entries.
 use Rattle.std.proofs.Common.{◌≡◌, ◌≢◌, ℕ, suc, ◌+◌, List, [], ◌∷◌, ◌++◌, length, refl, ap, sym, ◌∙◌, arith, append_assoc, length-append}
 use Rattle.leb_binary.specs.Shortest.{unsigned_bytes}
-use Rattle.module_ast.specs.Canonical.{items_bytes, vec_bytes, vec_section, sized_bytes}
+use Rattle.module_ast.specs.Binary.{items_bytes, vec_bytes, vec_section, sized_bytes}
 
 -- the entries of two runs
 pub items_joined : {A : Type 0} (f : A → List ℕ) (xs ys : List A) → items_bytes f (xs ++ ys) ≡ items_bytes f xs ++ items_bytes f ys

@@ -2,8 +2,7 @@
 use Rattle.std.proofs.Common.{◌≡◌, ℕ, List, ◌+◌, ◌++◌, length, arith}
 use Rattle.std.proofs.Math.ListN.{length-append}
 use Rattle.module_ast.specs.declared.module.Module.{Module}
-use Rattle.module_ast.specs.Grammar.{header}
-use Rattle.module_ast.specs.Canonical.{sized_bytes, vec_section, func_type_bytes, import_bytes, table_bytes, limits_bytes, global_bytes, export_bytes, start_bytes, element_bytes, body_bytes, segment_bytes, module_bytes}
+use Rattle.module_ast.specs.Binary.{header, sized_bytes, vec_section, func_type_bytes, import_bytes, table_bytes, limits_bytes, global_bytes, export_bytes, start_bytes, element_bytes, body_bytes, segment_bytes, module_bytes}
 use Rattle.leb_binary.specs.Shortest.{unsigned_bytes}
 
 parts_total : (a b c d e f g h i j k l : List ℕ) → length (a ++ b ++ c ++ d ++ e ++ f ++ g ++ h ++ i ++ j ++ k ++ l)

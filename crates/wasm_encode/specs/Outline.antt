@@ -2,8 +2,7 @@
 use Rattle.std.specs.Prelude.{ℕ, zero, suc, ◌+◌, List, [], ◌∷◌, ◌++◌, length}
 use Rattle.module_ast.specs.declared.module.Body.{Body}
 use Rattle.module_ast.specs.declared.module.Module.{Module}
-use Rattle.module_ast.specs.Grammar.{header}
-use Rattle.module_ast.specs.Canonical.{sized_bytes, items_bytes, vec_section, func_type_bytes, import_bytes, table_bytes, limits_bytes, global_bytes, export_bytes, start_bytes, element_bytes, body_bytes, segment_bytes}
+use Rattle.module_ast.specs.Binary.{header, sized_bytes, items_bytes, vec_section, func_type_bytes, import_bytes, table_bytes, limits_bytes, global_bytes, export_bytes, start_bytes, element_bytes, body_bytes, segment_bytes}
 use Rattle.leb_binary.specs.Shortest.{unsigned_bytes}
 
 -- the header and the sections before that of code

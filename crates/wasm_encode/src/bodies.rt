@@ -2,8 +2,7 @@
 
 ghost use Rattle.std.specs.Prelude.{◌≡◌, ◌++◌, ◌<◌, ◌^◌, OnOk, All, length};
 ghost use Rattle.module_ast.specs.declared.module.Body.{Body};
-ghost use Rattle.module_ast.specs.Fits.{FitsCode};
-ghost use Rattle.module_ast.specs.Canonical.{vec_section};
+ghost use Rattle.module_ast.specs.Binary.{FitsCode, vec_section};
 ghost use Rattle.wasm_encode.specs.Outline.{entry_bytes, entries_bytes};
 
 use crate::numbers::put_sized;

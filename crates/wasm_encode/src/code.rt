@@ -2,9 +2,8 @@
 
 ghost use Rattle.std.specs.Prelude.{◌≡◌, [], ◌∷◌, ◌++◌, OnOk};
 ghost use Rattle.leb_binary.specs.Shortest.{unsigned_bytes, signed_bytes};
-ghost use Rattle.module_ast.specs.Tree.{Tree};
-ghost use Rattle.module_ast.specs.Seen.{before};
-ghost use Rattle.module_ast.specs.Canonical.{vec_bytes, mem_arg_bytes, block_type_bytes, code_bytes, expr_bytes};
+ghost use Rattle.module_ast.specs.Structure.{Tree, before};
+ghost use Rattle.module_ast.specs.Binary.{vec_bytes, mem_arg_bytes, block_type_bytes, code_bytes, expr_bytes};
 
 use crate::types::put_block_type;
 use crate::vectors::put_vec;

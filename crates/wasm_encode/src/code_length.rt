@@ -2,11 +2,8 @@
 
 ghost use Rattle.std.specs.Prelude.{◌≡◌, [], ◌∷◌, ◌++◌, ◌+◌, ◌*◌, ◌<◌, ◌≤◌, ◌^◌, All, length};
 ghost use Rattle.leb_binary.specs.Shortest.{unsigned_bytes, signed_bytes};
-ghost use Rattle.module_ast.specs.Tree.{Tree, done};
-ghost use Rattle.module_ast.specs.Seen.{before};
-ghost use Rattle.module_ast.specs.Plains.{IsPlainInstr};
-ghost use Rattle.module_ast.specs.Fits.{FitsIndex, FitsMemArg, FitsCode};
-ghost use Rattle.module_ast.specs.Canonical.{vec_bytes, mem_arg_bytes, code_bytes, expr_bytes};
+ghost use Rattle.module_ast.specs.Structure.{Tree, done, before, IsPlainInstr};
+ghost use Rattle.module_ast.specs.Binary.{FitsIndex, FitsMemArg, FitsCode, vec_bytes, mem_arg_bytes, code_bytes, expr_bytes};
 ghost use Rattle.wasm_encode.specs.Lengths.{most_bytes};
 
 use crate::numbers::index_length;

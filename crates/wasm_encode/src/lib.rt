@@ -4,10 +4,7 @@
 ghost use Rattle.std.specs.Prelude.{◌≡◌, ◌<◌, ◌≤◌, ◌^◌, ℕ, length, All, IfOk, IsErrOf};
 ghost use Rattle.module_ast.specs.declared.module.Body.{Body};
 ghost use Rattle.module_ast.specs.declared.module.Which.TheVariants.{Nesting};
-ghost use Rattle.module_ast.specs.Fits.{Fits};
-ghost use Rattle.module_ast.specs.Grammar.{IsModule};
-ghost use Rattle.module_ast.specs.Profile.{locals_of, limited_counts, AreWithin, tree_of};
-ghost use Rattle.module_ast.specs.Canonical.{module_bytes, without_customs};
+ghost use Rattle.module_ast.specs.Binary.{Fits, IsModule, locals_of, limited_counts, AreWithin, tree_of, module_bytes, without_customs};
 ghost use Rattle.wasm_encode.specs.declared.EncodeFault.TheVariants.{TooLarge, NoMemory};
 
 mod bodies;

@@ -2,8 +2,7 @@
 
 ghost use Rattle.std.specs.Prelude.{◌≡◌, ◌≤◌, ◌<◌, ◌^◌, ◌+◌, ◌++◌, OnOk, All, length};
 ghost use Rattle.leb_binary.specs.Shortest.{unsigned_bytes};
-ghost use Rattle.module_ast.specs.Canonical.{sized_bytes};
-ghost use Rattle.module_ast.specs.Fits.{FitsIndex};
+ghost use Rattle.module_ast.specs.Binary.{sized_bytes, FitsIndex};
 
 use leb_binary::{put_u64, unsigned_length};
 use std::alloc::AllocError;

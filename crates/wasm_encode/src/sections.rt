@@ -1,8 +1,7 @@
 // The entries of the sections (5.5), and the start section.
 
 ghost use Rattle.std.specs.Prelude.{◌≡◌, ◌++◌, ◌<◌, ◌^◌, OnOk, length};
-ghost use Rattle.module_ast.specs.Fits.{FitsCode, FitsOption, FitsImport, FitsGlobal, FitsExport, FitsElement, FitsSegment};
-ghost use Rattle.module_ast.specs.Canonical.{sized_bytes, import_bytes, global_bytes, kind_byte, export_bytes, element_bytes, group_bytes, body_bytes, segment_bytes, start_bytes};
+ghost use Rattle.module_ast.specs.Binary.{FitsCode, FitsOption, FitsImport, FitsGlobal, FitsExport, FitsElement, FitsSegment, sized_bytes, import_bytes, global_bytes, kind_byte, export_bytes, element_bytes, group_bytes, body_bytes, segment_bytes, start_bytes};
 
 use crate::code::put_expr;
 use crate::code_length::expr_length;

@@ -1,8 +1,7 @@
 // The section of tables (5.5.7), whose limits have a byte before them.
 
 ghost use Rattle.std.specs.Prelude.{◌≡◌, ◌++◌, ◌<◌, ◌^◌, OnOk, All, length};
-ghost use Rattle.module_ast.specs.Fits.{FitsRange};
-ghost use Rattle.module_ast.specs.Canonical.{table_bytes, vec_bytes, vec_section};
+ghost use Rattle.module_ast.specs.Binary.{FitsRange, table_bytes, vec_bytes, vec_section};
 
 use crate::numbers::put_sized;
 use crate::types::{put_table, table_length};

@@ -1,8 +1,7 @@
 // Value types, function types, limits and the types of globals (5.3).
 
 ghost use Rattle.std.specs.Prelude.{◌≡◌, ◌++◌, ◌<◌, ◌≤◌, ◌^◌, OnOk, length};
-ghost use Rattle.module_ast.specs.Fits.{FitsBlockType, FitsRange, FitsItem};
-ghost use Rattle.module_ast.specs.Canonical.{val_type_byte, val_type_bytes, block_type_bytes, func_type_bytes, limits_bytes, table_bytes, global_type_bytes, item_bytes};
+ghost use Rattle.module_ast.specs.Binary.{FitsBlockType, FitsRange, FitsItem, val_type_byte, val_type_bytes, block_type_bytes, func_type_bytes, limits_bytes, table_bytes, global_type_bytes, item_bytes};
 
 use crate::numbers::index_length;
 use crate::vectors::{Encode, put_vec, vec_length};

@@ -2,8 +2,7 @@
 
 ghost use Rattle.std.specs.Prelude.{◌≡◌, ◌+◌, ◌++◌, ◌<◌, ◌^◌, ℕ, List, OnOk, All, length};
 ghost use Rattle.leb_binary.specs.Shortest.{unsigned_bytes};
-ghost use Rattle.module_ast.specs.Fits.{FitsIndex};
-ghost use Rattle.module_ast.specs.Canonical.{items_bytes, vec_bytes, vec_section};
+ghost use Rattle.module_ast.specs.Binary.{FitsIndex, items_bytes, vec_bytes, vec_section};
 
 use crate::numbers::{index_length, put_sized};
 use leb_binary::{put_u32, put_u64, unsigned_length};

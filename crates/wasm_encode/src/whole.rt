@@ -2,9 +2,7 @@
 
 ghost use Rattle.std.specs.Prelude.{◌≡◌, ◌<◌, ◌^◌, [], IfOk, All, length};
 ghost use Rattle.module_ast.specs.declared.module.Body.{Body};
-ghost use Rattle.module_ast.specs.Fits.{FitsCode, Fits};
-ghost use Rattle.module_ast.specs.Profile.{locals_of};
-ghost use Rattle.module_ast.specs.Canonical.{module_bytes};
+ghost use Rattle.module_ast.specs.Binary.{FitsCode, Fits, locals_of, module_bytes};
 ghost use Rattle.wasm_encode.specs.Outline.{entries_bytes};
 
 use crate::bodies::{bodies_section_length, put_bodies_section};

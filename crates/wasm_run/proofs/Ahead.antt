@@ -2,13 +2,11 @@
 use Rattle.std.proofs.Common.{◌≡◌, ℕ, zero, suc, ◌+◌, ◌<◌, ◌≤◌, List, [], ◌∷◌, ◌++◌, length, drop, slice_index_or, Option, Some, None, nat_lt, ltb-true, ltb-false, Bool, true, false, cond, ◌==◌, eqb-true, eq-eqb, refl, sym, ap, subst, ◌∙◌, arith, length-append}
 use Rattle.std.proofs.lemmas.List.{length-drop}
 use Rattle.std.proofs.lemmas.Option.{same_Some, none-some}
-use Rattle.wasm_num.specs.declared.Value.{Value}
+use Rattle.wasm_sem.specs.Types.{Value}
 use Rattle.wasm_num.specs.declared.Value.TheVariants.{I32, I64}
-use Rattle.module_ast.specs.Tree.{Tree, done, plain, Plain, br, br_if, br_table, return_, call, call_indirect}
-use Rattle.module_ast.specs.Typing.{push}
-use Rattle.wasm_sem.specs.Events.{outermost, TraceItem}
-use Rattle.wasm_sem.specs.Link.{Instance}
-use Rattle.wasm_sem.specs.Machine.{Label, Frame, Env, Configuration, configuration, Next, reduces, pop_values, branch_with, branch, exit_label, frame_behind, reduce_code, env_after, return_to}
+use Rattle.module_ast.specs.Structure.{Tree, done, plain, Plain, br, br_if, br_table, return_, call, call_indirect}
+use Rattle.module_ast.specs.Validation.{push}
+use Rattle.wasm_sem.specs.Execution.{outermost, TraceItem, Instance, Label, Frame, Env, Configuration, configuration, Next, reduces, pop_values, branch_with, branch, exit_label, frame_behind, reduce_code, env_after, return_to}
 use Rattle.wasm_sem.specs.declared.Answer.TheVariants.{Returned}
 use Rattle.wasm_sem.proofs.Rules.{Jumps, lands, leaves, crosses, unfed, unheld, Branches, by_br, by_br_if, by_table, by_return, Rule, computes, halts, jumps, stays, calls, misses, opens, skips, falls, finishes, enters, rests, lacks, rule_of, by_index, by_slot, frame_before, frame_after}
 use Rattle.run_stack.specs.Calls.{NextIsNoCall}

@@ -2,17 +2,12 @@
 use Rattle.std.proofs.Common.{◌≡◌, ℕ, suc, ◌+◌, ◌<◌, ◌≤◌, ℤ, List, [], ◌∷◌, length, drop, Option, Some, None, All, refl, sym, ap, ap₂, subst, ◌∙◌, arith, slice_get}
 use Rattle.std.proofs.lemmas.Option.{slice_get_within, get_or_from_slice_get}
 use Rattle.std.specs.Prelude.{unwrap_or}
-use Rattle.wasm_num.specs.declared.ValType.{ValType}
-use Rattle.wasm_num.specs.declared.Value.{Value}
-use Rattle.module_ast.specs.declared.module.FuncType.{FuncType}
-use Rattle.module_ast.specs.declared.module.Module.{Module}
-use Rattle.module_ast.specs.Tree.{Tree}
+use Rattle.wasm_sem.specs.Types.{ValType, Value, FuncType, Module}
+use Rattle.module_ast.specs.Structure.{Tree}
 use Rattle.run_store.specs.Held.{Held}
 use Rattle.wasm_sem.specs.declared.HostAnswer.{HostAnswer}
 use Rattle.wasm_sem.specs.declared.Script.{Script}
-use Rattle.wasm_sem.specs.Link.{Callee, IsWriteInRange, host, hook, instance}
-use Rattle.wasm_sem.specs.Machine.{Env, run_of}
-use Rattle.wasm_sem.specs.Store.{Store, zeros, values_of, no_answer, answer_at, writes_done, written_memory, answered_store}
+use Rattle.wasm_sem.specs.Execution.{Callee, IsWriteInRange, host, hook, instance, Env, run_of, Store, zeros, values_of, no_answer, answer_at, writes_done, written_memory, answered_store}
 use Rattle.wasm_run.specs.Answering.{returned_with}
 use Rattle.wasm_run.specs.Beside.{hosts_in, HasMadeHosts}
 use Rattle.run_stack.specs.Flat.{Flat}

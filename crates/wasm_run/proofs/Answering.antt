@@ -1,16 +1,12 @@
 -- A call that is answered at once is a step of the run.
 use Rattle.std.proofs.Common.{◌≡◌, ℕ, ◌+◌, ◌≤◌, List, [], ◌∷◌, length, drop, Option, refl, sym, ap, subst, ◌∙◌, arith}
-use Rattle.wasm_num.specs.declared.ValType.{ValType}
-use Rattle.wasm_num.specs.declared.Value.{Value}
-use Rattle.module_ast.specs.declared.module.Module.{Module}
-use Rattle.module_ast.specs.Tree.{Tree}
-use Rattle.module_ast.specs.Typing.{push}
+use Rattle.wasm_sem.specs.Types.{ValType, Value, Module}
+use Rattle.module_ast.specs.Structure.{Tree}
+use Rattle.module_ast.specs.Validation.{push}
 use Rattle.run_store.specs.Held.{Held}
 use Rattle.wasm_sem.specs.declared.Script.{Script}
 use Rattle.wasm_sem.specs.Heights.{IsConfigurationWithin}
-use Rattle.wasm_sem.specs.Link.{Callee, callee_type, instance}
-use Rattle.wasm_sem.specs.Machine.{Frame, Env, configuration, reduces, with_ops, invoke, after_step, run_of}
-use Rattle.wasm_sem.specs.Store.{zero_of, zeros, values_of}
+use Rattle.wasm_sem.specs.Execution.{Callee, callee_type, instance, Frame, Env, configuration, reduces, with_ops, invoke, after_step, run_of, zero_of, zeros, values_of}
 use Rattle.wasm_sem.proofs.Heights.{stays_within}
 use Rattle.wasm_run.specs.Answering.{returned_with}
 use Rattle.run_stack.specs.Flat.{Flat}

@@ -2,13 +2,9 @@
 use Rattle.std.proofs.Common.{◌≡◌, ℕ, ◌+◌, ◌-◌, ◌≤◌, ℤ, List, [], ◌∷◌, ◌++◌, length, None, Result, Ok, Err, sym, ap, subst, ◌∙◌, arith, append_assoc, length-append}
 use Rattle.std.specs.Prelude.{reverse, OnOk}
 use Rattle.std.proofs.lemmas.List.{reverse-append}
-use Rattle.wasm_num.specs.declared.ValType.{ValType}
-use Rattle.wasm_num.specs.declared.Value.{Value}
-use Rattle.module_ast.specs.declared.module.Body.{Body}
-use Rattle.module_ast.specs.declared.module.FuncType.{FuncType}
-use Rattle.module_ast.specs.Typing.{push}
-use Rattle.module_ast.specs.Validity.{declared_locals}
-use Rattle.wasm_sem.specs.Store.{values_of, zeros}
+use Rattle.wasm_sem.specs.Types.{ValType, Value, Body, FuncType}
+use Rattle.module_ast.specs.Validation.{push, declared_locals}
+use Rattle.wasm_sem.specs.Execution.{values_of, zeros}
 use Rattle.wasm_run.specs.Entering.{StandsAlone}
 use Rattle.run_stack.specs.Flat.{Spot, Base, Flat, Enters}
 use Rattle.wasm_run.proofs.Answered.{values_count}

@@ -1,11 +1,9 @@
 -- A step that calls no function changes nothing beside frames, memory and globals, but where the last frame is left.
 use Rattle.std.proofs.Common.{List, [], ◌∷◌, refl}
-use Rattle.wasm_num.specs.declared.Value.{Value}
-use Rattle.wasm_sem.specs.Store.{Store}
+use Rattle.wasm_sem.specs.Types.{Value}
+use Rattle.wasm_sem.specs.Execution.{Store, Instance, Frame, Env, Phase, starting, calling, over, configuration, Next, reduces, env_after, return_to, reduce_code}
 use Rattle.wasm_sem.specs.declared.Answer.{Answer}
 use Rattle.wasm_sem.specs.declared.Answer.TheVariants.{Returned}
-use Rattle.wasm_sem.specs.Link.{Instance}
-use Rattle.wasm_sem.specs.Machine.{Frame, Env, Phase, starting, calling, over, configuration, Next, reduces, env_after, return_to, reduce_code}
 use Rattle.wasm_sem.specs.Rules.{HasSameRest}
 use Rattle.wasm_run.specs.Beside.{GoesOnBeside}
 use Rattle.run_stack.specs.Calls.{NextIsNoCall}

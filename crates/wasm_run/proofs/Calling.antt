@@ -1,19 +1,14 @@
 -- A call of a function of the module is a step of the run.
 use Rattle.std.proofs.Common.{◌≡◌, ℕ, ◌+◌, List, [], ◌∷◌, length, Option, Some, None, Bool, true, false, cond, nat_lt, refl, sym, subst}
-use Rattle.wasm_num.specs.declared.Value.{Value}
-use Rattle.module_ast.specs.declared.module.Body.{Body}
-use Rattle.module_ast.specs.declared.module.FuncType.{FuncType}
-use Rattle.module_ast.specs.declared.module.Module.{Module}
-use Rattle.module_ast.specs.Tree.{Tree}
-use Rattle.module_ast.specs.Validity.{declared_locals}
+use Rattle.wasm_sem.specs.Types.{Value, Body, FuncType, Module}
+use Rattle.module_ast.specs.Structure.{Tree}
+use Rattle.module_ast.specs.Validation.{declared_locals}
 use Rattle.run_store.specs.Held.{Held}
 use Rattle.wasm_sem.specs.declared.Answer.TheVariants.{Trapped}
 use Rattle.wasm_sem.specs.declared.Script.{Script}
 use Rattle.wasm_sem.specs.declared.Trap.{Trap}
 use Rattle.wasm_sem.specs.declared.Trap.TheVariants.{Depth}
-use Rattle.wasm_sem.specs.Link.{own, Instance, instance}
-use Rattle.wasm_sem.specs.Machine.{Frame, Env, Configuration, configuration, Next, reduces, traps, with_ops, new_frame, env_after, after_step, run_of}
-use Rattle.wasm_sem.specs.Store.{zeros}
+use Rattle.wasm_sem.specs.Execution.{own, Instance, instance, Frame, Env, Configuration, configuration, Next, reduces, traps, with_ops, new_frame, env_after, after_step, run_of, zeros}
 use Rattle.run_stack.specs.Flat.{Flat, Enters}
 use Rattle.wasm_run.specs.Entering.{IsCalling, entered_next, HasEntered}
 use Rattle.wasm_run.specs.Moves.{RunsOn, EndsWith}

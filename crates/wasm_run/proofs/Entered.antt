@@ -1,27 +1,18 @@
 -- The start, or a call of the script, is entered: a step of the run.
 use Rattle.std.proofs.Common.{◌≡◌, ℕ, ◌+◌, ◌≤◌, ℤ, List, [], ◌∷◌, ◌++◌, length, Some, None, true, false, cond, refl, sym, ap, subst, ◌∙◌, arith, slice_get}
 use Rattle.std.proofs.lemmas.Bool.{lt-ltb}
-use Rattle.wasm_num.specs.declared.ValType.{ValType}
-use Rattle.wasm_num.specs.declared.Value.{Value}
-use Rattle.module_ast.specs.declared.module.Body.{Body}
-use Rattle.module_ast.specs.declared.module.FuncType.{FuncType}
-use Rattle.module_ast.specs.declared.module.Module.{Module}
-use Rattle.module_ast.specs.Marks.{height}
-use Rattle.module_ast.specs.Positions.{code_nesting}
-use Rattle.module_ast.specs.Tree.{Tree}
-use Rattle.module_ast.specs.Validity.{declared_locals}
+use Rattle.wasm_sem.specs.Types.{ValType, Value, Body, FuncType, Module}
+use Rattle.module_ast.specs.Places.{height, code_nesting}
+use Rattle.module_ast.specs.Structure.{Tree}
+use Rattle.module_ast.specs.Validation.{declared_locals}
 use Rattle.run_store.specs.Held.{Held}
 use Rattle.wasm_sem.specs.declared.Answer.{Answer}
 use Rattle.wasm_sem.specs.declared.Answer.TheVariants.{Returned}
 use Rattle.wasm_sem.specs.declared.HostAnswer.{HostAnswer}
 use Rattle.wasm_sem.specs.declared.Script.{Script}
 use Rattle.wasm_sem.specs.declared.Trap.TheVariants.{Depth}
-use Rattle.wasm_sem.specs.Answers.{hook_in}
+use Rattle.wasm_sem.specs.Execution.{hook_in, Callee, host, hook, own, callee_type, callees_of, is_hook_function, Instance, instance, Frame, Env, Phase, starting, calling, over, Configuration, configuration, reduces, traps, new_frame, env_after, invoke, after_step, run_of, Store, zeros, values_of, answer_at, writes_done, written_memory, answered_store, told_items, items}
 use Rattle.wasm_sem.specs.Heights.{function_context}
-use Rattle.wasm_sem.specs.Link.{Callee, host, hook, own, callee_type, callees_of, is_hook_function, Instance, instance}
-use Rattle.wasm_sem.specs.Machine.{Frame, Env, Phase, starting, calling, over, Configuration, configuration, reduces, traps, new_frame, env_after, invoke, after_step, run_of}
-use Rattle.wasm_sem.specs.Store.{Store, zeros, values_of, answer_at, writes_done, written_memory, answered_store}
-use Rattle.wasm_sem.specs.Trace.{told_items, items}
 use Rattle.wasm_sem.proofs.Straight.{some_is}
 use Rattle.wasm_run.specs.Beside.{hosts_in, HasMadeHosts}
 use Rattle.wasm_run.specs.Entering.{StandsAlone}

@@ -2,18 +2,13 @@
 use Rattle.std.proofs.Common.{◌≡◌, ℕ, suc, ◌+◌, ◌-◌, ◌<◌, ◌≤◌, List, [], ◌∷◌, ◌++◌, length, Some, None, refl, sym, ap, subst, ◌∙◌, arith, append_assoc, length-append}
 use Rattle.std.specs.Prelude.{reverse, Bool, cond}
 use Rattle.std.proofs.lemmas.Bool.{lt-ltb, le-ltb}
-use Rattle.module_ast.specs.declared.module.Body.{Body}
-use Rattle.module_ast.specs.Validity.{declared_locals}
+use Rattle.wasm_sem.specs.Types.{Body, Value, ValType, FuncType}
+use Rattle.module_ast.specs.Validation.{declared_locals}
 use Rattle.wasm_sem.specs.declared.Trap.TheVariants.{Depth}
-use Rattle.wasm_sem.specs.Link.{Instance}
+use Rattle.wasm_sem.specs.Execution.{Instance, zeros, Frame, Env, configuration, Next, reduces, traps, pop_values, with_ops, new_frame}
 use Rattle.wasm_run.specs.Entering.{IsCalling, entered_next, HasEntered}
 use Rattle.std.proofs.lemmas.List.{reverse-append, length-reverse}
-use Rattle.wasm_num.specs.declared.Value.{Value}
-use Rattle.wasm_num.specs.declared.ValType.{ValType}
-use Rattle.module_ast.specs.declared.module.FuncType.{FuncType}
-use Rattle.module_ast.specs.Tree.{Tree}
-use Rattle.wasm_sem.specs.Store.{zeros}
-use Rattle.wasm_sem.specs.Machine.{Frame, Env, configuration, Next, reduces, traps, pop_values, with_ops, new_frame}
+use Rattle.module_ast.specs.Structure.{Tree}
 use Rattle.run_stack.specs.Flat.{Flat, Enters}
 use Rattle.run_stack.specs.Kept.{under, all_values, all_spots, all_bases, Lies}
 use Rattle.run_stack.proofs.Popped.{Parts, parts}

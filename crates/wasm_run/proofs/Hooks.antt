@@ -5,19 +5,13 @@ use Rattle.std.specs.Prelude.{reverse, OnErr}
 use Rattle.std.proofs.lemmas.List.{length-reverse}
 use Rattle.std.proofs.lemmas.Bool.{or_right, false≢true}
 use Rattle.std.proofs.lemmas.Option.{none-some, same_Some}
-use Rattle.wasm_num.specs.declared.Value.{Value}
-use Rattle.module_ast.specs.declared.module.FuncType.{FuncType}
-use Rattle.module_ast.specs.declared.module.Module.{Module}
-use Rattle.module_ast.specs.Tree.{Tree, plain, Plain, call, call_indirect}
-use Rattle.module_ast.specs.Typing.{push}
+use Rattle.wasm_sem.specs.Types.{Value, FuncType, Module}
+use Rattle.module_ast.specs.Structure.{Tree, plain, Plain, call, call_indirect}
+use Rattle.module_ast.specs.Validation.{push}
 use Rattle.run_store.specs.Held.{Held}
 use Rattle.wasm_sem.specs.declared.HookCall.{HookCall}
 use Rattle.wasm_sem.specs.declared.Script.{Script}
-use Rattle.wasm_sem.specs.Answers.{hook_in}
-use Rattle.wasm_sem.specs.Events.{TraceItem, event, entry, host_call, hook_call, shown_items}
-use Rattle.wasm_sem.specs.Link.{Callee, host, hook, own, callee_type, callees_of, is_hook_function, some_hook, Instance, instance}
-use Rattle.wasm_sem.specs.Machine.{Frame, Env, Configuration, configuration, pop_values, run_of}
-use Rattle.wasm_sem.specs.Trace.{told_invoke, told_code, told_items, items_by, items}
+use Rattle.wasm_sem.specs.Execution.{hook_in, TraceItem, event, entry, host_call, hook_call, shown_items, Callee, host, hook, own, callee_type, callees_of, is_hook_function, some_hook, Instance, instance, Frame, Env, Configuration, configuration, pop_values, run_of, told_invoke, told_code, told_items, items_by, items}
 use Rattle.wasm_sem.proofs.AllChosen.{HaveGroups, step_has}
 use Rattle.wasm_sem.proofs.Runs.{pop_push}
 use Rattle.run_stack.specs.Below.{IsBelow}

@@ -1,17 +1,13 @@
 -- How many host calls a run has made, step by step.
 use Rattle.std.proofs.Common.{◌≡◌, ℕ, ◌+◌, List, [], ◌∷◌, length, Option, Bool, true, false, cond, nat_lt, refl, sym, ap, subst, ◌∙◌, arith}
-use Rattle.wasm_num.specs.declared.Value.{Value}
-use Rattle.module_ast.specs.declared.module.Module.{Module}
-use Rattle.module_ast.specs.declared.module.FuncType.{FuncType}
-use Rattle.module_ast.specs.Tree.{Tree}
-use Rattle.wasm_num.specs.declared.ValType.{ValType}
+use Rattle.wasm_sem.specs.Types.{Value, Module, FuncType, ValType}
+use Rattle.module_ast.specs.Structure.{Tree}
 use Rattle.run_store.specs.Held.{Held}
 use Rattle.wasm_sem.specs.declared.Answer.TheVariants.{Trapped}
 use Rattle.wasm_sem.specs.declared.Script.{Script}
 use Rattle.wasm_sem.specs.declared.Trap.{Trap}
 use Rattle.wasm_sem.specs.declared.Trap.TheVariants.{Depth}
-use Rattle.wasm_sem.specs.Link.{own, Instance, instance}
-use Rattle.wasm_sem.specs.Machine.{Frame, Env, Configuration, configuration, Next, reduces, traps, ends, stuck, with_ops, frame_behind, step, after_step, run_of}
+use Rattle.wasm_sem.specs.Execution.{own, Instance, instance, Frame, Env, Configuration, configuration, Next, reduces, traps, ends, stuck, with_ops, frame_behind, step, after_step, run_of}
 use Rattle.wasm_run.specs.Beside.{hosts_in, HasMadeHosts}
 use Rattle.run_stack.specs.Calls.{NextIsNoCall}
 use Rattle.run_stack.specs.Flat.{Flat, first_rest}

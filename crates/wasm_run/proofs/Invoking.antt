@@ -3,15 +3,12 @@ use Rattle.std.proofs.Common.{◌≡◌, ◌≢◌, ℕ, ◌+◌, ◌<◌, ◌�
 use Rattle.std.proofs.Math.Seq.{drop-append_seam}
 use Rattle.std.specs.Prelude.{reverse, slice_get}
 use Rattle.std.proofs.lemmas.List.{length-reverse}
-use Rattle.wasm_num.specs.declared.Value.{Value}
-use Rattle.module_ast.specs.declared.module.Module.{Module}
-use Rattle.module_ast.specs.Tree.{Tree}
+use Rattle.wasm_sem.specs.Types.{Value, Module}
+use Rattle.module_ast.specs.Structure.{Tree}
 use Rattle.run_store.specs.Held.{Held}
 use Rattle.wasm_sem.specs.declared.Script.{Script}
 use Rattle.wasm_sem.specs.Heights.{IsConfigurationWithin}
-use Rattle.wasm_sem.specs.Link.{Callee, callee_type, callees_of, Instance, instance}
-use Rattle.wasm_sem.specs.Machine.{Frame, Env, Configuration, configuration, stuck, pop_values, with_ops, invoke, call_popped, frame_behind, step, run_of}
-use Rattle.wasm_sem.specs.Trace.{told_invoke, told_popped, told_code}
+use Rattle.wasm_sem.specs.Execution.{Callee, callee_type, callees_of, Instance, instance, Frame, Env, Configuration, configuration, stuck, pop_values, with_ops, invoke, call_popped, frame_behind, step, run_of, told_invoke, told_popped, told_code}
 use Rattle.wasm_sem.proofs.Sound.{never_lacks}
 use Rattle.wasm_sem.proofs.Heights.{stays_within}
 use Rattle.run_stack.specs.Flat.{Spot, Flat, moved_spots, first_rest, HasMoreRoom}

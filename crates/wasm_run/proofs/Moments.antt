@@ -2,8 +2,7 @@
 use Rattle.std.proofs.Common.{◌≡◌, ℕ, ◌+◌, ◌<◌, ◌≤◌, List, [], ◌∷◌, inl, inr, Option, Some, None, Result, Ok, Err, refl, sym, ap, subst, ◌∙◌, ne_eqb, arith}
 use Rattle.std.specs.declared.alloc.AllocError.{AllocError}
 use Rattle.std.specs.Prelude.{IsErr, not, ◌==◌, length}
-use Rattle.wasm_num.specs.declared.Value.{Value}
-use Rattle.module_ast.specs.declared.module.Module.{Module}
+use Rattle.wasm_sem.specs.Types.{Value, Module}
 use Rattle.module_ast.specs.Memory.{pages}
 use Rattle.run_store.specs.Held.{Held}
 use Rattle.wasm_run.specs.Beside.{pages_in}
@@ -11,8 +10,7 @@ use Rattle.wasm_sem.specs.declared.Answer.{Answer}
 use Rattle.wasm_sem.specs.declared.Answer.TheVariants.{Returned, Trapped, Unfinished}
 use Rattle.wasm_sem.specs.declared.Script.{Script}
 use Rattle.wasm_sem.specs.declared.Trap.{Trap}
-use Rattle.wasm_sem.specs.Link.{Instance, instance}
-use Rattle.wasm_sem.specs.Machine.{Frame, Phase, starting, calling, over, Env, Configuration, configuration, Next, reduces, traps, env_after, step, after_step, run_of}
+use Rattle.wasm_sem.specs.Execution.{Instance, instance, Frame, Phase, starting, calling, over, Env, Configuration, configuration, Next, reduces, traps, env_after, step, after_step, run_of}
 use Rattle.wasm_run.proofs.Following.{NextFollows, step_follows}
 use Rattle.run_stack.specs.Flat.{Flat, first_base, first_rest, lowest_arity}
 use Rattle.run_stack.specs.Standing.{IsStanding, KeepsStore, Went, Trapped as HasTrapped}
@@ -22,7 +20,7 @@ use Rattle.run_stack.specs.Below.{IsBelow, IsAnswerOf}
 use Rattle.run_stack.specs.Calls.{NextIsNoCall}
 use Rattle.run_stack.specs.Leaving.{HasNumber, LeavesFrom, LeavesLast}
 use Rattle.wasm_run.specs.Moves.{RunsOn, EndsWith, MovesBy, CallsOrGrows, MayWant, MakesStep}
-use Rattle.module_ast.specs.Tree.{Tree}
+use Rattle.module_ast.specs.Structure.{Tree}
 use Rattle.wasm_run.specs.Running.{HoldsIf, Run, configuration_of, KeepsConfiguration, IsRunning, IsInside, Innermost}
 use Rattle.wasm_run.proofs.Beside.{NextGoesOn, step_goes_on}
 use Rattle.run_stack.proofs.Lying.{labels_are}
@@ -32,7 +30,7 @@ use Rattle.run_stack.proofs.Pushed.{push_length, pushed_same}
 use Rattle.wasm_sem.specs.Typed.{IsPhaseTyped}
 use Rattle.wasm_sem.proofs.Live.{IsLive, IsStateLive}
 use Rattle.wasm_sem.proofs.LiveSteps.{always_live}
-use Rattle.module_ast.specs.Typing.{push}
+use Rattle.module_ast.specs.Validation.{push}
 use Rattle.run_stack.specs.declared.steps.Did.{Did}
 use Rattle.run_stack.specs.declared.steps.Did.TheVariants as dids
 use Rattle.wasm_run.proofs.Rooms.{follows_room, next_state, standing_at}

@@ -6,8 +6,8 @@ use Rattle.std.specs.Cmp.Lexicographic.{slice_cmp}
 use Rattle.std.specs.BTreeMap.{BTreeMap, UpdatesBy}
 use Rattle.std.specs.Borrow.{Bor}
 use Rattle.std.proofs.lemmas.Map.Text.{btree_map_updates_str}
-use Rattle.module_ast.specs.declared.module.Export.{Export}
-use Rattle.wasm_sem.specs.Link.{is_func, exported_func}
+use Rattle.wasm_sem.specs.Types.{Export}
+use Rattle.wasm_sem.specs.Execution.{is_func, exported_func}
 use Rattle.wasm_run.specs.Exported.{HasExports}
 
 -- the map has those that stand behind what is left of them

@@ -4,16 +4,10 @@ use Rattle.std.specs.Prelude.{option_map, is_some, Bool, true}
 use Rattle.std.proofs.lemmas.Bool.{false≢true}
 use Rattle.std.proofs.lemmas.List.{length-map}
 use Rattle.std.proofs.lemmas.Option.{none-some, same_Some, slice_get-map, slice_get_within}
-use Rattle.wasm_num.specs.declared.ValType.{ValType}
-use Rattle.wasm_num.specs.declared.Value.{Value}
-use Rattle.module_ast.specs.declared.module.Module.{Module}
+use Rattle.wasm_sem.specs.Types.{ValType, Value, Module}
 use Rattle.wasm_sem.specs.declared.Call.{Call}
 use Rattle.wasm_sem.specs.declared.Script.{Script}
-use Rattle.wasm_sem.specs.Events.{entry}
-use Rattle.wasm_sem.specs.Link.{Callee, callee_type, callees_of, func_at, exported_func, Entry, entry_with, entry_to, entry_of, Instance, instance, no_export, call_refusal, calls_refusal}
-use Rattle.wasm_sem.specs.Machine.{Frame, Env, is_last, Configuration, configuration, Phase, starting, calling, over, invoke, enter_callee, enter_entry, start_entry, call_entry, enter_phase, is_over, run_of}
-use Rattle.wasm_sem.specs.Store.{values_of}
-use Rattle.wasm_sem.specs.Trace.{told_invoke, told_callee, told_begun, told_begins}
+use Rattle.wasm_sem.specs.Execution.{entry, Callee, callee_type, callees_of, func_at, exported_func, Entry, entry_with, entry_to, entry_of, Instance, instance, no_export, call_refusal, calls_refusal, Frame, Env, is_last, Configuration, configuration, Phase, starting, calling, over, invoke, enter_callee, enter_entry, start_entry, call_entry, enter_phase, is_over, run_of, values_of, told_invoke, told_callee, told_begun, told_begins}
 use Rattle.wasm_sem.specs.Typed.{HaveTypes, IsPhaseTyped, IsConfigurationTyped}
 use Rattle.wasm_sem.proofs.SoundEntries.{no_refusal, start_enters, call_enters}
 use Rattle.wasm_sem.proofs.Sound.{always_typed}

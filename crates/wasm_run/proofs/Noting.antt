@@ -1,26 +1,16 @@
 -- What a step adds to the entries and the host calls of a trace, and the note of it.
 use Rattle.std.proofs.Common.{◌≡◌, ℕ, suc, ◌+◌, ℤ, List, length, [], ◌∷◌, ◌++◌, Option, Some, None, Bool, true, false, refl, sym, ap, ap₂, subst, ◌∙◌, arith}
-use Rattle.wasm_num.specs.declared.ValType.{ValType}
-use Rattle.wasm_num.specs.declared.Value.{Value}
-use Rattle.module_ast.specs.declared.module.FuncType.{FuncType}
-use Rattle.module_ast.specs.declared.module.Module.{Module}
+use Rattle.wasm_sem.specs.Types.{ValType, Value, FuncType, Module, Event, GroupName}
 use Rattle.module_ast.specs.Lists.{when}
-use Rattle.module_ast.specs.Positions.{function_scope}
-use Rattle.module_ast.specs.Start.{is_start}
-use Rattle.module_ast.specs.Tree.{Tree, plain}
-use Rattle.hook_select.specs.declared.Event.{Event}
-use Rattle.hook_select.specs.declared.GroupName.{GroupName}
+use Rattle.module_ast.specs.Places.{function_scope}
+use Rattle.module_ast.specs.Structure.{is_start, Tree, plain}
 use Rattle.hook_select.specs.Events.{group_of}
 use Rattle.run_store.specs.Held.{Held}
 use Rattle.wasm_sem.specs.declared.Answer.TheVariants.{Returned}
 use Rattle.wasm_sem.specs.declared.HostAnswer.{HostAnswer}
 use Rattle.wasm_sem.specs.declared.Script.{Script}
-use Rattle.wasm_sem.specs.Events.{TraceItem, entry, event, host_call, host_item}
-use Rattle.wasm_sem.specs.Link.{Callee, host, hook, own, callee_type, Instance, instance}
-use Rattle.wasm_sem.specs.Machine.{Frame, Env, Configuration, configuration, Next, return_to, after_step, run_of}
+use Rattle.wasm_sem.specs.Execution.{TraceItem, entry, event, host_call, host_item, Callee, host, hook, own, callee_type, Instance, instance, Frame, Env, Configuration, configuration, Next, return_to, after_step, run_of, values_of, answer_at, writes_done, told_invoke, told_items, items_by, items, has_group}
 use Rattle.wasm_sem.specs.Rules.{next_answer, answered_env, answered_values, frame_before, frame_after}
-use Rattle.wasm_sem.specs.Store.{values_of, answer_at, writes_done}
-use Rattle.wasm_sem.specs.Trace.{told_invoke, told_items, items_by, items, has_group}
 use Rattle.wasm_sem.proofs.Rules.{AreEvents, no_more, an_event, only_quiet, quiet_events, post_events, jump_events, begin_events, Invokes, begins, too_deep, replies, hears, Rule, computes, halts, jumps, stays, calls, misses, opens, skips, falls, finishes, enters, rests, lacks, rule_of}
 use Rattle.wasm_run.specs.declared.note.Entry.{Entry}
 use Rattle.wasm_run.specs.declared.note.HostNote.{HostNote}

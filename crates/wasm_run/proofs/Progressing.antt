@@ -2,14 +2,11 @@
 use Rattle.std.proofs.Common.{◌≡◌, ℕ, ◌+◌, ◌<◌, ◌≤◌, inl, inr, List, [], ◌∷◌, ◌++◌, length, Option, Some, None, Result, Ok, Err, Bool, true, false, refl, sym, ap, subst, ◌∙◌, arith, vec_capacity}
 use Rattle.std.specs.Prelude.{IsErr}
 use Rattle.std.specs.declared.alloc.AllocError.{AllocError}
-use Rattle.module_ast.specs.declared.module.Module.{Module}
+use Rattle.wasm_sem.specs.Types.{Module}
 use Rattle.wasm_sem.specs.declared.Answer.{Answer}
 use Rattle.wasm_sem.specs.declared.HookCall.{HookCall}
 use Rattle.wasm_sem.specs.declared.Turn.{Turn}
-use Rattle.wasm_sem.specs.Answers.{hook_in, turn_by}
-use Rattle.wasm_sem.specs.Link.{Instance, instance}
-use Rattle.wasm_sem.specs.Machine.{Env, first_phase, run_of, after_start, call_from, env_after, is_over}
-use Rattle.wasm_sem.specs.Trace.{items}
+use Rattle.wasm_sem.specs.Execution.{hook_in, turn_by, Instance, instance, Env, first_phase, run_of, after_start, call_from, env_after, is_over, items}
 use Rattle.wasm_run.specs.declared.progress.Progress.{Progress}
 use Rattle.wasm_run.specs.declared.progress.Stage.{Stage}
 use Rattle.wasm_run.specs.declared.progress.Stage.TheVariants as stages

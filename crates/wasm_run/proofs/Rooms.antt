@@ -2,22 +2,15 @@
 use Rattle.std.proofs.Common.{◌≡◌, ◌≢◌, ℕ, suc, ◌+◌, ◌≤◌, List, [], ◌∷◌, ◌++◌, length, refl, sym, ap, subst, ◌∙◌, arith, length-append}
 use Rattle.std.specs.Prelude.{reverse, Some, slice_get}
 use Rattle.std.proofs.lemmas.List.{length-reverse}
-use Rattle.wasm_num.specs.declared.ValType.{ValType}
-use Rattle.wasm_num.specs.declared.Value.{Value}
-use Rattle.module_ast.specs.declared.module.FuncType.{FuncType}
-use Rattle.module_ast.specs.Marks.{height}
-use Rattle.module_ast.specs.Positions.{code_nesting}
-use Rattle.wasm_sem.specs.Store.{zeros}
+use Rattle.wasm_sem.specs.Types.{ValType, Value, FuncType, Module}
+use Rattle.module_ast.specs.Places.{height, code_nesting}
+use Rattle.wasm_sem.specs.Execution.{zeros, Callee, host, hook, own, Instance, instance, callees_of, IsScriptInRange, Links, Label, Frame, Env, Configuration, configuration, Next, reduces, stuck, pop_values, with_ops, new_frame, step, after_step, run, run_of, opening_configuration}
 use Rattle.wasm_sem.proofs.Straight.{some_is}
 use Rattle.wasm_run.proofs.Entering.{size, count}
-use Rattle.module_ast.specs.declared.module.Module.{Module}
-use Rattle.module_ast.specs.Tree.{Tree, plain, call, call_indirect}
-use Rattle.module_ast.specs.Validity.{IsValid}
+use Rattle.module_ast.specs.Structure.{Tree, plain, call, call_indirect}
+use Rattle.module_ast.specs.Validation.{IsValid, IsComplete}
 use Rattle.run_store.specs.Held.{Held}
 use Rattle.wasm_sem.specs.declared.Script.{Script}
-use Rattle.wasm_sem.specs.Link.{Callee, host, hook, own, Instance, instance, callees_of, IsScriptInRange, Links}
-use Rattle.wasm_sem.specs.Machine.{Label, Frame, Env, Configuration, configuration, Next, reduces, stuck, pop_values, with_ops, new_frame, step, after_step, run, run_of, opening_configuration}
-use Rattle.module_ast.specs.Limits.{IsComplete}
 use Rattle.run_stack.specs.Calls.{NextIsNoCall}
 use Rattle.wasm_sem.specs.Heights.{function_context, operands_on, AreFramesWithin, IsConfigurationWithin}
 use Rattle.wasm_sem.proofs.Runs.{run_add}

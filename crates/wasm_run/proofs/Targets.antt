@@ -1,26 +1,18 @@
 -- Where a call leads: the function of a direct call, the slot of one through the table, and what is told of a call of a hook.
 use Rattle.std.proofs.Common.{inl, ◌≡◌, ◌≢◌, ℕ, ◌-◌, ◌<◌, ◌≤◌, List, [], ◌∷◌, ◌++◌, length, take, drop, slice_index_or, Option, Some, None, Bool, true, false, cond, ◌&&◌, refl, sym, ap, ap₂, subst, ◌∙◌, arith, slice_get}
 use Rattle.std.proofs.lemmas.Option.{slice_get_within, same_Some}
-use Rattle.wasm_num.specs.declared.ValType.{ValType}
-use Rattle.wasm_num.specs.declared.Value.{Value}
+use Rattle.wasm_sem.specs.Types.{ValType, Value, FuncType, Module, Instr}
 use Rattle.wasm_num.specs.declared.Value.TheVariants.{I32, I64}
-use Rattle.module_ast.specs.declared.module.FuncType.{FuncType}
-use Rattle.module_ast.specs.declared.module.Module.{Module}
-use Rattle.module_ast.specs.declared.code.Instr.{Instr}
 use Rattle.module_ast.specs.declared.code.Instr.TheVariants as instrs
-use Rattle.module_ast.specs.Seen.{before, code_of}
+use Rattle.module_ast.specs.Structure.{before, code_of, Tree, plain, call, call_indirect}
 use Rattle.std.proofs.lemmas.List.{take_all}
 use Rattle.wasm_run.specs.Moves.{CallsOrGrows, MayWant}
-use Rattle.module_ast.specs.Tree.{Tree, plain, call, call_indirect}
 use Rattle.run_stack.specs.Calls.{NextIsNoCall}
 use Rattle.run_store.specs.Held.{Held}
 use Rattle.wasm_sem.specs.declared.Script.{Script}
 use Rattle.wasm_sem.specs.declared.Trap.TheVariants.{NoSlot, EmptySlot, WrongType}
 use Rattle.wasm_sem.specs.Laws.{slots_in}
-use Rattle.wasm_sem.specs.Link.{Callee, callee_type, callees_of, Instance, instance}
-use Rattle.wasm_sem.specs.Machine.{Frame, Env, Configuration, configuration, Next, traps, stuck, pop_values, with_ops, invoke, call_popped, call_func, same_func_type, have_same_types, same_type, call_typed, call_slot, call_through, frame_behind, reduce_plain, reduce_code, step, run_of}
-use Rattle.wasm_sem.specs.Trace.{told_popped, told_call, told_matched, told_typed, told_slot, told_indirect, told_code, told_items}
-use Rattle.wasm_sem.specs.Events.{in_slot}
+use Rattle.wasm_sem.specs.Execution.{Callee, callee_type, callees_of, Instance, instance, Frame, Env, Configuration, configuration, Next, traps, stuck, pop_values, with_ops, invoke, call_popped, call_func, same_func_type, have_same_types, same_type, call_typed, call_slot, call_through, frame_behind, reduce_plain, reduce_code, step, run_of, told_popped, told_call, told_matched, told_typed, told_slot, told_indirect, told_code, told_items, in_slot}
 use Rattle.wasm_sem.proofs.Sound.{never_lacks}
 use Rattle.run_stack.specs.Flat.{Flat}
 use Rattle.run_stack.specs.Kept.{under, Lies}

@@ -1,11 +1,8 @@
 -- A step that calls no function, from a frame: where it leads, and what it leaves as it was.
 use Rattle.std.proofs.Common.{◌≡◌, ℕ, List, [], ◌∷◌, Some, refl}
-use Rattle.wasm_num.specs.declared.Value.{Value}
+use Rattle.wasm_sem.specs.Types.{Value}
 use Rattle.wasm_sem.specs.declared.Trap.{Trap}
-use Rattle.wasm_sem.specs.Store.{Store}
-use Rattle.wasm_sem.specs.Link.{Instance}
-use Rattle.wasm_sem.specs.Machine.{Label, Frame, Env, Configuration, configuration, Next, reduces, traps, stuck, pop_values, return_to, reduce_code}
-use Rattle.wasm_sem.specs.Events.{TraceItem, outermost}
+use Rattle.wasm_sem.specs.Execution.{Store, Instance, Label, Frame, Env, Configuration, configuration, Next, reduces, traps, stuck, pop_values, return_to, reduce_code, TraceItem, outermost}
 use Rattle.wasm_sem.proofs.Rules.{Jumps, lands, leaves, crosses, unfed, unheld, by_index, by_slot, Rule, computes, halts, jumps, stays, calls, misses, opens, skips, falls, finishes, enters, rests, lacks, rule_of}
 use Rattle.run_stack.specs.Calls.{NextIsNoCall}
 use Rattle.wasm_sem.specs.Rules.{HasSameRest}

@@ -1,11 +1,10 @@
 -- Calls that are answered at once, by the script or with zeros.
 use Rattle.std.specs.Prelude.{List, length, drop, Option, Some, None}
 use Rattle.std.specs.Borrow.{Bor}
-use Rattle.wasm_num.specs.declared.Value.{Value}
-use Rattle.module_ast.specs.declared.module.FuncType.{FuncType}
-use Rattle.module_ast.specs.Typing.{push}
+use Rattle.wasm_sem.specs.Types.{Value, FuncType}
+use Rattle.module_ast.specs.Validation.{push}
 use Rattle.wasm_sem.specs.declared.HostAnswer.{HostAnswer}
-use Rattle.wasm_sem.specs.Store.{no_answer}
+use Rattle.wasm_sem.specs.Execution.{no_answer}
 use Rattle.run_stack.specs.Flat.{Flat}
 
 -- the arguments are taken, and these results are on top

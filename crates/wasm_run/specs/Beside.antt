@@ -1,13 +1,11 @@
 -- What a run has beside its frames, memory and globals: what runs, the answers so far, the table and how many host calls
 -- were made.
 use Rattle.std.specs.Prelude.{◌≡◌, ℕ, ◌≤◌, List, Option}
-use Rattle.module_ast.specs.declared.module.Module.{Module}
+use Rattle.wasm_sem.specs.Types.{Module, Value}
 use Rattle.module_ast.specs.Memory.{pages}
 use Rattle.wasm_sem.specs.declared.Script.{Script}
-use Rattle.wasm_sem.specs.Link.{opening_store}
-use Rattle.wasm_sem.specs.Machine.{Env, Configuration, configuration, run_of}
+use Rattle.wasm_sem.specs.Execution.{opening_store, Env, Configuration, configuration, run_of}
 use Rattle.wasm_sem.specs.Rules.{HasSameRest}
-use Rattle.wasm_num.specs.declared.Value.{Value}
 use Rattle.run_store.specs.Held.{Held}
 use Rattle.run_opening.specs.declared.functions.Function.{Function}
 use Rattle.run_opening.specs.Resolved.{AreFunctionsOf}

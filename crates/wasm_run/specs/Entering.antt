@@ -1,13 +1,9 @@
 -- A call of a function of the module, on what the machine keeps.
 use Rattle.std.specs.Prelude.{◌≡◌, ℕ, ◌+◌, ◌≤◌, ℤ, List, [], ◌∷◌, ◌++◌, length, Option, Some, None}
-use Rattle.wasm_num.specs.declared.Value.{Value}
-use Rattle.module_ast.specs.declared.module.FuncType.{FuncType}
-use Rattle.module_ast.specs.declared.module.Body.{Body}
-use Rattle.module_ast.specs.Validity.{declared_locals}
+use Rattle.wasm_sem.specs.Types.{Value, FuncType, Body}
+use Rattle.module_ast.specs.Validation.{declared_locals}
 use Rattle.wasm_sem.specs.declared.Trap.{Trap}
-use Rattle.wasm_sem.specs.Link.{Instance}
-use Rattle.wasm_sem.specs.Store.{values_of}
-use Rattle.wasm_sem.specs.Machine.{Frame, Env, configuration, Next, reduces, traps, pop_values, with_ops, new_frame, enter}
+use Rattle.wasm_sem.specs.Execution.{Instance, values_of, Frame, Env, configuration, Next, reduces, traps, pop_values, with_ops, new_frame, enter}
 use Rattle.run_stack.specs.Flat.{Flat}
 use Rattle.run_stack.specs.Kept.{Lies}
 

@@ -1,10 +1,6 @@
 -- The start function, or a call of the script, that is entered next.
 use Rattle.std.specs.Prelude.{◌≡◌, ℕ, ℤ, List, [], ◌∷◌, Some, slice_get}
-use Rattle.wasm_sem.specs.Store.{values_of}
-use Rattle.wasm_sem.specs.Link.{Callee, callee_type, Instance}
-use Rattle.wasm_sem.specs.Machine.{Env, Configuration, configuration, invoke, enter_phase}
-use Rattle.wasm_sem.specs.Events.{entry}
-use Rattle.wasm_sem.specs.Trace.{told_invoke, told_begins}
+use Rattle.wasm_sem.specs.Execution.{values_of, Callee, callee_type, Instance, Env, Configuration, configuration, invoke, enter_phase, entry, told_invoke, told_begins}
 
 -- it is this function, with what these numbers stand for
 pub record EntersWith (inst : Instance) (e : Env) (func : ℕ) (numbers : List ℤ) (called : Callee) : Type 0 where

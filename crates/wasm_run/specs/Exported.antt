@@ -4,8 +4,8 @@ use Rattle.std.specs.Ordering.{nat_cmp}
 use Rattle.std.specs.Cmp.Lexicographic.{slice_cmp}
 use Rattle.std.specs.BTreeMap.{BTreeMap, get_by}
 use Rattle.std.specs.Borrow.{Bor}
-use Rattle.module_ast.specs.declared.module.Export.{Export}
-use Rattle.wasm_sem.specs.Link.{exported_func}
+use Rattle.wasm_sem.specs.Types.{Export}
+use Rattle.wasm_sem.specs.Execution.{exported_func}
 
 -- the map has each exported function at its name
 abbrev pub HasExports : BTreeMap (Bor (List ℕ)) ℕ → List Export → Type 0

@@ -1,10 +1,9 @@
 -- What a step of a run comes to: a function runs on, or what ran has ended; and where memory may be wanting.
 use Rattle.std.specs.Prelude.{◌≡◌, ℕ, ◌⊎◌, [], ◌∷◌, Result, Ok, Err, Option, Some, None, false}
 use Rattle.std.specs.declared.alloc.AllocError.{AllocError}
-use Rattle.module_ast.specs.Tree.{Tree, plain, call, call_indirect, memory_grow}
+use Rattle.module_ast.specs.Structure.{Tree, plain, call, call_indirect, memory_grow}
 use Rattle.wasm_sem.specs.declared.Answer.{Answer}
-use Rattle.wasm_sem.specs.Link.{Instance, instance}
-use Rattle.wasm_sem.specs.Machine.{Env, Configuration, configuration, env_after, is_last}
+use Rattle.wasm_sem.specs.Execution.{Instance, instance, Env, Configuration, configuration, env_after, is_last}
 use Rattle.run_stack.specs.Leaving.{LeavesMany}
 use Rattle.wasm_run.specs.Running.{Run, configuration_of, one_more, IsInside}
 

@@ -1,11 +1,8 @@
 -- What the last step of a run entered, and the host call that it made.
 use Rattle.std.specs.Prelude.{◌≡◌, ℕ, zero, suc, ◌<◌, ◌≤◌, List, [], ◌∷◌, ◌++◌, Option, Some, None, false}
-use Rattle.module_ast.specs.declared.module.Module.{Module}
+use Rattle.wasm_sem.specs.Types.{Module}
 use Rattle.wasm_sem.specs.declared.Script.{Script}
-use Rattle.wasm_sem.specs.Link.{instance}
-use Rattle.wasm_sem.specs.Machine.{run_of}
-use Rattle.wasm_sem.specs.Events.{TraceItem, entry, host_call}
-use Rattle.wasm_sem.specs.Trace.{items, chosen_items}
+use Rattle.wasm_sem.specs.Execution.{instance, run_of, TraceItem, entry, host_call, items, chosen_items}
 use Rattle.wasm_run.specs.declared.note.Entry.{Entry}
 use Rattle.wasm_run.specs.declared.note.HostNote.{HostNote}
 use Rattle.wasm_run.specs.declared.note.Note.{Note}

@@ -1,12 +1,11 @@
 -- How far the start and the calls of a script have come.
 use Rattle.std.specs.Prelude.{◌≡◌, ℕ, ◌<◌, ℤ, List, length, map, Option, Some, None, Result, Ok, Err, Bool, true, false, vec_capacity}
 use Rattle.std.specs.declared.alloc.AllocError.{AllocError}
-use Rattle.module_ast.specs.declared.module.Module.{Module}
+use Rattle.wasm_sem.specs.Types.{Module}
 use Rattle.wasm_sem.specs.declared.Answer.{Answer}
 use Rattle.wasm_sem.specs.declared.Call.{Call}
 use Rattle.wasm_sem.specs.declared.Script.{Script}
-use Rattle.wasm_sem.specs.Link.{Callee, exported_func, Instance, instance}
-use Rattle.wasm_sem.specs.Machine.{Phase, starting, calling, over, Env, env_after, is_over}
+use Rattle.wasm_sem.specs.Execution.{Callee, exported_func, Instance, instance, Phase, starting, calling, over, Env, env_after, is_over}
 use Rattle.wasm_run.specs.declared.progress.Stage.{Stage}
 use Rattle.wasm_run.specs.declared.progress.Stage.TheVariants as stages
 use Rattle.wasm_run.specs.declared.progress.Progress.{Progress}

@@ -1,12 +1,9 @@
 -- Where a call of the innermost frame leads.
 use Rattle.std.specs.Prelude.{◌≡◌, ℕ, List, [], ◌∷◌, length, Option, Some, slice_get}
-use Rattle.wasm_num.specs.declared.Value.{Value}
+use Rattle.wasm_sem.specs.Types.{Value}
 use Rattle.wasm_num.specs.declared.Value.TheVariants.{I32}
-use Rattle.module_ast.specs.Tree.{Tree, plain, call_indirect}
-use Rattle.module_ast.specs.Seen.{code_of}
-use Rattle.wasm_sem.specs.Link.{Callee, callee_type, Instance, instance}
-use Rattle.wasm_sem.specs.Machine.{Frame, Env, Configuration, configuration, traps, pop_values, call_popped, frame_behind, step}
-use Rattle.wasm_sem.specs.Trace.{told_popped, told_code, told_items}
+use Rattle.module_ast.specs.Structure.{Tree, plain, call_indirect, code_of}
+use Rattle.wasm_sem.specs.Execution.{Callee, callee_type, Instance, instance, Frame, Env, Configuration, configuration, traps, pop_values, call_popped, frame_behind, step, told_popped, told_code, told_items}
 use Rattle.wasm_run.specs.declared.functions.Invocation.{Invocation}
 use Rattle.wasm_run.specs.declared.functions.Target.{Target}
 use Rattle.wasm_run.specs.declared.functions.Target.TheVariants as targets

@@ -1,13 +1,9 @@
 -- Room for all that the frames of a run may come to have.
 use Rattle.std.specs.Prelude.{◌≡◌, ℕ, ◌+◌, ◌≤◌, List, [], ◌∷◌, ◌++◌, length, Some, slice_get}
-use Rattle.wasm_num.specs.declared.ValType.{ValType}
-use Rattle.module_ast.specs.declared.module.FuncType.{FuncType}
-use Rattle.module_ast.specs.declared.module.Module.{Module}
-use Rattle.module_ast.specs.Marks.{height}
-use Rattle.module_ast.specs.Positions.{code_nesting}
-use Rattle.module_ast.specs.Tree.{Tree}
-use Rattle.wasm_sem.specs.Link.{own, callees_of}
-use Rattle.wasm_sem.specs.Machine.{Frame}
+use Rattle.wasm_sem.specs.Types.{ValType, FuncType, Module}
+use Rattle.module_ast.specs.Places.{height, code_nesting}
+use Rattle.module_ast.specs.Structure.{Tree}
+use Rattle.wasm_sem.specs.Execution.{own, callees_of, Frame}
 use Rattle.wasm_sem.specs.Heights.{function_context}
 use Rattle.run_stack.specs.Kept.{all_values, all_spots}
 

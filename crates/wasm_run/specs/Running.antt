@@ -1,13 +1,10 @@
 -- A run as the machine keeps it: a module, a script, and how many steps have been made.
 use Rattle.std.specs.Prelude.{◌≡◌, ℕ, ◌+◌, List, [], ◌∷◌, Bool, true, false}
-use Rattle.wasm_num.specs.declared.Value.{Value}
-use Rattle.module_ast.specs.declared.module.Module.{Module}
-use Rattle.module_ast.specs.Validity.{IsValid}
+use Rattle.wasm_sem.specs.Types.{Value, Module}
+use Rattle.module_ast.specs.Validation.{IsValid, IsComplete}
 use Rattle.run_store.specs.Held.{Held}
 use Rattle.wasm_sem.specs.declared.Script.{Script}
-use Rattle.wasm_sem.specs.Link.{instance, IsScriptInRange, Links}
-use Rattle.wasm_sem.specs.Machine.{Frame, Configuration, configuration, run_of}
-use Rattle.module_ast.specs.Limits.{IsComplete}
+use Rattle.wasm_sem.specs.Execution.{instance, IsScriptInRange, Links, Frame, Configuration, configuration, run_of}
 use Rattle.run_stack.specs.Flat.{Flat}
 use Rattle.run_stack.specs.Kept.{Lies}
 use Rattle.run_stack.specs.Standing.{KeepsStore}

@@ -6,9 +6,7 @@ use Rattle.wasm_sem.specs.declared.Turn.{Turn}
 use Rattle.wasm_sem.specs.declared.Turn.TheVariants.{Ran, Hook, Over}
 use Rattle.wasm_sem.specs.declared.Stop.{Stop}
 use Rattle.wasm_sem.specs.declared.Stop.TheVariants as stops
-use Rattle.wasm_sem.specs.Link.{instance}
-use Rattle.wasm_sem.specs.Machine.{Configuration, configuration, is_over}
-use Rattle.wasm_sem.specs.Answers.{turn_of}
+use Rattle.wasm_sem.specs.Execution.{instance, Configuration, configuration, is_over, turn_of}
 use Rattle.wasm_run.specs.Running.{Run, configuration_of, one_more}
 
 -- the answer of the start function, if it has ended

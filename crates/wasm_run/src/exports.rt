@@ -1,7 +1,7 @@
 // The functions that a script calls.
 
 ghost use Rattle.std.specs.Prelude.{◌≡◌, IfOk};
-ghost use Rattle.wasm_sem.specs.Link.{Links};
+ghost use Rattle.wasm_sem.specs.Execution.{Links};
 ghost use Rattle.wasm_run.specs.Exported.{HasExports};
 ghost use Rattle.wasm_run.specs.Progress.{AreCalled};
 

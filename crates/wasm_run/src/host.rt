@@ -1,9 +1,8 @@
 // What a host function answers. (Standard, 4.4.7)
 
 ghost use Rattle.std.specs.Prelude.{◌≡◌, ◌+◌, ◌≤◌, length, drop, All, IfOk, OnOk, OnErr};
-ghost use Rattle.module_ast.specs.Typing.{push};
-ghost use Rattle.wasm_sem.specs.Link.{IsWriteInRange};
-ghost use Rattle.wasm_sem.specs.Store.{values_of, answer_at, writes_done, written_memory};
+ghost use Rattle.module_ast.specs.Validation.{push};
+ghost use Rattle.wasm_sem.specs.Execution.{IsWriteInRange, values_of, answer_at, writes_done, written_memory};
 ghost use Rattle.wasm_run.specs.Answering.{returned_with, answer_given};
 
 use module_ast::module::FuncType;

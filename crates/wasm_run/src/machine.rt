@@ -1,10 +1,8 @@
 // The machine: a run of a module under a script.
 
 ghost use Rattle.std.specs.Prelude.{◌≡◌, ◌+◌, ◌-◌, ◌<◌, ◌^◌, Some, None, true, false, IfOk, OnErr, MatchOption};
-ghost use Rattle.wasm_sem.specs.Answers.{turn_by};
+ghost use Rattle.wasm_sem.specs.Execution.{turn_by, IsScriptInRange, Links, is_over};
 ghost use Rattle.wasm_sem.specs.Laws.{slots_in};
-ghost use Rattle.wasm_sem.specs.Link.{IsScriptInRange, Links};
-ghost use Rattle.wasm_sem.specs.Machine.{is_over};
 ghost use Rattle.wasm_run.specs.Beside.{hosts_in, pages_in};
 ghost use Rattle.wasm_run.specs.Moves.{MayWant};
 ghost use Rattle.wasm_run.specs.Noting.{IsNoteOf};

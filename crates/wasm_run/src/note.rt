@@ -1,8 +1,7 @@
 // What the last step of a run entered, and the host call that it made.
 
 ghost use Rattle.std.specs.Prelude.{◌≡◌, ◌∷◌, [], Some, IfOk, filter};
-ghost use Rattle.wasm_sem.specs.Events.{host_call};
-ghost use Rattle.wasm_sem.specs.Store.{values_of, is_within, writes_done};
+ghost use Rattle.wasm_sem.specs.Execution.{host_call, values_of, is_within, writes_done};
 ghost use Rattle.wasm_run.specs.Answering.{answer_given};
 ghost use Rattle.wasm_run.specs.Noting.{host_items, noted_items};
 

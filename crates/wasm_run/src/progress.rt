@@ -1,9 +1,8 @@
 // How far the start and the calls of a script have come.
 
 ghost use Rattle.std.specs.Prelude.{◌≡◌, ℕ, ◌<◌, length, None, vec_capacity};
-ghost use Rattle.module_ast.specs.declared.module.Module.{Module as valid_module};
-ghost use Rattle.wasm_sem.specs.Link.{Instance};
-ghost use Rattle.wasm_sem.specs.Machine.{Env, call_from, after_start};
+ghost use Rattle.wasm_sem.specs.Types.{Module as valid_module};
+ghost use Rattle.wasm_sem.specs.Execution.{Instance, Env, call_from, after_start};
 ghost use Rattle.wasm_run.specs.Progress.{IsStage, Tells, env_by};
 
 use wasm_sem::Answer;

@@ -1,15 +1,10 @@
 // A run, step by step.
 
 ghost use Rattle.std.specs.Prelude.{◌≡◌, ℕ, ◌+◌, ◌-◌, ◌<◌, ◌^◌, length, Some, None, Ok, slice_get, suc, IfOk, OnErr};
-ghost use Rattle.module_ast.specs.Seen.{code_of, before};
-ghost use Rattle.module_ast.specs.Tree.{Tree, plain, call, call_indirect};
-ghost use Rattle.wasm_sem.specs.Answers.{hook_in};
+ghost use Rattle.module_ast.specs.Structure.{code_of, before, Tree, plain, call, call_indirect};
+ghost use Rattle.wasm_sem.specs.Execution.{hook_in, Callee, hook, host, own, callees_of, instance, IsScriptInRange, Links, Frame, traps, step, answer_at, items};
 ghost use Rattle.wasm_sem.specs.Laws.{slots_in};
-ghost use Rattle.wasm_sem.specs.Link.{Callee, hook, host, own, callees_of, instance, IsScriptInRange, Links};
-ghost use Rattle.wasm_sem.specs.Machine.{Frame, traps, step};
-ghost use Rattle.wasm_sem.specs.Store.{answer_at};
-ghost use Rattle.wasm_sem.specs.Trace.{items};
-ghost use Rattle.module_ast.specs.Validity.{declared_locals};
+ghost use Rattle.module_ast.specs.Validation.{declared_locals};
 ghost use Rattle.wasm_run.specs.Running.{Run, configuration_of, HoldsIf, IsInside, Innermost};
 ghost use Rattle.wasm_run.specs.Beside.{hosts_in, pages_in};
 ghost use Rattle.run_stack.specs.Advances.{IsAtCall};

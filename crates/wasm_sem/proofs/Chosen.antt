@@ -1,10 +1,9 @@
 -- What is kept of a trace, item by item.
 use Rattle.std.proofs.Common.{◌≡◌, List, [], ◌∷◌, ◌++◌, Bool, refl, sym, ap, ◌∙◌, append_assoc}
 use Rattle.module_ast.specs.Lists.{when}
-use Rattle.hook_select.specs.declared.GroupName.{GroupName}
+use Rattle.wasm_sem.specs.Types.{GroupName}
 use Rattle.hook_select.specs.Events.{group_of}
-use Rattle.wasm_sem.specs.Events.{TraceItem, entry, host_call, event, hook_call}
-use Rattle.wasm_sem.specs.Trace.{has_group, chosen_items}
+use Rattle.wasm_sem.specs.Execution.{TraceItem, entry, host_call, event, hook_call, has_group, chosen_items}
 
 -- what is kept of two stretches stands one behind the other
 pub chosen_append : (selected : GroupName → Bool) (xs ys : List TraceItem) → chosen_items selected (xs ++ ys) ≡ chosen_items selected xs ++ chosen_items selected ys

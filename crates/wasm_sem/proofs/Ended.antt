@@ -1,12 +1,9 @@
 -- The table is that of the opening, and a run that is over stays as it is and shows nothing more.
 use Rattle.std.proofs.Common.{◌≡◌, ℕ, zero, suc, ◌+◌, List, [], ◌∷◌, ◌++◌, Bool, true, false, refl, sym, ap, ap₂, ◌∙◌, subst, append-nil}
-use Rattle.module_ast.specs.declared.module.Module.{Module}
+use Rattle.wasm_sem.specs.Types.{Module}
 use Rattle.wasm_sem.specs.declared.Script.{Script}
 use Rattle.wasm_sem.specs.declared.Answer.TheVariants.{Trapped}
-use Rattle.wasm_sem.specs.Link.{Instance, instance}
-use Rattle.wasm_sem.specs.Machine.{Frame, Phase, starting, calling, over, Env, Configuration, configuration, Next, reduces, traps, ends, stuck, enter_phase, step, after_step, run, opening_configuration, run_of, is_last, is_over}
-use Rattle.wasm_sem.specs.Events.{TraceItem, shown_begins}
-use Rattle.wasm_sem.specs.Trace.{told_begins, items_by, items, trace, trace_of}
+use Rattle.wasm_sem.specs.Execution.{Instance, instance, Frame, Phase, starting, calling, over, Env, Configuration, configuration, Next, reduces, traps, ends, stuck, enter_phase, step, after_step, run, opening_configuration, run_of, is_last, is_over, TraceItem, shown_begins, told_begins, items_by, items, trace, trace_of}
 use Rattle.wasm_sem.specs.Laws.{slots_in}
 use Rattle.wasm_sem.proofs.Runs.{run_add, trace_add, run_ended}
 use Rattle.wasm_sem.proofs.Steady.{Keeps, answer_keeps, step_keeps}

@@ -1,24 +1,18 @@
 -- What the next step of a module without hooks shows: its events and host calls, in order, from the configuration alone.
 use Rattle.std.specs.Prelude.{ℕ, zero, suc, ◌+◌, ◌-◌, ◌^◌, ℤ, pos, negsuc, List, [], ◌∷◌, ◌++◌, length, Option, Some, None, Bool, true, false, cond, nat_lt, slice_get, slice_index_or}
-use Rattle.wasm_num.specs.declared.ValType.{ValType}
+use Rattle.wasm_sem.specs.Types.{ValType, NumOp, Value, Loc, FuncType, Event}
 use Rattle.wasm_num.specs.declared.ValType.TheVariants as types
-use Rattle.wasm_num.specs.declared.NumOp.{NumOp}
-use Rattle.wasm_num.specs.declared.Value.{Value}
 use Rattle.wasm_num.specs.declared.Value.TheVariants.{I32}
 use Rattle.wasm_num.specs.Shapes.{num_operands}
 use Rattle.wasm_num.specs.Numbers.{Num, gives, fails, ill_typed, unary, binary}
-use Rattle.module_ast.specs.declared.module.Loc.{Loc}
-use Rattle.module_ast.specs.declared.module.FuncType.{FuncType}
 use Rattle.module_ast.specs.declared.ops.VarOp.TheVariants.{Get, Set, Tee}
-use Rattle.module_ast.specs.Tree.{Tree, done, plain, block, loop, if_then, if_else, Plain, unreachable, nop, br, br_if, br_table, return_, call, call_indirect, drop_, select, local_get, local_set, local_tee, global_get, global_set, load, store, memory_size, memory_grow, i32_const, i64_const, num}
-use Rattle.module_ast.specs.Positions.{Scope, function_scope, block_scope, loop_scope, if_scope, then_scope, else_scope}
-use Rattle.hook_select.specs.declared.Event.{Event}
+use Rattle.module_ast.specs.Structure.{Tree, done, plain, block, loop, if_then, if_else, Plain, unreachable, nop, br, br_if, br_table, return_, call, call_indirect, drop_, select, local_get, local_set, local_tee, global_get, global_set, load, store, memory_size, memory_grow, i32_const, i64_const, num, is_start}
+use Rattle.module_ast.specs.Places.{Scope, function_scope, block_scope, loop_scope, if_scope, then_scope, else_scope}
 use Rattle.hook_select.specs.declared.Event.TheVariants as events
 use Rattle.wasm_sem.specs.declared.HostWrite.{HostWrite}
 use Rattle.wasm_sem.specs.declared.HostAnswer.{HostAnswer}
 use Rattle.wasm_sem.specs.declared.HookCall.{HookCall}
 use Rattle.module_ast.specs.Memory.{pages, with_bytes, load_value, store_bytes, grown_memory}
-use Rattle.module_ast.specs.Start.{is_start}
 use Rattle.wasm_sem.specs.Store.{Store, value_of, values_of, answer_at, writes_done}
 use Rattle.wasm_sem.specs.Link.{Callee, host, hook, own, callee_type, Entry, Instance}
 use Rattle.wasm_sem.specs.Machine.{Label, Frame, Env, Configuration, configuration, Phase, starting, calling, over, pop_values, at_zero, with_ops, frame_behind, same_func_type, start_entry, call_entry}

@@ -4,9 +4,8 @@ use Rattle.std.specs.Prelude.{Some}
 use Rattle.std.proofs.lemmas.Bool.{cases_lt}
 use Rattle.std.proofs.lemmas.Option.{slice_get_within}
 use Rattle.module_ast.specs.declared.module.Module.{Module}
-use Rattle.module_ast.specs.Limits.{IsWhole}
-use Rattle.module_ast.specs.Spaces.{imported_funcs}
-use Rattle.module_ast.specs.Validity.{KeepsRules, TypesBody, IsFirstInvalid, HasBodyMarks}
+use Rattle.module_ast.specs.Validation.{IsWhole, KeepsRules, TypesBody, IsFirstInvalid, HasBodyMarks}
+use Rattle.module_ast.specs.Structure.{imported_funcs}
 use Rattle.code_valid.specs.declared.marks.Marks.{Marks}
 use Rattle.wasm_valid.specs.Validated.{MarkFirst, IsValidated}
 

@@ -7,7 +7,7 @@ use Rattle.module_ast.specs.declared.module.Item.{Item}
 use Rattle.module_ast.specs.declared.module.Item.TheVariants as items
 use Rattle.module_ast.specs.declared.module.Import.{Import}
 use Rattle.module_ast.specs.declared.module.Module.{Module}
-use Rattle.module_ast.specs.Spaces.{imported_funcs, imported_tables, imported_memories, tables_of, memories_of}
+use Rattle.module_ast.specs.Structure.{imported_funcs, imported_tables, imported_memories, tables_of, memories_of}
 use Rattle.wasm_valid.specs.Imported.{IfFunc, IfTable, IfMemory}
 
 -- an import of any kind before others stands for itself: so do all of them

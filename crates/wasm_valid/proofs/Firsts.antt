@@ -4,8 +4,8 @@ use Rattle.std.proofs.lemmas.Bool.{cases_lt}
 use Rattle.std.specs.Prelude.{◌↔◌, IsTrue, not, MatchOption, Option, Some, None, slice_get}
 use Rattle.std.specs.List.{position_from}
 use Rattle.module_ast.specs.declared.module.Module.{Module}
-use Rattle.module_ast.specs.Validity as rules
-use Rattle.module_ast.specs.Validity.{Rule, number_of, Keeps, KeepsRules}
+use Rattle.module_ast.specs.Validation.Validity as rules
+use Rattle.module_ast.specs.Validation.{Rule, number_of, Keeps, KeepsRules}
 use Rattle.wasm_valid.specs.Broken.{KeepsBelow, BreaksFirst}
 
 -- the rules that are tried first, and the others, in their order

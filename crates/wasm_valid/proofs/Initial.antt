@@ -2,8 +2,7 @@
 use Rattle.std.proofs.Common.{◌≡◌, ◌≤◌, List, [], ◌∷◌, length, None, refl, arith}
 use Rattle.module_ast.specs.declared.code.Instr.{Instr}
 use Rattle.module_ast.specs.declared.code.Instr.TheVariants.{Block, Loop, If, IfElse}
-use Rattle.module_ast.specs.Tree.{Tree, Plain, plain}
-use Rattle.module_ast.specs.Seen.{before, code_of}
+use Rattle.module_ast.specs.Structure.{Tree, Plain, plain, before, code_of}
 use Rattle.module_ast.proofs.Plains.{the_plain}
 use Rattle.wasm_valid.specs.Constants.{constant_of}
 

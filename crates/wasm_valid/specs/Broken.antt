@@ -1,7 +1,7 @@
 -- The first rule that is broken. 3.4
 use Rattle.std.specs.Prelude.{◌≡◌, ℕ, ◌<◌}
 use Rattle.module_ast.specs.declared.module.Module.{Module}
-use Rattle.module_ast.specs.Validity.{Rule, number_of, Keeps, IsFirstBroken}
+use Rattle.module_ast.specs.Validation.{Rule, number_of, Keeps, IsFirstBroken}
 
 -- the rules with numbers below this one are kept
 abbrev pub KeepsBelow : Module → ℕ → Type 0

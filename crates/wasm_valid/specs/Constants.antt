@@ -1,6 +1,6 @@
 -- Constant expressions. 3.3.7
 use Rattle.std.specs.Prelude.{Option, Some, None}
-use Rattle.module_ast.specs.Tree.{Tree, done, plain, Plain, i32_const, i64_const, global_get}
+use Rattle.module_ast.specs.Structure.{Tree, done, plain, Plain, i32_const, i64_const, global_get}
 use Rattle.wasm_valid.specs.declared.constants.Constant.{Constant}
 use Rattle.wasm_valid.specs.declared.constants.Constant.TheVariants.{I32, I64, Global}
 

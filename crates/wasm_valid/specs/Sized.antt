@@ -2,8 +2,8 @@
 use Rattle.std.specs.Prelude.{◌≡◌, ℕ, ◌<◌, List, Option, Some, None, length, slice_get}
 use Rattle.module_ast.specs.declared.module.Body.{Body}
 use Rattle.module_ast.specs.declared.module.Module.{Module}
-use Rattle.module_ast.specs.Limits.{IsWhole}
-use Rattle.module_ast.specs.Tree.{done}
+use Rattle.module_ast.specs.Validation.{IsWhole}
+use Rattle.module_ast.specs.Structure.{done}
 use Rattle.branch_resolve.specs.declared.sizes.Sizes.{Sizes}
 use Rattle.branch_resolve.specs.Sizes.{sizes_of}
 use Rattle.par_phase.specs.Pieces.{answers_between}

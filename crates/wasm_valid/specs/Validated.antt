@@ -1,8 +1,7 @@
 -- A valid module with the marks of each body.
 use Rattle.std.specs.Prelude.{◌≡◌, ℕ, List, length, slice_get, Some}
 use Rattle.module_ast.specs.declared.module.Module.{Module}
-use Rattle.module_ast.specs.Limits.{IsWhole}
-use Rattle.module_ast.specs.Validity.{IsValid, HasBodyMarks}
+use Rattle.module_ast.specs.Validation.{IsWhole, IsValid, HasBodyMarks}
 use Rattle.code_valid.specs.declared.marks.Marks.{Marks}
 
 -- so many marks are those of the first bodies

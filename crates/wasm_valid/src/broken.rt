@@ -2,8 +2,8 @@
 
 ghost use Rattle.std.specs.Prelude.{◌≡◌, ◌+◌, ◌≤◌, length, not, MatchOption, IfOk};
 ghost use Rattle.std.specs.List.{position_from};
-ghost use Rattle.module_ast.specs.Validity.{KeepsRules};
-ghost use Rattle.module_ast.specs.Spaces.{spaces_of};
+ghost use Rattle.module_ast.specs.Validation.{KeepsRules};
+ghost use Rattle.module_ast.specs.Structure.{spaces_of};
 ghost use Rattle.wasm_valid.specs.Broken.{KeepsBelow, BreaksFirst};
 
 use crate::constants::{

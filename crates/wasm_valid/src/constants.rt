@@ -1,10 +1,8 @@
 // The rules on initialisers of globals and offsets of segments. Each function decides one rule exactly.
 
 ghost use Rattle.std.specs.Prelude.{◌≡◌, ◌↔◌, IsTrue, slice_get};
-ghost use Rattle.module_ast.specs.Seen.{before};
-ghost use Rattle.module_ast.specs.Tree.{done};
-ghost use Rattle.module_ast.specs.Spaces.{imported_globals, globals_of};
-ghost use Rattle.module_ast.specs.Validity.{IsConstant, ReadsImported, HasInitType, IsOffset, Keeps, init_constant, init_global, init_type, element_offsets, segment_offsets};
+ghost use Rattle.module_ast.specs.Structure.{before, done, imported_globals, globals_of};
+ghost use Rattle.module_ast.specs.Validation.{IsConstant, ReadsImported, HasInitType, IsOffset, Keeps, init_constant, init_global, init_type, element_offsets, segment_offsets};
 ghost use Rattle.wasm_valid.specs.Constants.{constant_of};
 
 use module_ast::code::{Code, Instr};

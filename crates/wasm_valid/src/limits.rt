@@ -1,8 +1,8 @@
 // The rules on tables and memories. Each function decides one rule exactly.
 
 ghost use Rattle.std.specs.Prelude.{◌≡◌, ◌↔◌, IsTrue, All};
-ghost use Rattle.module_ast.specs.Validity.{IsOrdered, HasPagesWithin, Keeps, one_table, one_memory, table_limits, memory_pages, memory_limits};
-ghost use Rattle.module_ast.specs.Spaces.{space_counts};
+ghost use Rattle.module_ast.specs.Validation.{IsOrdered, HasPagesWithin, Keeps, one_table, one_memory, table_limits, memory_pages, memory_limits};
+ghost use Rattle.module_ast.specs.Structure.{space_counts};
 ghost use Rattle.wasm_valid.specs.Imported.{IfTable, IfMemory};
 
 use module_ast::module::{Import, Item, Module, Range};

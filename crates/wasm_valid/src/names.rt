@@ -1,7 +1,7 @@
 // The rule on names of exports.
 
 ghost use Rattle.std.specs.Prelude.{◌↔◌, IsTrue, IfOk};
-ghost use Rattle.module_ast.specs.Validity.{Keeps, export_names};
+ghost use Rattle.module_ast.specs.Validation.{Keeps, export_names};
 
 use module_ast::module::Module;
 use std::alloc::Global;

@@ -1,8 +1,8 @@
 // The rules on types, indices and the start function. Each function decides one rule exactly.
 
 ghost use Rattle.std.specs.Prelude.{◌≡◌, ◌↔◌, ◌<◌, [], IsTrue, All};
-ghost use Rattle.module_ast.specs.Validity.{Keeps, import_types, function_types, export_indices, start_index, start_type, element_tables, element_funcs, segment_memories};
-ghost use Rattle.module_ast.specs.Spaces.{space_counts, spaces_of};
+ghost use Rattle.module_ast.specs.Validation.{Keeps, import_types, function_types, export_indices, start_index, start_type, element_tables, element_funcs, segment_memories};
+ghost use Rattle.module_ast.specs.Structure.{space_counts, spaces_of};
 ghost use Rattle.wasm_valid.specs.Imported.{IfFunc};
 
 use module_ast::module::{Element, FuncType, Import, Item, Module};

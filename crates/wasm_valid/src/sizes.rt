@@ -1,7 +1,7 @@
 // The sizes of the blocks of bodies, noted side by side.
 
 ghost use Rattle.std.specs.Prelude.{◌≤◌, length, IfOk};
-ghost use Rattle.module_ast.specs.Limits.{IsWhole};
+ghost use Rattle.module_ast.specs.Validation.{IsWhole};
 ghost use Rattle.wasm_valid.specs.Sized.{IsSizable, sizes_at, AreBodySizes};
 
 use branch_resolve::{Sizes, sizes_of};

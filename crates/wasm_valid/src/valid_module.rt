@@ -31,8 +31,8 @@ impl Model for ValidModule {
     ghost view = { λ a. a.module };
 
     ghost use Rattle.std.specs.Prelude.{◌≡◌};
-    ghost use Rattle.module_ast.specs.Limits.{IsComplete};
-    ghost use Rattle.module_ast.specs.Spaces.{spaces_of};
+    ghost use Rattle.module_ast.specs.Validation.{IsComplete};
+    ghost use Rattle.module_ast.specs.Structure.{spaces_of};
     ghost use Rattle.wasm_valid.specs.Sized.{AreBodySizes};
     ghost use Rattle.wasm_valid.specs.Validated.{IsValidated};
 
@@ -41,9 +41,8 @@ impl Model for ValidModule {
 
 impl ValidModule {
     ghost use Rattle.std.specs.Prelude.{◌≡◌, ◌<◌, length};
-    ghost use Rattle.module_ast.specs.Limits.{IsWhole, IsComplete};
-    ghost use Rattle.module_ast.specs.Spaces.{spaces_of};
-    ghost use Rattle.module_ast.specs.Validity.{IsValid};
+    ghost use Rattle.module_ast.specs.Validation.{IsWhole, IsComplete, IsValid};
+    ghost use Rattle.module_ast.specs.Structure.{spaces_of};
     ghost use Rattle.wasm_valid.specs.Sized.{AreBodySizes};
     ghost use Rattle.wasm_valid.specs.Validated.{IsValidated};
 

@@ -1,8 +1,8 @@
 -- What comes of the plan of the mode `check`.
 use Rattle.std.proofs.Common.{◌≡◌, ℕ, ◌≤◌, List, inl, refl, IfSome, Some, Ok, Err}
 use Rattle.outside_io.specs.Outside.{Unchanged}
-use Rattle.module_ast.specs.declared.module.Module.{Module}
-use Rattle.module_ast.specs.Limits.{wide}
+use Rattle.wasm_sem.specs.Types.{Module}
+use Rattle.module_ast.specs.Validation.{wide}
 use Rattle.analyses.specs.Tools.{ToolState}
 use Rattle.app_plan.specs.Files.{wide_file}
 use Rattle.app_plan.specs.Printing.{ShelfState}

@@ -5,9 +5,8 @@ use Rattle.std.proofs.lemmas.Slice.Eq.{bytes_eq-Decides}
 use Rattle.std.proofs.lemmas.Bool.Decides.{nat_tests}
 use Rattle.std.specs.List.{list_any}
 use Rattle.outside_io.specs.Outside.{Contents}
-use Rattle.module_ast.specs.declared.module.Import.{Import}
-use Rattle.module_ast.specs.declared.module.Module.{Module}
-use Rattle.wasm_sem.specs.Link.{IsFree, is_hook, hook_module}
+use Rattle.wasm_sem.specs.Types.{Import, Module}
+use Rattle.wasm_sem.specs.Execution.{IsFree, is_hook, hook_module}
 use Rattle.instrument.specs.Accepted.{IsAccepted}
 use Rattle.instrument.specs.Made.{longest_output}
 use Rattle.name_map.specs.declared.Names.{Names}

@@ -2,10 +2,9 @@
 use Rattle.std.proofs.Common.{◌≡◌, ℕ, ◌≤◌, inl, List, [], ◌∷◌, length, refl, sym, ap, subst, ◌∙◌, arith, Bool, true, false, nat_le, IfSome, Option, Some, Err, length-append}
 use Rattle.std.proofs.lemmas.Bool.Decides.{nat_tests}
 use Rattle.outside_io.specs.Outside.{Contents, Wrote}
-use Rattle.module_ast.specs.declared.module.Module.{Module}
-use Rattle.hook_select.specs.declared.Event.{Event}
+use Rattle.wasm_sem.specs.Types.{Module, Event}
 use Rattle.wasm_sem.specs.declared.Script.{Script}
-use Rattle.wasm_sem.specs.Link.{Links}
+use Rattle.wasm_sem.specs.Execution.{Links}
 use Rattle.static_info.specs.declared.Info.{Info}
 use Rattle.trace_file.specs.Files.{trace_bytes, events_bytes, ending, IsWithinBound, writing_of}
 use Rattle.trace_file.specs.Rows.{event_bytes}

@@ -1,18 +1,16 @@
 -- What comes of the plan of the mode `taint`.
 use Rattle.std.proofs.Common.{◌≡◌, ◌∙◌, ℕ, ◌<◌, ◌≤◌, ◌++◌, List, refl, sym, ap, ap₂, subst, IfOk, IfSome, Option, Some, None, Result, Ok, Err}
 use Rattle.outside_io.specs.Outside.{Unchanged}
-use Rattle.module_ast.specs.declared.module.Module.{Module}
+use Rattle.wasm_sem.specs.Types.{Module, Hooks}
 use Rattle.wasm_sem.specs.declared.Script.{Script}
-use Rattle.wasm_sem.specs.Answers.{Summary}
-use Rattle.wasm_sem.specs.Link.{IsFree, Links, link}
+use Rattle.wasm_sem.specs.Execution.{Summary, IsFree, Links, link}
 use Rattle.run_session.specs.declared.link.LinkFault.{LinkFault}
 use Rattle.run_session.specs.Linking.{TellsRefusal}
 use Rattle.shadow_replay.specs.declared.Warning.{Warning}
 use Rattle.shadow_replay.specs.Taint.{Watch}
-use Rattle.hook_select.specs.declared.Hooks.{Hooks}
 use Rattle.instrument.specs.Made.{longest_output, narrow_file}
 use Rattle.instrument.specs.Output.{output}
-use Rattle.module_ast.specs.Limits.{narrow}
+use Rattle.module_ast.specs.Validation.{narrow}
 use Rattle.analyses.specs.Tools.{ToolState}
 use Rattle.app_plan.specs.declared.told.Printed.{Printed}
 use Rattle.app_plan.specs.declared.told.Refusal.{Refusal}

@@ -1,10 +1,8 @@
 -- What comes of the plan of the mode `tree`.
 use Rattle.std.proofs.Common.{◌≡◌, ℕ, List, ◌++◌, refl, sym, ap, ap₂, subst, ◌∙◌, Bool, true, false, IfOk, IfErr, IfSome, Option, Some, None, Result, Ok, Err}
-use Rattle.module_ast.specs.declared.module.Loc.{Loc}
-use Rattle.module_ast.specs.declared.module.Module.{Module}
+use Rattle.wasm_sem.specs.Types.{Loc, Module}
 use Rattle.wasm_sem.specs.declared.Script.{Script}
-use Rattle.wasm_sem.specs.Answers.{Summary}
-use Rattle.wasm_sem.specs.Link.{Links}
+use Rattle.wasm_sem.specs.Execution.{Summary, Links}
 use Rattle.static_info.specs.declared.Info.{Info}
 use Rattle.analyses.specs.Tools.{ToolState}
 use Rattle.call_tree.specs.declared.Node.{Node}

@@ -1,6 +1,6 @@
 -- The mode `check`.
 use Rattle.std.specs.Prelude.{ℕ, List, codes, Some}
-use Rattle.module_ast.specs.Limits.{wide}
+use Rattle.module_ast.specs.Validation.{wide}
 use Rattle.app_plan.specs.Files.{wide_file}
 use Rattle.app_runs.specs.Texts.{ok_text, counts_of}
 use Rattle.app_plan.specs.Wants.{module_read}

@@ -2,9 +2,9 @@
 use Rattle.std.specs.Prelude.{◌≡◌, ℕ, ◌≤◌, ◌⊎◌, List, [], ◌∷◌, length, codes, Bool, true, false, cond, bytes_eq, nat_le, Option, Some, None, option_map, option_and_then}
 use Rattle.std.specs.List.{list_any}
 use Rattle.outside_io.specs.Outside.{Contents}
-use Rattle.module_ast.specs.declared.module.Module.{Module}
-use Rattle.module_ast.specs.Limits.{narrow}
-use Rattle.wasm_sem.specs.Link.{is_hook}
+use Rattle.wasm_sem.specs.Types.{Module}
+use Rattle.module_ast.specs.Validation.{narrow}
+use Rattle.wasm_sem.specs.Execution.{is_hook}
 use Rattle.instrument.specs.Made.{narrow_file}
 use Rattle.name_map.specs.declared.Names.{Names}
 use Rattle.app_plan.specs.Kinds.{no_kinds}

@@ -1,6 +1,6 @@
 -- The mode `record`.
 use Rattle.std.specs.Prelude.{ℕ, List, [], ◌∷◌, length, codes, Bool, true, false, nat_le, Option, option_map, option_and_then}
-use Rattle.module_ast.specs.declared.module.Module.{Module}
+use Rattle.wasm_sem.specs.Types.{Module}
 use Rattle.wasm_sem.specs.declared.Script.{Script}
 use Rattle.static_info.specs.declared.Info.{Info}
 use Rattle.app_plan.specs.Kinds.{no_kinds}

@@ -1,6 +1,6 @@
 -- The mode `replay`.
 use Rattle.std.specs.Prelude.{ℕ, List, [], codes, Some}
-use Rattle.hook_select.specs.declared.Event.{Event}
+use Rattle.wasm_sem.specs.Types.{Event}
 use Rattle.app_plan.specs.declared.kinds.Kinds.{Kinds}
 use Rattle.app_plan.specs.Plans.{done, Effect, does, Plan, reads, ends}
 use Rattle.app_plan.specs.Wants.{trace_read}

@@ -1,6 +1,6 @@
 -- The mode `report`.
 use Rattle.std.specs.Prelude.{[], ◌++◌, codes, Bool, Option, option_map}
-use Rattle.module_ast.specs.declared.module.Module.{Module}
+use Rattle.wasm_sem.specs.Types.{Module}
 use Rattle.wasm_sem.specs.declared.Script.{Script}
 use Rattle.name_map.specs.declared.Names.{Names}
 use Rattle.static_info.specs.declared.Info.{Info}

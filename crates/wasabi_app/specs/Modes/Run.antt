@@ -1,7 +1,7 @@
 -- The mode `run`.
 use Rattle.std.specs.Prelude.{ℕ, List, codes, option_map}
-use Rattle.module_ast.specs.declared.module.Module.{Module}
-use Rattle.module_ast.specs.Limits.{wide}
+use Rattle.wasm_sem.specs.Types.{Module}
+use Rattle.module_ast.specs.Validation.{wide}
 use Rattle.app_plan.specs.Files.{wide_file}
 use Rattle.app_plan.specs.Wants.{module_read, script_read}
 use Rattle.app_plan.specs.Plans.{Plan, reads, printing}

@@ -1,7 +1,7 @@
 -- The mode `taint`: a module runs with all hooks, and a shadow of the module follows marked values from sources to sinks.
 use Rattle.std.specs.Prelude.{ℕ, List, ◌++◌, codes, Option, Some, None, option_map}
-use Rattle.module_ast.specs.declared.module.Module.{Module}
-use Rattle.module_ast.specs.Limits.{narrow}
+use Rattle.wasm_sem.specs.Types.{Module}
+use Rattle.module_ast.specs.Validation.{narrow}
 use Rattle.wasm_sem.specs.declared.Script.{Script}
 use Rattle.instrument.specs.Made.{longest_output, narrow_file}
 use Rattle.instrument.specs.Output.{output}

@@ -1,8 +1,7 @@
 -- The mode `tree`.
 use Rattle.std.specs.Prelude.{ℕ, List, ◌++◌, codes, Bool, true, false, Option, Some, None, option_map}
-use Rattle.module_ast.specs.declared.module.Loc.{Loc}
-use Rattle.module_ast.specs.declared.module.Module.{Module}
-use Rattle.module_ast.specs.Limits.{wide}
+use Rattle.wasm_sem.specs.Types.{Loc, Module}
+use Rattle.module_ast.specs.Validation.{wide}
 use Rattle.wasm_sem.specs.declared.Script.{Script}
 use Rattle.static_info.specs.declared.Info.{Info}
 use Rattle.app_plan.specs.Files.{wide_file}

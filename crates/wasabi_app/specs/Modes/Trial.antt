@@ -2,15 +2,13 @@
 use Rattle.std.specs.Prelude.{ℕ, ◌%◌, ◌^◌, pos, List, [], ◌∷◌, length, codes, decimal, nat_le, nat_lt, ◌&&◌, true, cond, Option, Some, None, option_map}
 use Rattle.std.specs.Str.Parse.{digits_value}
 use Rattle.clap.specs.ValueTests.{is_numeral}
-use Rattle.module_ast.specs.declared.module.Module.{Module}
-use Rattle.module_ast.specs.Canonical.{module_bytes}
-use Rattle.module_ast.specs.Spaces.{funcs_of}
-use Rattle.hook_select.specs.declared.Event.{Event}
-use Rattle.hook_select.specs.declared.Hooks.{Hooks}
+use Rattle.wasm_sem.specs.Types.{Module, Event, Hooks}
+use Rattle.module_ast.specs.Binary.{module_bytes}
+use Rattle.module_ast.specs.Structure.{funcs_of}
 use Rattle.hook_select.specs.Groups.{hooks_of}
 use Rattle.wasm_sem.specs.declared.Call.{Call}
 use Rattle.wasm_sem.specs.declared.Script.{Script}
-use Rattle.wasm_sem.specs.Answers.{summary_of}
+use Rattle.wasm_sem.specs.Execution.{summary_of}
 use Rattle.static_info.specs.Info.{info_of}
 use Rattle.instrument.specs.Made.{longest_output}
 use Rattle.instrument.specs.Output.{output}

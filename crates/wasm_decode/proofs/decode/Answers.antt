@@ -1,6 +1,5 @@
 use Rattle.std.proofs.Common.{◌≡◌, inl, inr, length, refl, ap, subst, arith, rules}
-use Rattle.module_ast.specs.Grammar.{AreItems, IsSection, module_of, function_section, code_section}
-use Rattle.module_ast.specs.Profile.{tree_of}
+use Rattle.module_ast.specs.Binary.{AreItems, IsSection, module_of, function_section, code_section, tree_of}
 use Rattle.std.proofs.lemmas.Result.{IfOk-weaker}
 use Rattle.module_ast.proofs.Wholes.{read_whole}
 use Rattle.wasm_decode.proofs.Headers.{fails_in_section, has_sections, is_module}

@@ -1,7 +1,5 @@
 use Rattle.std.proofs.Common.{◌≡◌, ◌<◌, ◌^◌, length, subst, sym, ◌∙◌, arith}
-use Rattle.module_ast.specs.Grammar.{IsModule}
-use Rattle.module_ast.specs.Profile.{tree_of}
-use Rattle.module_ast.specs.Canonical.{module_bytes, without_customs}
+use Rattle.module_ast.specs.Binary.{IsModule, tree_of, module_bytes, without_customs}
 use Rattle.module_ast.proofs.WrittenModules.{module_spelled}
 use Rattle.wasm_encode.proofs.Rooms.{bodies_room}
 use Rattle.wasm_encode.proofs.encode.Goals as goal

@@ -1,9 +1,9 @@
 -- What was read, or why nothing was.
 use Rattle.std.proofs.Common.{length, ap, subst, arith}
 use Rattle.std.proofs.lemmas.Result.{IfErr-weaker, err_from_is_err_and}
-use Rattle.module_ast.specs.declared.module.Module.{Module}
+use Rattle.wasm_sem.specs.Types.{Module}
 use Rattle.module_ast.specs.declared.module.Which.TheVariants.{Functions}
-use Rattle.module_ast.specs.Spaces.{funcs_of}
+use Rattle.module_ast.specs.Structure.{funcs_of}
 use Rattle.app_plan.specs.Files.{IsFit}
 use Rattle.app_plan.specs.Wants.{AreKept, a_named_module, unread_no_memory}
 use Rattle.app_plan.proofs.Loaded.{refuted_by}

@@ -1,5 +1,5 @@
 use Rattle.std.proofs.Common.{◌≡◌, List, length}
-use Rattle.hook_select.specs.declared.Event.{Event}
+use Rattle.wasm_sem.specs.Types.{Event}
 use Rattle.trace_file.specs.Files.{HasRead}
 use Rattle.app_plan.proofs.loading.read_through.Given as goal
 

@@ -1,5 +1,5 @@
 use Rattle.std.proofs.Common.{map, take}
-use Rattle.wasm_sem.specs.Events.{event}
+use Rattle.wasm_sem.specs.Execution.{event}
 use Rattle.app_runs.specs.Following.{TakesAll}
 use Rattle.app_runs.proofs.following.take_events.Given as goal
 

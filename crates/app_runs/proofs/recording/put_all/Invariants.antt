@@ -1,5 +1,5 @@
 use Rattle.std.proofs.Common.{◌≡◌, List, ◌++◌, take}
-use Rattle.hook_select.specs.declared.Event.{Event}
+use Rattle.wasm_sem.specs.Types.{Event}
 use Rattle.trace_file.specs.Files.{writing_of}
 use Rattle.app_runs.proofs.recording.put_all.Given as goal
 

@@ -1,5 +1,5 @@
 use Rattle.std.proofs.Common.{◌≡◌, ◌+◌, List, ◌++◌, map, take, Some}
-use Rattle.wasm_sem.specs.Events.{TraceItem, event}
+use Rattle.wasm_sem.specs.Execution.{TraceItem, event}
 use Rattle.call_tree.specs.State.{state_of}
 use Rattle.app_runs.proofs.treeing.take_all.Given as goal
 

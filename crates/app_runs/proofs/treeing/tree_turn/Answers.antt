@@ -1,8 +1,8 @@
 -- A turn that calls no hook, one whose events are taken, and an end that is not nested.
 use Rattle.std.proofs.Common.{◌≡◌, ◌∙◌, List, ◌++◌, map, Some, ap, subst, sym}
 use Rattle.std.proofs.lemmas.Result.{err_from_is_err_and}
-use Rattle.hook_select.specs.declared.Event.{Event}
-use Rattle.wasm_sem.specs.Events.{TraceItem, event}
+use Rattle.wasm_sem.specs.Types.{Event}
+use Rattle.wasm_sem.specs.Execution.{TraceItem, event}
 use Rattle.wasm_run.specs.Running.{Run}
 use Rattle.wasm_run.specs.Turns.{after_turn}
 use Rattle.call_tree.specs.State.{state_of}

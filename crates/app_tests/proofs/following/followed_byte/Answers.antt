@@ -1,8 +1,8 @@
 -- The shadow and the session stand at their openings.
 use Rattle.std.proofs.Common.{ap, sym, subst}
-use Rattle.module_ast.specs.declared.module.Module.{Module}
+use Rattle.wasm_sem.specs.Types.{Module}
 use Rattle.wasm_run.specs.Running.{Run}
-use Rattle.wasm_sem.specs.Link.{IsScriptInRange, Links}
+use Rattle.wasm_sem.specs.Execution.{IsScriptInRange, Links}
 use Rattle.app_tests.specs.Storing.{called_once}
 use Rattle.app_tests.proofs.Stored.{once_in_range, one_links}
 use Rattle.app_tests.proofs.Told.{told_fit}

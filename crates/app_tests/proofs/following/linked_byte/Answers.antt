@@ -1,9 +1,9 @@
 -- The session stands at its opening.
 use Rattle.std.proofs.Common.{◌∙◌, ap₂, sym, subst}
-use Rattle.module_ast.specs.declared.module.Module.{Module}
+use Rattle.wasm_sem.specs.Types.{Module}
 use Rattle.wasm_run.specs.Running.{Run}
 use Rattle.wasm_sem.specs.declared.Script.{Script}
-use Rattle.wasm_sem.specs.Link.{IsScriptInRange}
+use Rattle.wasm_sem.specs.Execution.{IsScriptInRange}
 use Rattle.run_session.specs.Sessions.{opened_run}
 use Rattle.static_info.specs.Belongs.{Belongs}
 use Rattle.app_tests.proofs.Stored.{once_in_range}

@@ -1,6 +1,6 @@
 -- The output is that of the module.
 use Rattle.std.proofs.Common.{◌∙◌, ◌≤◌, List, ℕ, ap, length, subst, sym}
-use Rattle.module_ast.specs.declared.module.Module.{Module}
+use Rattle.wasm_sem.specs.Types.{Module}
 use Rattle.static_info.specs.Info.{info_of}
 use Rattle.instrument.specs.Made.{longest_output}
 use Rattle.instrument.specs.Output.{output}

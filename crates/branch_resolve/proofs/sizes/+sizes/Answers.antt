@@ -1,8 +1,7 @@
 use Rattle.std.proofs.Common.{rules, ◌≤◌, ◌≡◌, ◌-◌, arith, ap, ◌∙◌, ℕ, drop, ◌++◌}
 use Rattle.std.specs.Prelude.{reverse}
-use Rattle.module_ast.specs.Positions.{code_size, code_nesting}
-use Rattle.module_ast.specs.Seen.{before, code_of}
-use Rattle.module_ast.specs.Tree.{done, weight}
+use Rattle.module_ast.specs.Places.{code_size, code_nesting}
+use Rattle.module_ast.specs.Structure.{before, code_of, done, weight}
 use Rattle.branch_resolve.specs.Levels.{block_sizes}
 use Rattle.branch_resolve.proofs.Sized.{at_most_at, noted_fits, one_noted, all_drop}
 use Rattle.branch_resolve.proofs.sizes.+sizes.Goals as goal

@@ -1,6 +1,5 @@
 use Rattle.std.proofs.Common.{◌*◌, ◌+◌}
-use Rattle.module_ast.specs.Seen.{before}
-use Rattle.module_ast.specs.Tree.{done, weight}
+use Rattle.module_ast.specs.Structure.{before, done, weight}
 use Rattle.branch_resolve.proofs.Sized.{IsNoted}
 use Rattle.branch_resolve.proofs.sizes.+sizes.Given as goal
 

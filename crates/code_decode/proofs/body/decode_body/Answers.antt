@@ -1,6 +1,6 @@
 use Rattle.std.proofs.Common.{◌≡◌, arith, ap, ◌∙◌, length, subst}
 use Rattle.std.proofs.lemmas.List.{nil_from_length}
-use Rattle.module_ast.specs.Decoding.{BodyExceeds}
+use Rattle.module_ast.specs.Binary.{BodyExceeds}
 use Rattle.code_decode.proofs.Bodies.{no_locals, no_expr, no_end, answer_tree, float_groups, float_code, body_deep}
 use Rattle.code_decode.proofs.Faults.{malformed_part}
 use Rattle.code_decode.proofs.body.decode_body.Goals as goal

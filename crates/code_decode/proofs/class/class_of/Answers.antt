@@ -1,7 +1,7 @@
 use Rattle.std.proofs.Common.{◌∙◌, sym, ap, arith}
 use Rattle.std.proofs.lemmas.Bool.Decides.{nat_tests}
 use Rattle.wasm_num.proofs.Opcodes.{num_exact}
-use Rattle.module_ast.specs.Tokens.{shape_at}
+use Rattle.module_ast.specs.Binary.{shape_at}
 use Rattle.module_ast.proofs.Opcodes.{load_exact, store_exact}
 use Rattle.module_ast.proofs.Tokens.{load_told, store_told, num_told}
 use Rattle.module_ast.proofs.SpelledTokens.{apart, low_is_no_num}

@@ -1,5 +1,5 @@
 use Rattle.leb_binary.proofs.Fronts.{front_one}
-use Rattle.module_ast.specs.Grammar.{IsBody, IsExpr}
+use Rattle.module_ast.specs.Binary.{IsBody, IsExpr}
 use Rattle.code_decode.proofs.Items.{one_body, whole_one}
 use Rattle.code_decode.proofs.Unique.{one_expr}
 use Rattle.code_decode.proofs.laws.one_body.Goals as goal

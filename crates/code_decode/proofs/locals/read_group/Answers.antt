@@ -1,6 +1,6 @@
 use Rattle.std.proofs.Common.{ℕ, refl}
 use Rattle.leb_binary.proofs.Fronts.{one_unsigned}
-use Rattle.module_ast.specs.Grammar.{IsU32, IsValType, GroupNode, NumberType}
+use Rattle.module_ast.specs.Binary.{IsU32, IsValType, GroupNode, NumberType}
 use Rattle.module_ast.proofs.Compose.{both_none_first, both_none_second, both_some}
 use Rattle.code_decode.proofs.locals.read_group.Goals as goal
 

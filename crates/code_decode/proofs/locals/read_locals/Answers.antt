@@ -1,6 +1,5 @@
 use Rattle.std.proofs.Common.{◌≤◌, ◌<◌, ◌^◌, arith, [], ◌∷◌, ◌++◌, length-append}
-use Rattle.module_ast.specs.Grammar.{IsGroup, local_count}
-use Rattle.module_ast.specs.Profile.{group_node}
+use Rattle.module_ast.specs.Binary.{IsGroup, local_count, group_node}
 use Rattle.module_ast.proofs.Compose.{read_more, vec_none, vec_stuck, vec_some}
 use Rattle.code_decode.specs.Locals.{group_floats}
 use Rattle.code_decode.proofs.Bodies.{local_count_push, locals_some, locals_none, locals_many}

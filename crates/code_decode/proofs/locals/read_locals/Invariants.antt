@@ -1,6 +1,5 @@
 use Rattle.std.proofs.Common.{◌≡◌, ◌*◌, ◌≤◌, List, length}
-use Rattle.module_ast.specs.Grammar.{GroupNode, IsGroup, local_count}
-use Rattle.module_ast.specs.Profile.{group_node}
+use Rattle.module_ast.specs.Binary.{GroupNode, IsGroup, local_count, group_node}
 use Rattle.module_ast.proofs.Compose.{Read}
 use Rattle.code_decode.specs.Locals.{group_floats}
 use Rattle.code_decode.specs.Stands.{StandFor}

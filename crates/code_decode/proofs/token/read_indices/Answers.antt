@@ -1,5 +1,5 @@
 use Rattle.std.proofs.Common.{arith, [], ◌∷◌, length-append}
-use Rattle.module_ast.specs.Grammar.{IsU32}
+use Rattle.module_ast.specs.Binary.{IsU32}
 use Rattle.leb_binary.proofs.Fronts.{one_unsigned}
 use Rattle.module_ast.proofs.Compose.{read_more, vec_none, vec_stuck, vec_some}
 use Rattle.code_decode.proofs.token.read_indices.Goals as goal

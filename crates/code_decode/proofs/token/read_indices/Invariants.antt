@@ -1,5 +1,5 @@
 use Rattle.std.proofs.Common.{◌≡◌, length}
-use Rattle.module_ast.specs.Grammar.{IsU32}
+use Rattle.module_ast.specs.Binary.{IsU32}
 use Rattle.module_ast.proofs.Compose.{Read}
 use Rattle.code_decode.proofs.token.read_indices.Given as goal
 

@@ -2,7 +2,7 @@ use Rattle.std.proofs.Common.{refl, arith}
 use Rattle.std.proofs.lemmas.Int.{ints}
 use Rattle.leb_binary.proofs.Numbers.{within_signed}
 use Rattle.wasm_num.specs.declared.ValType.TheVariants.{I32, I64}
-use Rattle.module_ast.specs.Grammar.{empty, value, indexed, integer, f32, f64}
+use Rattle.module_ast.specs.Binary.{empty, value, indexed, integer, f32, f64}
 use Rattle.code_decode.proofs.BlockTypes.{block_type_end, block_type_long, block_type_none, index_is, number_is, sole_byte}
 use Rattle.code_decode.proofs.token.read_label.Goals as goal
 

@@ -1,5 +1,5 @@
 use Rattle.std.proofs.Common.{ℕ, List}
-use Rattle.module_ast.specs.Grammar.{IsU32, IsVec}
+use Rattle.module_ast.specs.Binary.{IsU32, IsVec}
 use Rattle.leb_binary.proofs.Fronts.{one_unsigned}
 use Rattle.module_ast.proofs.Compose.{both_none_first, both_none_second, both_some, one_vec}
 use Rattle.code_decode.proofs.Faults.{passed_on}

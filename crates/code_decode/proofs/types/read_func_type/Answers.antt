@@ -1,7 +1,6 @@
 use Rattle.std.proofs.Common.{ℕ, List, arith, ap, ◌∙◌}
-use Rattle.module_ast.specs.Grammar.{FuncTypeNode, NumberType, IsValType, IsVec, Both, integer}
+use Rattle.module_ast.specs.Binary.{FuncTypeNode, NumberType, IsValType, IsVec, Both, integer, is_floating, some_in}
 use Rattle.std.specs.Prelude.{map}
-use Rattle.module_ast.specs.Profile.{is_floating, some_in}
 use Rattle.module_ast.proofs.Compose.{both_none_first, both_none_second, both_some, one_vec, op_some, op_none, op_end}
 use Rattle.module_ast.proofs.Tokens.{one_val_type}
 use Rattle.std.proofs.lemmas.Bool.{or_left, or_right}

@@ -1,7 +1,6 @@
 use Rattle.std.proofs.Common.{◌+◌, drop, arith, ap, ◌∙◌}
-use Rattle.module_ast.specs.Tree.{weight}
-use Rattle.module_ast.specs.Seen.{before, code_of}
-use Rattle.module_ast.specs.Positions.{code_size}
+use Rattle.module_ast.specs.Structure.{weight, before, code_of}
+use Rattle.module_ast.specs.Places.{code_size}
 use Rattle.code_valid.proofs.Moves.{kept}
 use Rattle.code_valid.proofs.Sequences.{more_surveyed}
 use Rattle.module_ast.proofs.Plains.{next_instr, weight_before, size_before}

@@ -1,7 +1,6 @@
 use Rattle.std.proofs.Common.{◌≡◌, ◌≤◌, ◌+◌, ◌*◌, drop}
-use Rattle.module_ast.specs.Tree.{weight, done}
-use Rattle.module_ast.specs.Seen.{before, code_of}
-use Rattle.module_ast.specs.Positions.{code_size}
+use Rattle.module_ast.specs.Structure.{weight, done, before, code_of}
+use Rattle.module_ast.specs.Places.{code_size}
 use Rattle.module_ast.specs.declared.code.Instr.TheVariants.{Block, Loop, If, IfElse}
 use Rattle.code_valid.specs.Survey.{survey}
 use Rattle.code_valid.specs.Control.{innermost_stack, with_innermost_stack, context_in}

@@ -1,6 +1,6 @@
 use Rattle.std.proofs.Common.{◌≡◌, rules, subst}
-use Rattle.module_ast.specs.Profile.{tree_of}
-use Rattle.module_ast.specs.Validity.{KeepsRules}
+use Rattle.module_ast.specs.Binary.{tree_of}
+use Rattle.module_ast.specs.Validation.{KeepsRules}
 use Rattle.module_ast.proofs.ModuleTrees.{modules_unique}
 use Rattle.code_decode.proofs.Modules.{trees_one}
 use Rattle.format_tests.proofs.checking.checked.Goals as goal

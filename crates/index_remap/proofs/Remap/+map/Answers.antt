@@ -1,6 +1,5 @@
 use Rattle.std.proofs.Common.{arith, ◌+◌, ap, sym, ◌∙◌, drop, subst}
-use Rattle.module_ast.specs.Tree.{weight}
-use Rattle.module_ast.specs.Seen.{code_of, onto, onto_push}
+use Rattle.module_ast.specs.Structure.{weight, code_of, onto, onto_push}
 use Rattle.index_remap.specs.Remap.{map_tree, Maps}
 use Rattle.module_ast.proofs.Plains.{next_instr, weight_before}
 use Rattle.index_remap.proofs.Along.{maps_parts}

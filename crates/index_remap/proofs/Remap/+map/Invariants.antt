@@ -1,6 +1,5 @@
 use Rattle.std.proofs.Common.{◌≡◌, ◌≤◌, ◌+◌, ◌*◌, drop}
-use Rattle.module_ast.specs.Tree.{weight, done}
-use Rattle.module_ast.specs.Seen.{code_of, onto, before}
+use Rattle.module_ast.specs.Structure.{weight, done, code_of, onto, before}
 use Rattle.index_remap.specs.Remap.{map_tree, Maps}
 use Rattle.index_remap.proofs.Remap.+map.Given as goal
 

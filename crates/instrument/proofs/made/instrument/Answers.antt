@@ -1,8 +1,7 @@
 use Rattle.std.proofs.Common.{◌≡◌, ◌≤◌, ℕ, List, length, ap, sym, ◌∙◌, subst, arith}
-use Rattle.module_ast.specs.declared.module.Module.{Module}
-use Rattle.module_ast.specs.Fits.{Fits}
-use Rattle.hook_select.specs.declared.Hooks.{Hooks}
-use Rattle.wasm_sem.specs.Link.{IsFree}
+use Rattle.wasm_sem.specs.Types.{Module, Hooks}
+use Rattle.module_ast.specs.Binary.{Fits}
+use Rattle.wasm_sem.specs.Execution.{IsFree}
 use Rattle.instrument.specs.Made.{longest_output, IsSound}
 use Rattle.instrument.specs.Output.{output_bytes}
 use Rattle.instrument.specs.Plan.{Plan}

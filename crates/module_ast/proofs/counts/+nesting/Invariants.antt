@@ -1,7 +1,6 @@
 use Rattle.std.proofs.Common.{◌≡◌, ◌≤◌, drop, max}
-use Rattle.module_ast.specs.Tree.{weight}
-use Rattle.module_ast.specs.Positions.{code_nesting}
-use Rattle.module_ast.specs.Seen.{code_of}
+use Rattle.module_ast.specs.Structure.{weight, code_of}
+use Rattle.module_ast.specs.Places.{code_nesting}
 use Rattle.module_ast.proofs.counts.+nesting.Given as goal
 
 abbrev pub decreases-nesting : goal.decreases-nesting

@@ -1,7 +1,6 @@
 use Rattle.std.proofs.Common.{◌≡◌, ◌+◌, ◌≤◌, drop}
-use Rattle.module_ast.specs.Tree.{weight}
-use Rattle.module_ast.specs.Positions.{code_size, code_nesting}
-use Rattle.module_ast.specs.Seen.{code_of}
+use Rattle.module_ast.specs.Structure.{weight, code_of}
+use Rattle.module_ast.specs.Places.{code_size, code_nesting}
 use Rattle.module_ast.proofs.counts.+positions.Given as goal
 
 abbrev pub decreases-positions : goal.decreases-positions

@@ -1,5 +1,5 @@
 use Rattle.std.proofs.Common.{◌≡◌, ◌++◌, drop}
-use Rattle.module_ast.specs.Spaces.{imported_funcs}
+use Rattle.module_ast.specs.Structure.{imported_funcs}
 use Rattle.module_ast.proofs.spaces.func_types.Given as goal
 
 abbrev pub invariant-loop-import : goal.invariant-loop-import

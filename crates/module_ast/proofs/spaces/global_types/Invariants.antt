@@ -1,5 +1,5 @@
 use Rattle.std.proofs.Common.{◌≡◌, ◌++◌, drop}
-use Rattle.module_ast.specs.Spaces.{imported_globals, global_types, globals_of}
+use Rattle.module_ast.specs.Structure.{imported_globals, global_types, globals_of}
 use Rattle.module_ast.proofs.spaces.global_types.Given as goal
 
 abbrev pub invariant-loop-import : goal.invariant-loop-import

@@ -1,6 +1,5 @@
 use Rattle.std.proofs.Common.{◌∙◌, List, ◌++◌, ap, ap₂}
-use Rattle.module_ast.specs.Seen.{code_of}
-use Rattle.module_ast.specs.Tree.{Tree}
+use Rattle.module_ast.specs.Structure.{code_of, Tree}
 use Rattle.module_ast.specs.declared.module.Body.{Body}
 use Rattle.module_ast.specs.declared.module.Group.{Group}
 use Rattle.module_gen.specs.Bodies.{front, last_part}

@@ -1,5 +1,5 @@
 use Rattle.std.proofs.Common.{◌∙◌, [], ◌∷◌, ◌++◌, ap, ap₂, append_assoc}
-use Rattle.module_ast.specs.Seen.{code_of}
+use Rattle.module_ast.specs.Structure.{code_of}
 use Rattle.module_ast.specs.declared.code.BlockType.TheVariants.{Value}
 use Rattle.module_ast.specs.declared.code.Instr.TheVariants.{IfElse, LocalSet}
 use Rattle.module_gen.specs.Codes.{condition, constant_of}

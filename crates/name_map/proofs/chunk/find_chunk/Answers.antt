@@ -1,6 +1,6 @@
 use Rattle.std.proofs.Common.{List, [], ◌∷◌, ◌++◌, length, ◌==◌, ap, ap₂, sym, ◌∙◌, arith}
 use Rattle.std.specs.Option.{option_or}
-use Rattle.module_ast.specs.Grammar.{AreItems}
+use Rattle.module_ast.specs.Binary.{AreItems}
 use Rattle.module_ast.proofs.Compose.{read_more}
 use Rattle.name_map.specs.Sections.{Chunk, chunk, IsChunk}
 use Rattle.name_map.proofs.Chunks.{on_err, not_chunks, content_push, seen, seen_or, seen_then}

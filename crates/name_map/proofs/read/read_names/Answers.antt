@@ -1,6 +1,6 @@
 use Rattle.std.proofs.Common.{◌≡◌, drop, take, length, ◌-◌, Some, inr, refl, ap, ◌∙◌, subst, rules}
 use Rattle.std.proofs.lemmas.List.{take_rest, drop_at}
-use Rattle.module_ast.specs.Grammar.{AreItems, header}
+use Rattle.module_ast.specs.Binary.{AreItems, header}
 use Rattle.name_map.specs.Sections.{IsChunk}
 use Rattle.name_map.specs.declared.Named.{Named}
 use Rattle.name_map.specs.declared.Locals.{Locals}

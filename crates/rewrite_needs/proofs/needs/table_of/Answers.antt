@@ -1,5 +1,5 @@
 use Rattle.std.proofs.Common.{◌≡◌, sym, subst, ◌∙◌}
-use Rattle.hook_select.specs.declared.Hooks.{Hooks}
+use Rattle.wasm_sem.specs.Types.{Hooks}
 use Rattle.hook_mono.specs.Needed.{needs_of}
 use Rattle.rewrite_needs.proofs.NoneNeeded.{same_hooks, none_needed}
 use Rattle.rewrite_needs.proofs.needs.table_of.Goals as goal

@@ -1,5 +1,5 @@
 use Rattle.std.proofs.Common.{◌∙◌, ap}
-use Rattle.module_ast.specs.declared.module.Body.{Body}
+use Rattle.wasm_sem.specs.Types.{Body}
 use Rattle.rewrite_needs.specs.Room.{behind_code}
 use Rattle.rewrite_needs.proofs.Room.{entry, last_room, body_measured}
 use Rattle.rewrite_needs.proofs.pool.room_of.Goals as goal

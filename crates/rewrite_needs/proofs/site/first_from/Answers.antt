@@ -2,7 +2,7 @@ use Rattle.std.proofs.Common.{◌≡◌, ◌∙◌, sym, ap, ltb, rules}
 use Rattle.std.specs.List.{HoldsAt}
 use Rattle.std.proofs.lemmas.List.Sorted.{IsPartitionPoint-from_clause, IsPartitionedBy-ltb}
 use Rattle.module_ast.proofs.Lookups.{copied_at}
-use Rattle.module_ast.specs.Marks.{Mark}
+use Rattle.module_ast.specs.Places.{Mark}
 use Rattle.rewrite_needs.specs.Rising.{type_in}
 use Rattle.rewrite_needs.proofs.Rising.{rises, mark_found}
 use Rattle.rewrite_needs.proofs.site.first_from.Goals as goal

@@ -1,6 +1,5 @@
 use Rattle.std.proofs.Common.{◌≡◌, ◌+◌, ◌*◌, ◌≤◌, drop}
-use Rattle.module_ast.specs.Tree.{weight, done}
-use Rattle.module_ast.specs.Seen.{before, code_of}
+use Rattle.module_ast.specs.Structure.{weight, done, before, code_of}
 use Rattle.rewrite_size.specs.Sizes.{types_length}
 use Rattle.rewrite_size.proofs.block_types.+types_length.Given as goal
 

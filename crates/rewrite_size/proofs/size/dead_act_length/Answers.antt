@@ -1,7 +1,7 @@
 use Rattle.std.proofs.Common.{◌≡◌, ◌∙◌, [], length, length-append, ap, arith}
 use Rattle.leb_binary.specs.Shortest.{unsigned_bytes}
-use Rattle.module_ast.specs.Canonical.{plain_bytes}
-use Rattle.module_ast.specs.Tree.{Plain, done, call}
+use Rattle.module_ast.specs.Binary.{plain_bytes}
+use Rattle.module_ast.specs.Structure.{Plain, done, call}
 use Rattle.index_remap.specs.declared.Remap.{Remap}
 use Rattle.index_remap.specs.Remap.{map_index, map_plain}
 use Rattle.rewrite.specs.Setting.{remap}

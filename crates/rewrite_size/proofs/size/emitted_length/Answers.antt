@@ -1,9 +1,8 @@
 use Rattle.std.proofs.Common.{◌≡◌, List, [], length, drop, sym, ap, subst, arith}
 use Rattle.std.proofs.lemmas.List.{drop_all}
-use Rattle.module_ast.specs.declared.code.Instr.{Instr}
-use Rattle.module_ast.specs.Canonical.{code_bytes}
-use Rattle.module_ast.specs.Plains.{IsPlainInstr}
-use Rattle.module_ast.specs.Seen.{code_of}
+use Rattle.wasm_sem.specs.Types.{Instr}
+use Rattle.module_ast.specs.Binary.{code_bytes}
+use Rattle.module_ast.specs.Structure.{IsPlainInstr, code_of}
 use Rattle.wasm_encode.specs.Lengths.{most_bytes}
 use Rattle.rewrite_size.proofs.Emitting.{plain_at, within, most_next, counted}
 use Rattle.rewrite_size.proofs.size.emitted_length.Goals as goal

@@ -1,6 +1,6 @@
 use Rattle.std.proofs.Common.{◌≡◌, ◌+◌, ◌≤◌, length, drop}
-use Rattle.module_ast.specs.Canonical.{code_bytes}
-use Rattle.module_ast.specs.Seen.{code_of}
+use Rattle.module_ast.specs.Binary.{code_bytes}
+use Rattle.module_ast.specs.Structure.{code_of}
 use Rattle.rewrite_size.specs.Sizing.{instrs_most}
 use Rattle.rewrite_size.proofs.size.emitted_length.Given as goal
 

@@ -1,5 +1,5 @@
 use Rattle.std.proofs.Common.{◌≡◌, ◌+◌, ◌*◌, ◌≤◌, length, drop}
-use Rattle.module_ast.specs.Canonical.{items_bytes, group_bytes}
+use Rattle.module_ast.specs.Binary.{items_bytes, group_bytes}
 use Rattle.rewrite_size.proofs.size.groups_length.Given as goal
 
 abbrev pub invariant-loop-group : goal.invariant-loop-group

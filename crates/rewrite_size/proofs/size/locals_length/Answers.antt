@@ -1,8 +1,7 @@
 use Rattle.std.proofs.Common.{◌≡◌, ◌∙◌, ◌+◌, ◌++◌, List, length, length-append, ap, subst₂, arith}
 use Rattle.leb_binary.specs.Shortest.{unsigned_bytes}
-use Rattle.module_ast.specs.declared.module.Group.{Group}
-use Rattle.module_ast.specs.declared.module.Body.{Body}
-use Rattle.module_ast.specs.Canonical.{vec_bytes, group_bytes, items_bytes, expr_bytes}
+use Rattle.wasm_sem.specs.Types.{Group, Body}
+use Rattle.module_ast.specs.Binary.{vec_bytes, group_bytes, items_bytes, expr_bytes}
 use Rattle.i64_split.specs.Split.{pool_groups}
 use Rattle.hook_mono.specs.Needed.{Site}
 use Rattle.rewrite_size.proofs.BranchBytes.{groups_bytes, pool_few}

@@ -1,5 +1,5 @@
 use Rattle.std.proofs.Common.{◌++◌, [], ◌∷◌, refl, arith, pos}
-use Rattle.module_ast.specs.Tree.{return_}
+use Rattle.module_ast.specs.Structure.{return_}
 use Rattle.i64_split.specs.Pushing.{instrs}
 use Rattle.rewrite_size.proofs.Emitting.{emitted, few_of}
 use Rattle.rewrite.specs.Templates.{tell_results}

@@ -1,5 +1,5 @@
 use Rattle.std.proofs.Common.{ap, arith}
-use Rattle.module_ast.specs.declared.module.Body.{Body}
+use Rattle.wasm_sem.specs.Types.{Body}
 use Rattle.hook_mono.specs.Needed.{Site}
 use Rattle.rewrite_size.specs.Sizes.{types_length}
 use Rattle.rewrite_size.proofs.Counting.{types_fit}

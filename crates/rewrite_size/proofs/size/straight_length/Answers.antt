@@ -1,5 +1,5 @@
 use Rattle.std.proofs.Common.{arith}
-use Rattle.module_ast.specs.Tree.{done}
+use Rattle.module_ast.specs.Structure.{done}
 use Rattle.rewrite_size.proofs.BranchBytes.{straight_bytes}
 use Rattle.rewrite_size.proofs.KeptBytes.{kept_bytes}
 use Rattle.rewrite_size.proofs.size.straight_length.Goals as goal

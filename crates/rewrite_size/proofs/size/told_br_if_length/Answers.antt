@@ -1,6 +1,6 @@
 use Rattle.std.proofs.Common.{◌≡◌, ◌∙◌, [], refl, sym, arith, length-append}
 use Rattle.leb_binary.specs.Shortest.{unsigned_bytes}
-use Rattle.module_ast.specs.Tree.{done}
+use Rattle.module_ast.specs.Structure.{done}
 use Rattle.i64_split.specs.Pushing.{instrs}
 use Rattle.rewrite_size.proofs.Emitting.{emitted, few_of}
 use Rattle.std.proofs.Common.{true, false, subst}

@@ -1,5 +1,5 @@
 use Rattle.std.proofs.Common.{◌≡◌, ◌∙◌, ℕ, ◌+◌, ◌*◌, List, ◌∷◌, length, Some, sym, subst, subst₂, arith}
-use Rattle.module_ast.specs.Positions as positions
+use Rattle.module_ast.specs.Places.Positions as positions
 use Rattle.branch_resolve.specs.Walks.{IsNextPlace}
 use Rattle.rewrite_size.specs.Sizes.{end_sums}
 use Rattle.rewrite_size.specs.Sizing.{AreBelow, IsAt}

@@ -1,5 +1,5 @@
 use Rattle.std.proofs.Common.{◌≡◌, ◌+◌, drop}
-use Rattle.module_ast.specs.Profile.{locals_of}
+use Rattle.module_ast.specs.Binary.{locals_of}
 use Rattle.run_opening.proofs.functions.count_locals.Given as goal
 
 abbrev pub invariant-loop-group : goal.invariant-loop-group

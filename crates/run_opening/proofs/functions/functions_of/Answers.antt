@@ -1,8 +1,8 @@
 use Rattle.std.proofs.Common.{◌∙◌, ◌++◌, ap, arith, length}
 use Rattle.std.proofs.lemmas.List.Elements.{All-push}
-use Rattle.module_ast.specs.declared.module.Module.{Module}
+use Rattle.wasm_sem.specs.Types.{Module}
 use Rattle.code_valid.proofs.Few.{entries_fit}
-use Rattle.wasm_sem.specs.Link.{own_callees, import_callees}
+use Rattle.wasm_sem.specs.Execution.{own_callees, import_callees}
 use Rattle.run_opening.specs.Resolved.{HasSize}
 use Rattle.run_opening.proofs.Resolving.{own_more}
 use Rattle.run_opening.proofs.functions.functions_of.Goals as goal

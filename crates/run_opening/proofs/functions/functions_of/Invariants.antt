@@ -1,6 +1,6 @@
 use Rattle.std.proofs.Common.{◌≡◌, ◌++◌, drop, map}
 use Rattle.std.specs.Prelude.{All}
-use Rattle.wasm_sem.specs.Link.{own_callees, callees_of}
+use Rattle.wasm_sem.specs.Execution.{own_callees, callees_of}
 use Rattle.run_opening.specs.Resolved.{callee_for, HasSize}
 use Rattle.run_opening.proofs.functions.functions_of.Given as goal
 

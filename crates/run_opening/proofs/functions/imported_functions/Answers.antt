@@ -1,9 +1,8 @@
 use Rattle.std.proofs.Common.{◌≡◌, ◌∙◌, ◌++◌, ◌∷◌, ◌+◌, [], List, Vec, Global, ap, subst, sym, map, drop, arith}
 use Rattle.std.specs.Prelude.{All}
 use Rattle.std.proofs.lemmas.List.Elements.{All-push}
-use Rattle.module_ast.specs.declared.module.FuncType.{FuncType}
-use Rattle.module_ast.specs.declared.module.Module.{Module}
-use Rattle.wasm_sem.specs.Link.{is_hook, item_callees, import_callees}
+use Rattle.wasm_sem.specs.Types.{FuncType, Module}
+use Rattle.wasm_sem.specs.Execution.{is_hook, item_callees, import_callees}
 use Rattle.run_opening.specs.declared.functions.Function.{Function}
 use Rattle.run_opening.specs.Resolved.{callee_for, HasSize}
 use Rattle.run_opening.proofs.Resolving.{import_more, import_none}

@@ -1,7 +1,7 @@
 use Rattle.std.proofs.Common.{◌≡◌, ◌++◌, drop, map}
 use Rattle.std.specs.Prelude.{All}
-use Rattle.module_ast.specs.declared.module.Module.{Module}
-use Rattle.wasm_sem.specs.Link.{import_callees}
+use Rattle.wasm_sem.specs.Types.{Module}
+use Rattle.wasm_sem.specs.Execution.{import_callees}
 use Rattle.run_opening.specs.Resolved.{callee_for, HasSize}
 use Rattle.run_opening.proofs.functions.imported_functions.Given as goal
 

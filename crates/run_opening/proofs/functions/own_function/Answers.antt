@@ -1,8 +1,6 @@
 use Rattle.std.proofs.Common.{arith, ◌≡◌, ◌∙◌, ◌<◌, List, ℕ, Some, length, slice_get, slice_index_or, ap, ap₂, subst, sym}
-use Rattle.module_ast.specs.declared.module.FuncType.{FuncType}
-use Rattle.module_ast.specs.declared.module.Group.{Group}
-use Rattle.module_ast.specs.declared.module.Module.{Module}
-use Rattle.module_ast.specs.Profile.{locals_of}
+use Rattle.wasm_sem.specs.Types.{FuncType, Group, Module}
+use Rattle.module_ast.specs.Binary.{locals_of}
 use Rattle.code_valid.specs.declared.marks.Marks.{Marks}
 use Rattle.code_valid.specs.Bodies.{IsTypedBody}
 use Rattle.code_valid.proofs.Sizes.{few_locals, flat}

@@ -1,9 +1,9 @@
 use Rattle.std.proofs.Common.{◌≡◌, List, [], ◌∷◌, Bool, ◌&&◌, refl, ap₂, ◌∙◌}
 use Rattle.std.specs.Cmp.Lexicographic.{pointwise}
-use Rattle.wasm_num.specs.declared.ValType.{ValType}
+use Rattle.wasm_sem.specs.Types.{ValType}
 use Rattle.wasm_num.specs.declared.ValType.TheVariants.{I32, I64}
 use Rattle.wasm_num.specs.contracts.ValTypePartialEq.TheImpl.{eq-value as compared}
-use Rattle.wasm_sem.specs.Machine.{same_type, have_same_types}
+use Rattle.wasm_sem.specs.Execution.{same_type, have_same_types}
 use Rattle.run_opening.proofs.functions.same_types.Goals as goal
 
 compared_so : (a b : ValType) → compared.it a b ≡ same_type a b

@@ -1,5 +1,5 @@
 use Rattle.std.proofs.Common.{◌≡◌, ◌++◌, drop}
-use Rattle.module_ast.specs.Spaces.{imported_memories, memories_of}
+use Rattle.module_ast.specs.Structure.{imported_memories, memories_of}
 use Rattle.run_opening.proofs.opening.memory_range.Given as goal
 
 -- none is imported so far

@@ -1,5 +1,5 @@
 use Rattle.std.proofs.Common.{◌≡◌, ◌++◌, ◌≤◌, drop, take, length}
-use Rattle.wasm_sem.specs.Link.{opening_imports, opening_globals, defined_globals}
+use Rattle.wasm_sem.specs.Execution.{opening_imports, opening_globals, defined_globals}
 use Rattle.run_opening.proofs.opening.open_globals.Given as goal
 
 -- the imported ones stand first, and the values so far and those to come are all of them

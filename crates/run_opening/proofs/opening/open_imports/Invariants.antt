@@ -1,8 +1,7 @@
 use Rattle.std.proofs.Common.{◌≡◌, ◌++◌, drop, length, map}
-use Rattle.module_ast.specs.declared.module.GlobalType.{GlobalType}
-use Rattle.module_ast.specs.Spaces.{imported_globals}
-use Rattle.wasm_sem.specs.Store.{values_of}
-use Rattle.wasm_sem.specs.Link.{opening_imports}
+use Rattle.wasm_sem.specs.Types.{GlobalType}
+use Rattle.module_ast.specs.Structure.{imported_globals}
+use Rattle.wasm_sem.specs.Execution.{values_of, opening_imports}
 use Rattle.run_opening.proofs.opening.open_imports.Given as goal
 
 -- the values so far, and those of the imports to come, are all of them

@@ -1,6 +1,6 @@
 use Rattle.std.proofs.Common.{◌≡◌, drop, length, replicate, true, None}
-use Rattle.module_ast.specs.Spaces.{tables_of}
-use Rattle.wasm_sem.specs.Link.{least_size, fit_elements, with_elements}
+use Rattle.module_ast.specs.Structure.{tables_of}
+use Rattle.wasm_sem.specs.Execution.{least_size, fit_elements, with_elements}
 use Rattle.run_opening.proofs.opening.open_table.Given as goal
 
 -- the elements to come fit, and lead to the same slots as all

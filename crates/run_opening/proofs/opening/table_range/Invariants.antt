@@ -1,5 +1,5 @@
 use Rattle.std.proofs.Common.{◌≡◌, ◌++◌, drop}
-use Rattle.module_ast.specs.Spaces.{imported_tables, tables_of}
+use Rattle.module_ast.specs.Structure.{imported_tables, tables_of}
 use Rattle.run_opening.proofs.opening.table_range.Given as goal
 
 -- none is imported so far

@@ -1,5 +1,5 @@
 use Rattle.std.proofs.Common.{◌≡◌, drop, length, true}
-use Rattle.wasm_sem.specs.Link.{fit_segments, with_segments}
+use Rattle.wasm_sem.specs.Execution.{fit_segments, with_segments}
 use Rattle.run_opening.proofs.opening.write_segments.Given as goal
 
 -- the segments to come fit, and lead to the same bytes as all

@@ -1,6 +1,6 @@
 use Rattle.std.proofs.Common.{◌≡◌, ap, sym, ◌∙◌, subst}
 use Rattle.std.specs.Option.{option_copied}
-use Rattle.wasm_sem.specs.Link.{calls_refusal}
+use Rattle.wasm_sem.specs.Execution.{calls_refusal}
 use Rattle.run_session.specs.Linking.{TellsRefusal, exported_type, type_refusal}
 use Rattle.run_session.proofs.Refusals.{call_passed, call_told, told_on}
 use Rattle.run_session.proofs.link.check_calls.Goals as goal

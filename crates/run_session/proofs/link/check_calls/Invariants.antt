@@ -1,5 +1,5 @@
 use Rattle.std.proofs.Common.{◌≡◌, drop}
-use Rattle.wasm_sem.specs.Link.{calls_refusal}
+use Rattle.wasm_sem.specs.Execution.{calls_refusal}
 use Rattle.run_session.proofs.link.check_calls.Given as goal
 
 abbrev pub invariant-loop-index : goal.invariant-loop-index

@@ -1,5 +1,5 @@
 use Rattle.std.proofs.Common.{◌≡◌, drop}
-use Rattle.wasm_sem.specs.Link.{fit_elements}
+use Rattle.wasm_sem.specs.Execution.{fit_elements}
 use Rattle.run_session.proofs.link.fit_elements.Given as goal
 
 abbrev pub invariant-loop-element : goal.invariant-loop-element

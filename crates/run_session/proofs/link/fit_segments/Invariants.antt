@@ -1,5 +1,5 @@
 use Rattle.std.proofs.Common.{◌≡◌, drop}
-use Rattle.wasm_sem.specs.Link.{fit_segments}
+use Rattle.wasm_sem.specs.Execution.{fit_segments}
 use Rattle.run_session.proofs.link.fit_segments.Given as goal
 
 abbrev pub invariant-loop-segment : goal.invariant-loop-segment

@@ -1,5 +1,5 @@
 use Rattle.std.proofs.Common.{◌≡◌, length, drop}
-use Rattle.wasm_sem.specs.Link.{fit_types}
+use Rattle.wasm_sem.specs.Execution.{fit_types}
 use Rattle.run_session.proofs.link.fit_types.Given as goal
 
 abbrev pub invariant-loop-ty : goal.invariant-loop-ty

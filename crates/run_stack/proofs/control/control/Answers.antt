@@ -1,10 +1,8 @@
 use Rattle.std.proofs.Common.{◌≡◌, sym, subst, List}
-use Rattle.module_ast.specs.declared.module.FuncType.{FuncType}
-use Rattle.module_ast.specs.declared.code.Instr.{Instr}
+use Rattle.wasm_sem.specs.Types.{FuncType, Instr}
 use Rattle.module_ast.specs.declared.code.Instr.TheVariants as instrs
-use Rattle.module_ast.specs.Seen.{code_of}
-use Rattle.wasm_sem.specs.Link.{Instance}
-use Rattle.wasm_sem.specs.Machine.{Env, Frame}
+use Rattle.module_ast.specs.Structure.{code_of}
+use Rattle.wasm_sem.specs.Execution.{Instance, Env, Frame}
 use Rattle.run_stack.specs.Flat.{Flat, CanBranch, Branches}
 use Rattle.run_stack.specs.Comes.{IsMoving, Comes, next_of}
 use Rattle.run_stack.proofs.Blocks.{block_can, block_comes, loop_can, loop_comes, if_can, if_comes, past_comes, then_can, then_comes, else_can, else_comes}

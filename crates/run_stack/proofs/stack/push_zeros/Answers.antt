@@ -1,8 +1,8 @@
 use Rattle.std.proofs.Common.{◌≡◌, ◌+◌, ◌++◌, ◌∙◌, ap, sym, arith, length, get_or, drop, replicate, append_assoc, length-append}
 use Rattle.wasm_num.specs.declared.ValType.TheVariants.{I32}
-use Rattle.module_ast.specs.declared.module.Group.{Group}
-use Rattle.module_ast.specs.Validity.{declared_locals}
-use Rattle.wasm_sem.specs.Store.{zeros}
+use Rattle.wasm_sem.specs.Types.{Group}
+use Rattle.module_ast.specs.Validation.{declared_locals}
+use Rattle.wasm_sem.specs.Execution.{zeros}
 use Rattle.run_stack.proofs.Zeros.{zeros_group, locals_group, count_group}
 use Rattle.run_stack.proofs.stack.push_zeros.Goals as goal
 

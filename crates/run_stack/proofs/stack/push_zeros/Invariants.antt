@@ -1,8 +1,8 @@
 -- the zeros so far and those to come are all of them, and there is room for these
 use Rattle.std.proofs.Common.{◌≡◌, ◌+◌, ◌≤◌, ◌++◌, length, drop, vec_capacity}
-use Rattle.module_ast.specs.Profile.{locals_of}
-use Rattle.module_ast.specs.Validity.{declared_locals}
-use Rattle.wasm_sem.specs.Store.{zeros}
+use Rattle.module_ast.specs.Binary.{locals_of}
+use Rattle.module_ast.specs.Validation.{declared_locals}
+use Rattle.wasm_sem.specs.Execution.{zeros}
 use Rattle.run_stack.proofs.stack.push_zeros.Given as goal
 
 abbrev pub invariant-loop-group : goal.invariant-loop-group

@@ -1,5 +1,5 @@
 use Rattle.std.proofs.Common.{◌∙◌}
-use Rattle.module_ast.specs.Seen.{code_of}
+use Rattle.module_ast.specs.Structure.{code_of}
 use Rattle.run_stack.proofs.Standing.{moved, moving, control_went}
 use Rattle.run_stack.proofs.steps.go_control.Goals as goal
 

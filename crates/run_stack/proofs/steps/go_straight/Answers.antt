@@ -1,4 +1,4 @@
-use Rattle.module_ast.specs.Seen.{code_of}
+use Rattle.module_ast.specs.Structure.{code_of}
 use Rattle.run_stack.proofs.Standing.{straight_before, straight_some, straight_went, straight_trapped}
 use Rattle.run_stack.proofs.steps.go_straight.Goals as goal
 

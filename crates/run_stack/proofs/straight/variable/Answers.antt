@@ -1,5 +1,5 @@
 use Rattle.std.proofs.Common.{sym, subst, None, arith}
-use Rattle.module_ast.specs.declared.code.Instr.{Instr}
+use Rattle.wasm_sem.specs.Types.{Instr}
 use Rattle.run_stack.specs.Straight.{IsMomentBefore, IsMomentBehind, reduct_at}
 use Rattle.run_stack.proofs.Straights.{set_behind, tee_behind}
 use Rattle.std.proofs.lemmas.Grind.{common_steps}

@@ -1,6 +1,5 @@
 use Rattle.std.proofs.Common.{◌≡◌, ◌+◌, ◌*◌, ◌≤◌, ◌++◌, drop}
-use Rattle.module_ast.specs.Tree.{weight, done}
-use Rattle.module_ast.specs.Seen.{before, code_of}
+use Rattle.module_ast.specs.Structure.{weight, done, before, code_of}
 use Rattle.shadow_replay.specs.BlockRows.{code_row}
 use Rattle.shadow_replay.proofs.blocks.+rows.Given as goal
 

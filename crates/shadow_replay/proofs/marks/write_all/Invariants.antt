@@ -1,5 +1,5 @@
 use Rattle.std.proofs.Common.{◌≡◌, drop, length, true}
-use Rattle.wasm_sem.specs.Store.{written_memory}
+use Rattle.wasm_sem.specs.Execution.{written_memory}
 use Rattle.shadow_replay.specs.Shadow.{lie_within}
 use Rattle.shadow_replay.specs.Taint.{unmarked_by}
 use Rattle.shadow_replay.proofs.marks.write_all.Given as goal

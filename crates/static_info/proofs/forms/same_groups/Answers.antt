@@ -1,7 +1,7 @@
 use Rattle.std.proofs.Common.{◌≡◌, List, [], ◌∷◌, ◌&&◌, ◌==◌, refl, ap₂, ◌∙◌}
 use denote.Enum.Declared.{tag_of}
 use lib.Pointwise.{pointwise}
-use Rattle.hook_select.specs.declared.GroupName.{GroupName}
+use Rattle.wasm_sem.specs.Types.{GroupName}
 use Rattle.hook_select.specs.declared.GroupName.TheVariants as groups
 use Rattle.hook_select.specs.contracts.GroupName.{the_type}
 use Rattle.hook_select.specs.contracts.GroupNamePartialEq.TheImpl as eq

@@ -1,7 +1,6 @@
 use Rattle.std.proofs.Common.{◌≡◌, List, Some, length, slice_get, refl, ap, subst, ◌∙◌, arith}
 use Rattle.std.proofs.lemmas.Option.{slice_get_read}
-use Rattle.module_ast.specs.declared.module.Body.{Body}
-use Rattle.module_ast.specs.declared.module.Module.{Module}
+use Rattle.wasm_sem.specs.Types.{Body, Module}
 use Rattle.code_valid.proofs.Few.{entries_fit}
 use Rattle.code_valid.proofs.Sizes.{few_positions, flat}
 use Rattle.static_info.proofs.gather.add_defined.Goals as goal

@@ -1,5 +1,5 @@
 use Rattle.std.proofs.Common.{◌≡◌, ◌++◌, drop, map}
-use Rattle.module_ast.specs.Spaces.{imported_funcs}
+use Rattle.module_ast.specs.Structure.{imported_funcs}
 use Rattle.static_info.specs.Info.{imported_info}
 use Rattle.static_info.proofs.gather.add_imported.Given as goal
 

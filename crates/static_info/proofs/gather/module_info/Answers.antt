@@ -1,5 +1,5 @@
 use Rattle.std.proofs.Common.{length, ap, arith}
-use Rattle.module_ast.specs.declared.module.Module.{Module}
+use Rattle.wasm_sem.specs.Types.{Module}
 use Rattle.code_valid.proofs.Few.{entries_fit}
 use Rattle.static_info.proofs.gather.module_info.Goals as goal
 

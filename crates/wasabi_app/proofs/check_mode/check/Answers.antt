@@ -1,7 +1,7 @@
 -- A subject that is not loaded, or the counts of a valid module.
 use Rattle.std.proofs.Common.{◌≡◌, ap, ◌∙◌, arith, refl, rules, string_bytes, subst, sym}
 use Rattle.std.proofs.lemmas.Result.{err_from_is_err_and}
-use Rattle.module_ast.specs.Limits.{IsWhole, wide}
+use Rattle.module_ast.specs.Validation.{IsWhole, wide}
 use Rattle.app_runs.specs.Texts.{counts_of, ok_text}
 use Rattle.module_ast.proofs.Wholes.{read_whole}
 use Rattle.app_plan.proofs.Going.{no_memory}

@@ -1,7 +1,7 @@
 -- The indices of functions in an output have 32 bits.
 use Rattle.std.proofs.Common.{◌≡◌, length, ap, ◌∙◌, arith}
-use Rattle.module_ast.specs.declared.module.Module.{Module}
-use Rattle.module_ast.specs.Spaces.{funcs_of}
+use Rattle.wasm_sem.specs.Types.{Module}
+use Rattle.module_ast.specs.Structure.{funcs_of}
 use Rattle.code_valid.proofs.Few.{entries_fit}
 use Rattle.name_map.specs.declared.Locals.{Locals}
 use Rattle.name_map.specs.declared.Named.{Named}

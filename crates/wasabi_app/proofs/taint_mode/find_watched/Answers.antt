@@ -1,7 +1,7 @@
 -- A name that is unknown, or all that is watched.
 use Rattle.std.proofs.Common.{◌∙◌, length, map, ap, sym, arith, string_bytes}
 use Rattle.std.proofs.lemmas.List.{length-map}
-use Rattle.module_ast.specs.declared.module.Module.{Module}
+use Rattle.wasm_sem.specs.Types.{Module}
 use Rattle.app_runs.specs.Watching.{import_names}
 use Rattle.wasabi_app.specs.Modes.Taint.{taint_line_of, unknown_in}
 use Rattle.wasabi_app.proofs.Modes.Taint.{unknown_name, unknown_no_memory}

@@ -1,8 +1,8 @@
 -- The shadow takes what the run tells, and what it warns of is told.
 use Rattle.std.proofs.Common.{◌∙◌, ap, map, string_bytes}
-use Rattle.module_ast.specs.declared.module.Module.{Module}
+use Rattle.wasm_sem.specs.Types.{Module}
 use Rattle.wasm_sem.specs.declared.Script.{Script}
-use Rattle.wasm_sem.specs.Answers.{summary_of}
+use Rattle.wasm_sem.specs.Execution.{summary_of}
 use Rattle.run_session.specs.Sessions.{told_outcome}
 use Rattle.wasabi_app.specs.Warning.{watch_in}
 use Rattle.wasabi_app.proofs.Modes.Taint.{told_warned}

@@ -1,6 +1,6 @@
 -- They were linked and run, or were not.
 use Rattle.std.proofs.Common.{subst}
-use Rattle.wasm_sem.specs.Link.{Links}
+use Rattle.wasm_sem.specs.Execution.{Links}
 use Rattle.wasabi_app.specs.Warning.{watch_in}
 use Rattle.wasabi_app.proofs.Linked.{fault_within}
 use Rattle.wasabi_app.proofs.Modes.Taint.{was_unwarned, was_warned}

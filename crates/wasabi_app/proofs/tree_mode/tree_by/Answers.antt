@@ -1,7 +1,7 @@
 -- A subject, an information or a script that is not loaded, an information that lacks begin or end, or what came of the run.
 use Rattle.std.proofs.Common.{◌∙◌, sym, Err}
 use Rattle.std.proofs.lemmas.Result.{err_from_is_err_and}
-use Rattle.module_ast.specs.Limits.{wide}
+use Rattle.module_ast.specs.Validation.{wide}
 use Rattle.app_plan.specs.Files.{wide_file}
 use Rattle.app_plan.specs.Wants.{module_read, script_read, info_read}
 use Rattle.app_plan.proofs.Going.{went_on, stopped}

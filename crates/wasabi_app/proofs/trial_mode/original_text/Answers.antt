@@ -1,6 +1,6 @@
 -- The numbers of the script are in range.
 use Rattle.std.proofs.Common.{subst, sym}
-use Rattle.wasm_sem.specs.Link.{IsScriptInRange}
+use Rattle.wasm_sem.specs.Execution.{IsScriptInRange}
 use Rattle.wasabi_app.proofs.TrialLinks.{trial_in_range}
 use Rattle.wasabi_app.proofs.trial_mode.original_text.Goals as goal
 

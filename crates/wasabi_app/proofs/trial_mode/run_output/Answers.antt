@@ -1,7 +1,7 @@
 -- The run, or want of memory.
 use Rattle.std.proofs.Common.{subst, sym}
 use Rattle.std.proofs.lemmas.Result.{err_from_is_err_and}
-use Rattle.wasm_sem.specs.Link.{IsScriptInRange}
+use Rattle.wasm_sem.specs.Execution.{IsScriptInRange}
 use Rattle.wasabi_app.proofs.TrialLinks.{trial_in_range}
 use Rattle.wasabi_app.proofs.TrialPairs.{not_run, part_run, was_run}
 use Rattle.wasabi_app.proofs.trial_mode.run_output.Goals as goal

@@ -1,10 +1,9 @@
 -- The sizes are those of the module and of what was made.
 use Rattle.std.proofs.Common.{◌≡◌, ◌∙◌, length, ap, rules}
 use Rattle.std.proofs.lemmas.Result.{IfOk-weaker}
-use Rattle.module_ast.specs.declared.module.Module.{Module}
-use Rattle.module_ast.specs.declared.spaces.Counts.{Counts}
-use Rattle.module_ast.specs.Canonical.{module_bytes}
-use Rattle.module_ast.specs.Spaces.{funcs_of}
+use Rattle.wasm_sem.specs.Types.{Module, Counts}
+use Rattle.module_ast.specs.Binary.{module_bytes}
+use Rattle.module_ast.specs.Structure.{funcs_of}
 use Rattle.wasabi_app.proofs.TrialPairs.{sizes_alike}
 use Rattle.wasabi_app.proofs.trial_mode.sizes.Goals as goal
 

@@ -3,8 +3,8 @@ use Rattle.std.specs.Prelude.{map}
 use Rattle.std.proofs.lemmas.Bool.{or_left, or_right}
 use Rattle.module_ast.specs.declared.module.Group.{Group}
 use Rattle.module_ast.specs.declared.module.Body.{Body}
-use Rattle.module_ast.specs.Tree.{Tree}
-use Rattle.module_ast.specs.Profile.{group_node}
+use Rattle.module_ast.specs.Structure.{Tree}
+use Rattle.module_ast.specs.Binary.{group_node}
 use Rattle.wasm_decode.specs.Makes.{body_by}
 use Rattle.wasm_decode.proofs.bodies.make_body.Goals as goal
 

@@ -1,6 +1,6 @@
 use Rattle.std.proofs.Common.{ℕ, List, ap}
 use Rattle.module_ast.specs.declared.module.Element.{Element}
-use Rattle.module_ast.specs.Tree.{Tree}
+use Rattle.module_ast.specs.Structure.{Tree}
 use Rattle.wasm_decode.specs.Makes.{element_by}
 use Rattle.wasm_decode.proofs.codes.element.Goals as goal
 

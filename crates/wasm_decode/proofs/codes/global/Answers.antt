@@ -1,8 +1,8 @@
 use Rattle.std.proofs.Common.{ap, ◌∙◌}
 use Rattle.module_ast.specs.declared.module.GlobalDef.{GlobalDef}
 use Rattle.module_ast.specs.declared.module.GlobalType.{GlobalType}
-use Rattle.module_ast.specs.Tree.{Tree}
-use Rattle.module_ast.specs.Profile as profile
+use Rattle.module_ast.specs.Structure.{Tree}
+use Rattle.module_ast.specs.Binary.Profile as profile
 use Rattle.wasm_decode.specs.Makes.{global_by}
 use Rattle.wasm_decode.proofs.codes.global.Goals as goal
 

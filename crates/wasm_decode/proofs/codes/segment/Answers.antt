@@ -1,6 +1,6 @@
 use Rattle.std.proofs.Common.{ℕ, List, ap}
 use Rattle.module_ast.specs.declared.module.Segment.{Segment}
-use Rattle.module_ast.specs.Tree.{Tree}
+use Rattle.module_ast.specs.Structure.{Tree}
 use Rattle.wasm_decode.specs.Makes.{segment_by}
 use Rattle.wasm_decode.proofs.codes.segment.Goals as goal
 

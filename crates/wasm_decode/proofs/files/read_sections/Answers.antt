@@ -1,7 +1,7 @@
 use Rattle.std.proofs.Common.{◌≡◌, [], ◌∷◌, ◌++◌, refl, sym, subst, ap, arith, rules}
 use Rattle.std.specs.Prelude.{Err}
 use Rattle.leb_binary.specs.Reading.{IsByte}
-use Rattle.module_ast.specs.Grammar.{AreItems, IsSection, IsSized, IsContent}
+use Rattle.module_ast.specs.Binary.{AreItems, IsSection, IsSized, IsContent}
 use Rattle.module_ast.proofs.Compose.{read_more, whole_some}
 use Rattle.wasm_decode.specs.Drafts.{IsDraft}
 use Rattle.wasm_decode.specs.declared.fault.DecodeFault.TheVariants.{Malformed}

@@ -1,5 +1,5 @@
 use Rattle.std.proofs.Common.{◌≡◌, ◌≤◌, List, length}
-use Rattle.module_ast.specs.Grammar.{Section, IsSection, AreOrdered, module_of}
+use Rattle.module_ast.specs.Binary.{Section, IsSection, AreOrdered, module_of}
 use Rattle.module_ast.proofs.Compose.{Read}
 use Rattle.wasm_decode.specs.Drafts.{IsDraft}
 use Rattle.wasm_decode.specs.Files.{AreBytes, last_of}

@@ -1,7 +1,7 @@
 use Rattle.std.proofs.Common.{◌≤◌, length, drop}
 use Rattle.std.specs.Prelude.{map}
 use Rattle.module_ast.specs.declared.module.Body.{Body}
-use Rattle.module_ast.specs.Profile.{locals_of}
+use Rattle.module_ast.specs.Binary.{locals_of}
 use Rattle.wasm_decode.specs.Counts.{AreFew}
 use Rattle.wasm_decode.proofs.Continues.{Continues}
 use Rattle.wasm_decode.proofs.limits.first_locals.Given as goal

@@ -1,6 +1,6 @@
 use Rattle.std.proofs.Common.{◌≤◌, length, drop}
 use Rattle.std.specs.Prelude.{map}
-use Rattle.module_ast.specs.Profile.{most_values}
+use Rattle.module_ast.specs.Binary.{most_values}
 use Rattle.wasm_decode.proofs.Continues.{Continues}
 use Rattle.wasm_decode.proofs.limits.first_parameters.Given as goal
 

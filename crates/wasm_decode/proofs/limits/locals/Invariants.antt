@@ -1,5 +1,5 @@
 use Rattle.std.proofs.Common.{◌≡◌, ◌+◌, ◌≤◌, length, drop}
-use Rattle.module_ast.specs.Profile.{locals_of}
+use Rattle.module_ast.specs.Binary.{locals_of}
 use Rattle.wasm_decode.proofs.limits.locals.Given as goal
 
 abbrev pub invariant-loop-group : goal.invariant-loop-group

@@ -1,5 +1,5 @@
 use Rattle.std.proofs.Common.{ap, refl, arith}
-use Rattle.module_ast.specs.Grammar.{IsU32, IsTableType, IsMemoryType, IsGlobalType, func_item, table_item, memory_item, global_item}
+use Rattle.module_ast.specs.Binary.{IsU32, IsTableType, IsMemoryType, IsGlobalType, func_item, table_item, memory_item, global_item}
 use Rattle.code_decode.proofs.Faults.{on_err}
 use Rattle.module_ast.proofs.Compose.{op_some}
 use Rattle.wasm_decode.proofs.ItemFronts.{item_end, item_none}

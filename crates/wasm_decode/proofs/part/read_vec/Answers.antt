@@ -1,6 +1,6 @@
 use Rattle.std.proofs.Common.{arith, [], ◌∷◌, ◌++◌, ◌∙◌, length-append, rules}
 use Rattle.module_ast.proofs.Compose.{read_more, vec_none, vec_stuck, vec_some}
-use Rattle.module_ast.specs.Grammar.{IsU32, AreItems}
+use Rattle.module_ast.specs.Binary.{IsU32, AreItems}
 use Rattle.wasm_decode.proofs.Fronts.{front_shorter}
 use Rattle.wasm_decode.proofs.part.read_vec.Goals as goal
 

@@ -1,5 +1,5 @@
 use Rattle.std.proofs.Common.{rules}
-use Rattle.module_ast.specs.Grammar.{custom_section, type_section, import_section, function_section, table_section, memory_section, global_section, export_section, start_section, element_section, code_section, data_section}
+use Rattle.module_ast.specs.Binary.{custom_section, type_section, import_section, function_section, table_section, memory_section, global_section, export_section, start_section, element_section, code_section, data_section}
 use Rattle.wasm_decode.proofs.BodyParts.{few_locals}
 use Rattle.wasm_decode.proofs.SectionKinds.{wrong_content}
 use Rattle.wasm_decode.proofs.Sectioned.{with_types, with_imports, with_funcs, with_tables, with_memories, with_globals, with_exports, with_start, with_elements, with_bodies, with_segments, with_customs}

@@ -1,5 +1,5 @@
 use Rattle.std.proofs.Common.{arith, rules}
-use Rattle.module_ast.specs.Grammar.{IsU32, IsContent}
+use Rattle.module_ast.specs.Binary.{IsU32, IsContent}
 use Rattle.module_ast.proofs.Compose.{sized_none_size}
 use Rattle.wasm_decode.proofs.Fronts.{front_shorter}
 use Rattle.wasm_decode.proofs.Slices.{slice_within, sized_ok, sized_lacks, sized_fails}

@@ -1,6 +1,6 @@
 use Rattle.std.proofs.Common.{arith}
 use Rattle.leb_binary.proofs.Fronts.{one_unsigned}
-use Rattle.module_ast.specs.Grammar.{IsU32}
+use Rattle.module_ast.specs.Binary.{IsU32}
 use Rattle.wasm_decode.proofs.Fronts.{whole_left, whole_fills, whole_lacks}
 use Rattle.wasm_decode.proofs.sections.start.Goals as goal
 

@@ -1,5 +1,5 @@
 use Rattle.std.proofs.Common.{length, ap, arith, rules}
-use Rattle.module_ast.specs.Grammar.{IsVec}
+use Rattle.module_ast.specs.Binary.{IsVec}
 use Rattle.module_ast.proofs.Compose.{one_vec}
 use Rattle.wasm_decode.proofs.Fronts.{whole_left, whole_fills, whole_lacks}
 use Rattle.wasm_decode.proofs.sections.whole.Goals as goal

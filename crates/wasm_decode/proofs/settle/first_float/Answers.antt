@@ -1,5 +1,5 @@
 use Rattle.std.proofs.Common.{refl, arith}
-use Rattle.module_ast.specs.Grammar.{type_section, import_section, global_section, element_section, code_section, data_section}
+use Rattle.module_ast.specs.Binary.{type_section, import_section, global_section, element_section, code_section, data_section}
 use Rattle.wasm_decode.specs.Kinds.{func_type_form, import_form, global_form, element_form, segment_form, body_form}
 use Rattle.wasm_decode.proofs.BodyParts.{part_floats}
 use Rattle.module_ast.proofs.Trees.{func_type_back, func_type_view, import_back, import_view, global_back, global_view, element_back, element_view, body_back, body_view}

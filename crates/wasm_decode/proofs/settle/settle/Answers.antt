@@ -1,5 +1,5 @@
 use Rattle.std.proofs.Common.{◌≡◌, ap, sym, subst, ◌∙◌}
-use Rattle.module_ast.specs.Profile.{tree_of, IsWithin}
+use Rattle.module_ast.specs.Binary.{tree_of, IsWithin}
 use Rattle.std.proofs.lemmas.Result.{IfOk-weaker}
 use Rattle.wasm_decode.proofs.Settling.{few_in, settled}
 use Rattle.wasm_decode.proofs.settle.settle.Goals as goal

@@ -1,7 +1,7 @@
 use Rattle.std.proofs.Common.{◌≡◌, ◌<◌, sym, subst, ◌∙◌}
 use Rattle.module_ast.specs.declared.module.Which.{Which}
 use Rattle.module_ast.specs.declared.module.Which.TheVariants.{Nesting}
-use Rattle.module_ast.specs.Profile.{AreWithin, IsFirstExceeded, bound_of, limited_counts, order_of}
+use Rattle.module_ast.specs.Binary.{AreWithin, IsFirstExceeded, bound_of, limited_counts, order_of}
 use Rattle.wasm_decode.proofs.Exceeding.{within_same, exceeded_same, nesting_exceeded, nothing_deep, all_within}
 use Rattle.wasm_decode.proofs.settle.within.Goals as goal
 

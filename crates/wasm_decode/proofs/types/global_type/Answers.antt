@@ -1,6 +1,6 @@
 use Rattle.std.proofs.Common.{ap}
 use Rattle.std.specs.Prelude.{Bool}
-use Rattle.module_ast.specs.Grammar.{GlobalTypeNode, NumberType, IsValType, IsMutability}
+use Rattle.module_ast.specs.Binary.{GlobalTypeNode, NumberType, IsValType, IsMutability}
 use Rattle.module_ast.proofs.Compose.{both_none_first, both_none_second, both_some}
 use Rattle.module_ast.proofs.Tokens.{one_val_type}
 use Rattle.code_decode.proofs.Faults.{on_err}

@@ -1,5 +1,5 @@
 use Rattle.std.proofs.Common.{arith}
-use Rattle.module_ast.specs.Grammar.{IsMemoryType}
+use Rattle.module_ast.specs.Binary.{IsMemoryType}
 use Rattle.code_decode.proofs.Faults.{on_err}
 use Rattle.module_ast.proofs.Compose.{op_end, op_none, op_some}
 use Rattle.wasm_decode.proofs.types.table_type.Goals as goal

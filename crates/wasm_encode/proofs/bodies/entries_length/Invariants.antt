@@ -1,6 +1,6 @@
 use Rattle.std.proofs.Common.{◌≡◌, ◌+◌, length, drop, All}
 use Rattle.module_ast.specs.declared.module.Body.{Body}
-use Rattle.module_ast.specs.Fits.{FitsCode}
+use Rattle.module_ast.specs.Binary.{FitsCode}
 use Rattle.wasm_encode.specs.Outline.{entries_bytes}
 use Rattle.wasm_encode.proofs.bodies.entries_length.Given as goal
 

@@ -1,7 +1,6 @@
 use Rattle.std.proofs.Common.{◌≡◌, ◌+◌, ◌*◌, ◌≤◌, ◌++◌, drop}
-use Rattle.module_ast.specs.Tree.{weight, done}
-use Rattle.module_ast.specs.Seen.{before, code_of}
-use Rattle.module_ast.specs.Canonical.{code_bytes}
+use Rattle.module_ast.specs.Structure.{weight, done, before, code_of}
+use Rattle.module_ast.specs.Binary.{code_bytes}
 use Rattle.wasm_encode.proofs.code.+code.Given as goal
 
 abbrev pub decreases-put_code : goal.decreases-put_code

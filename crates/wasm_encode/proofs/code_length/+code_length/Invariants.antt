@@ -1,8 +1,6 @@
 use Rattle.std.proofs.Common.{◌≡◌, ◌+◌, ◌*◌, ◌≤◌, length, drop}
-use Rattle.module_ast.specs.Tree.{weight, done}
-use Rattle.module_ast.specs.Seen.{before, code_of}
-use Rattle.module_ast.specs.Fits.{FitsCode}
-use Rattle.module_ast.specs.Canonical.{code_bytes}
+use Rattle.module_ast.specs.Structure.{weight, done, before, code_of}
+use Rattle.module_ast.specs.Binary.{FitsCode, code_bytes}
 use Rattle.wasm_encode.proofs.code_length.+code_length.Given as goal
 
 abbrev pub decreases-code_length : goal.decreases-code_length

@@ -1,7 +1,6 @@
 use Rattle.std.proofs.Common.{◌≡◌, ◌+◌, ◌*◌, ◌≤◌, length, drop, All}
 use Rattle.leb_binary.specs.Shortest.{unsigned_bytes}
-use Rattle.module_ast.specs.Canonical.{items_bytes}
-use Rattle.module_ast.specs.Fits.{FitsIndex}
+use Rattle.module_ast.specs.Binary.{items_bytes, FitsIndex}
 use Rattle.wasm_encode.proofs.code_length.table_branch_length.Given as goal
 
 abbrev pub invariant-loop-label : goal.invariant-loop-label

@@ -1,5 +1,5 @@
 use Rattle.std.proofs.Common.{◌≡◌, ◌++◌, drop}
-use Rattle.module_ast.specs.Canonical.{items_bytes, vec_bytes, table_bytes}
+use Rattle.module_ast.specs.Binary.{items_bytes, vec_bytes, table_bytes}
 use Rattle.wasm_encode.proofs.tables.put_table_section.Given as goal
 
 abbrev pub invariant-loop-table : goal.invariant-loop-table

@@ -1,6 +1,6 @@
 use Rattle.std.proofs.Common.{arith}
 use Rattle.std.proofs.lemmas.Grind.{common_steps}
-use Rattle.module_ast.specs.Fits.{FitsRange}
+use Rattle.module_ast.specs.Binary.{FitsRange}
 use Rattle.wasm_encode.proofs.Fitting.{all_next}
 use Rattle.wasm_encode.proofs.tables.tables_length.Goals as goal
 

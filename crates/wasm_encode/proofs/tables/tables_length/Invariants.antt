@@ -1,6 +1,5 @@
 use Rattle.std.proofs.Common.{◌≡◌, ◌+◌, length, drop, All}
-use Rattle.module_ast.specs.Fits.{FitsRange}
-use Rattle.module_ast.specs.Canonical.{items_bytes, table_bytes}
+use Rattle.module_ast.specs.Binary.{FitsRange, items_bytes, table_bytes}
 use Rattle.wasm_encode.proofs.tables.tables_length.Given as goal
 
 abbrev pub invariant-loop-table : goal.invariant-loop-table

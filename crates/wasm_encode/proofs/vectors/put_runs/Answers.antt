@@ -1,6 +1,6 @@
 use Rattle.std.proofs.Common.{ℕ, ◌+◌, List, ◌++◌, length, arith, ap, ◌∙◌}
 use Rattle.leb_binary.specs.Shortest.{unsigned_bytes}
-use Rattle.module_ast.specs.Canonical.{sized_bytes}
+use Rattle.module_ast.specs.Binary.{sized_bytes}
 use Rattle.wasm_encode.proofs.Runs.{section_written}
 use Rattle.wasm_encode.proofs.vectors.put_runs.Goals as goal
 

@@ -1,5 +1,5 @@
 use Rattle.std.proofs.Common.{◌≡◌, ◌+◌, length, drop, All}
-use Rattle.module_ast.specs.Canonical.{items_bytes}
+use Rattle.module_ast.specs.Binary.{items_bytes}
 use Rattle.wasm_encode.proofs.vectors.vec_length.Given as goal
 
 abbrev pub invariant-loop-entry : goal.invariant-loop-entry

@@ -1,6 +1,6 @@
 use Rattle.std.proofs.Common.{◌∙◌, length, ap, arith}
-use Rattle.module_ast.specs.Typing.{push}
-use Rattle.wasm_sem.specs.Store.{values_of}
+use Rattle.module_ast.specs.Validation.{push}
+use Rattle.wasm_sem.specs.Execution.{values_of}
 use Rattle.run_stack.specs.Flat.{Flat}
 use Rattle.wasm_run.proofs.Begun.{numbers_pushed, alone_on}
 use Rattle.wasm_run.proofs.call.enter_alone.Goals as goal

@@ -3,7 +3,7 @@ use Rattle.std.specs.Prelude.{Option}
 use Rattle.std.proofs.lemmas.List.{take_more, take_all, map-append}
 use Rattle.std.proofs.lemmas.Option.{slice_get_read}
 use Rattle.wasm_sem.specs.declared.Call.{Call}
-use Rattle.wasm_sem.specs.Link.{exported_func, calls_refusal}
+use Rattle.wasm_sem.specs.Execution.{exported_func, calls_refusal}
 use Rattle.wasm_sem.proofs.SoundEntries.{no_refusal}
 use Rattle.wasm_run.proofs.NextCalls.{call_exported}
 use Rattle.wasm_run.proofs.exports.called_functions.Goals as goal

@@ -1,6 +1,6 @@
 use Rattle.std.proofs.Common.{◌≡◌, Some, map, take}
 use Rattle.wasm_sem.specs.declared.Call.{Call}
-use Rattle.wasm_sem.specs.Link.{exported_func}
+use Rattle.wasm_sem.specs.Execution.{exported_func}
 use Rattle.wasm_run.proofs.exports.called_functions.Given as goal
 
 -- those of the first ones

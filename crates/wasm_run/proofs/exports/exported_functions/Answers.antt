@@ -1,6 +1,6 @@
 use Rattle.std.proofs.Common.{◌≡◌, ◌∷◌, ap, rules}
 use Rattle.module_ast.specs.declared.module.ExportKind.TheVariants as kinds
-use Rattle.wasm_sem.specs.Link.{is_func}
+use Rattle.wasm_sem.specs.Execution.{is_func}
 use Rattle.wasm_run.proofs.Named.{moved, named_more}
 use Rattle.wasm_run.proofs.exports.exported_functions.Goals as goal
 

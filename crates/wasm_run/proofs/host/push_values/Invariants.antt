@@ -1,6 +1,6 @@
 use Rattle.std.proofs.Common.{◌≡◌, ◌+◌, ◌≤◌, drop, length}
-use Rattle.module_ast.specs.Typing.{push}
-use Rattle.wasm_sem.specs.Store.{values_of}
+use Rattle.module_ast.specs.Validation.{push}
+use Rattle.wasm_sem.specs.Execution.{values_of}
 use Rattle.wasm_run.proofs.host.push_values.Given as goal
 
 -- the results so far are on top, the others come above them, and there is room for these

@@ -1,7 +1,7 @@
 use Rattle.std.proofs.Common.{◌≡◌, ◌++◌, ◌∙◌, List, [], drop, ap, sym, append-nil}
 use Rattle.std.proofs.lemmas.List.{drop_all}
-use Rattle.wasm_num.specs.declared.ValType.{ValType}
-use Rattle.wasm_sem.specs.Store.{values_of}
+use Rattle.wasm_sem.specs.Types.{ValType}
+use Rattle.wasm_sem.specs.Execution.{values_of}
 use Rattle.wasm_run.proofs.host.values_of.Goals as goal
 
 pub returns : goal.returns

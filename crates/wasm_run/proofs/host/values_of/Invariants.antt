@@ -1,5 +1,5 @@
 use Rattle.std.proofs.Common.{◌≡◌, ◌++◌, drop}
-use Rattle.wasm_sem.specs.Store.{values_of}
+use Rattle.wasm_sem.specs.Execution.{values_of}
 use Rattle.wasm_run.proofs.host.values_of.Given as goal
 
 -- the values so far, and those to come

@@ -1,5 +1,5 @@
 use Rattle.std.proofs.Common.{◌≡◌, drop, length}
-use Rattle.wasm_sem.specs.Store.{writes_done, written_memory}
+use Rattle.wasm_sem.specs.Execution.{writes_done, written_memory}
 use Rattle.wasm_run.proofs.host.write_all.Given as goal
 
 -- the writes to come lead to the same bytes as all, and the memory is as long as before

@@ -1,6 +1,6 @@
 use Rattle.std.proofs.Common.{◌≡◌, ◌++◌, drop}
 use Rattle.std.specs.Prelude.{filter}
-use Rattle.wasm_sem.specs.Store.{is_within}
+use Rattle.wasm_sem.specs.Execution.{is_within}
 use Rattle.wasm_run.proofs.note.writes_within.Given as goal
 
 -- the writes so far, and those to come

@@ -1,4 +1,4 @@
-use Rattle.module_ast.specs.Validity.{IsOrdered}
+use Rattle.module_ast.specs.Validation.{IsOrdered}
 use Rattle.wasm_valid.proofs.Each.{memories_tests}
 use Rattle.wasm_valid.proofs.limits.keeps_memory_limits.Goals as goal
 

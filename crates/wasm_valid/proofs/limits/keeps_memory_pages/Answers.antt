@@ -1,4 +1,4 @@
-use Rattle.module_ast.specs.Validity.{HasPagesWithin}
+use Rattle.module_ast.specs.Validation.{HasPagesWithin}
 use Rattle.wasm_valid.proofs.Each.{memories_tests}
 use Rattle.wasm_valid.proofs.limits.keeps_memory_pages.Goals as goal
 

@@ -1,6 +1,6 @@
 use Rattle.std.proofs.Common.{◌∷◌, ◌+◌, sym, ◌&&◌, reverse, refl, ap, ◌∙◌}
-use Rattle.module_ast.specs.Positions.{at, acts}
-use Rattle.module_ast.specs.Seen.{code_of}
+use Rattle.module_ast.specs.Places.{at, acts}
+use Rattle.module_ast.specs.Structure.{code_of}
 use Rattle.branch_resolve.specs.Levels.{places_from, level_scopes}
 use Rattle.branch_resolve.proofs.Moves.{act_places, position_is}
 use Rattle.branch_resolve.proofs.steps.Steps.act.Goals as goal

@@ -1,5 +1,5 @@
 use Rattle.std.proofs.Common.{◌≡◌, None, ◌∙◌, ap, sym, reverse, refl, ◌∷◌, drop}
-use Rattle.module_ast.specs.Positions.{at, alternates}
+use Rattle.module_ast.specs.Places.{at, alternates}
 use Rattle.branch_resolve.specs.Scopes.{blocks_around}
 use Rattle.branch_resolve.specs.declared.steps.Level.{Level}
 use Rattle.branch_resolve.specs.Levels.{scope_of, level_scopes}

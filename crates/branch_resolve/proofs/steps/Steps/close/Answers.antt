@@ -1,5 +1,5 @@
 use Rattle.std.proofs.Common.{◌∙◌, ap, sym, reverse, refl, ◌∷◌}
-use Rattle.module_ast.specs.Positions.{at, closes}
+use Rattle.module_ast.specs.Places.{at, closes}
 use Rattle.branch_resolve.specs.Scopes.{blocks_around}
 use Rattle.branch_resolve.specs.Levels.{scope_of, level_scopes}
 use Rattle.branch_resolve.proofs.Moves.{close_places, close_scopes, close_fits, signed_is}

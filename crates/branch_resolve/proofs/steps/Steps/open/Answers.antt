@@ -1,6 +1,6 @@
 use Rattle.std.proofs.Common.{◌≡◌, ◌+◌, ◌∙◌, ap, sym, reverse, refl, ◌∷◌, None}
-use Rattle.module_ast.specs.Positions.{at, opens, code_size}
-use Rattle.module_ast.specs.Seen.{code_of}
+use Rattle.module_ast.specs.Places.{at, opens, code_size}
+use Rattle.module_ast.specs.Structure.{code_of}
 use Rattle.branch_resolve.specs.Scopes.{blocks_around}
 use Rattle.branch_resolve.specs.declared.steps.Level.{Level}
 use Rattle.branch_resolve.specs.Levels.{scope_of, level_scopes, kind_scope, places_from}

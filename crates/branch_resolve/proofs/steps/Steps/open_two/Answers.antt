@@ -1,7 +1,6 @@
 use Rattle.std.proofs.Common.{◌≡◌, ◌+◌, ◌∙◌, ap, ap₂, sym, reverse, refl, ◌∷◌, Some, drop, subst}
-use Rattle.module_ast.specs.Positions.{at, opens, then_scope, else_scope}
-use Rattle.module_ast.specs.Tree.{if_else}
-use Rattle.module_ast.specs.Seen.{code_of}
+use Rattle.module_ast.specs.Places.{at, opens, then_scope, else_scope}
+use Rattle.module_ast.specs.Structure.{if_else, code_of}
 use Rattle.branch_resolve.specs.Scopes.{blocks_around}
 use Rattle.branch_resolve.specs.declared.steps.Level.{Level}
 use Rattle.branch_resolve.specs.declared.steps.Other.{Other}

@@ -1,7 +1,7 @@
 use Rattle.std.proofs.Common.{◌≡◌, ◌∙◌, ◌++◌, ap, ap₂, sym, get_or, Some}
 use Rattle.std.proofs.lemmas.Option.{slice_get-get_or}
-use Rattle.module_ast.specs.Validity.{declared_locals}
-use Rattle.module_ast.specs.Validity as rule
+use Rattle.module_ast.specs.Validation.{declared_locals}
+use Rattle.module_ast.specs.Validation.Validity as rule
 use Rattle.code_valid.proofs.Judged.{same_context, context_of}
 use Rattle.code_valid.proofs.env.Env.of_body.Goals as goal
 

@@ -1,6 +1,6 @@
 use Rattle.std.proofs.Common.{◌≡◌, ◌++◌, ◌+◌, length, drop}
-use Rattle.module_ast.specs.Profile.{locals_of}
-use Rattle.module_ast.specs.Validity.{declared_locals}
+use Rattle.module_ast.specs.Binary.{locals_of}
+use Rattle.module_ast.specs.Validation.{declared_locals}
 use Rattle.code_valid.proofs.Runs.{Kept}
 use Rattle.code_valid.proofs.locals.Locals.new.Given as goal
 

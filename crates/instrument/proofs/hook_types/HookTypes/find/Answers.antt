@@ -1,6 +1,5 @@
 use Rattle.std.proofs.Common.{List, ◌==◌, position, length, ap, ◌∙◌}
-use Rattle.wasm_num.specs.declared.ValType.{ValType}
-use Rattle.module_ast.specs.declared.module.FuncType.{FuncType}
+use Rattle.wasm_sem.specs.Types.{ValType, FuncType}
 use Rattle.instrument.specs.Output.{find_type}
 use Rattle.instrument.proofs.DistinctTypes.{type_by_width}
 use Rattle.instrument.proofs.hook_types.HookTypes.find.Goals as goal

@@ -1,6 +1,6 @@
 use Rattle.std.proofs.Common.{◌≡◌, List, ◌==◌, ◌∷◌, [], ◌++◌, ℕ, not, if◌then◌else◌, length, map, take, ap, sym, ◌∙◌, true≢false}
 use Rattle.std.specs.List.{list_any}
-use Rattle.module_ast.specs.declared.module.FuncType.{FuncType}
+use Rattle.wasm_sem.specs.Types.{FuncType}
 use Rattle.hook_mono.specs.Words.{hook_type}
 use Rattle.instrument.specs.Output.{with_type, distinct_types}
 use Rattle.instrument.proofs.DistinctTypes.{width, HasType, type_added, types_next}

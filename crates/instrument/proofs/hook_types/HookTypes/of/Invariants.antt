@@ -1,5 +1,5 @@
 use Rattle.std.proofs.Common.{◌≡◌, length, map, take}
-use Rattle.module_ast.specs.declared.module.FuncType.{FuncType}
+use Rattle.wasm_sem.specs.Types.{FuncType}
 use Rattle.hook_mono.specs.Words.{hook_type}
 use Rattle.instrument.specs.Output.{distinct_types}
 use Rattle.instrument.proofs.hook_types.HookTypes.of.Given as goal

@@ -1,6 +1,6 @@
 use Rattle.std.proofs.Common.{◌≡◌, length, ap, sym, ◌∙◌, subst, arith}
-use Rattle.module_ast.specs.declared.module.Module.{Module}
-use Rattle.module_ast.specs.Limits.{IsWhole}
+use Rattle.wasm_sem.specs.Types.{Module}
+use Rattle.module_ast.specs.Validation.{IsWhole}
 use Rattle.code_valid.proofs.Few.{entries_fit}
 use Rattle.instrument.specs.Plan.{Plan}
 use Rattle.instrument.proofs.PlannedBodies.{new_bodies_count}

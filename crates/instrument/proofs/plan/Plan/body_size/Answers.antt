@@ -1,6 +1,6 @@
 use Rattle.std.proofs.Common.{◌<◌, length, ap, sym, subst, arith}
 use Rattle.std.proofs.lemmas.Result.{IfOk-weaker}
-use Rattle.module_ast.specs.declared.module.Module.{Module}
+use Rattle.wasm_sem.specs.Types.{Module}
 use Rattle.instrument.specs.Plan.{Plan}
 use Rattle.instrument.proofs.PlannedBodies.{new_bodies_few, planned_numbers, planned_size, planned_bound}
 use Rattle.instrument.proofs.plan.Plan.body_size.Goals as goal

@@ -1,8 +1,6 @@
 use Rattle.std.proofs.Common.{◌≡◌, ℕ, length, Option, All, ap, sym, ◌∙◌, subst, arith, length-append}
 use Rattle.std.specs.Option.{ForSome}
-use Rattle.module_ast.specs.declared.module.Element.{Element}
-use Rattle.module_ast.specs.declared.module.Export.{Export}
-use Rattle.module_ast.specs.declared.module.Module.{Module}
+use Rattle.wasm_sem.specs.Types.{Element, Export, Module}
 use Rattle.index_remap.specs.declared.Remap.{Remap}
 use Rattle.index_remap.specs.Remap.{MapsIndex, MapsReference, MapsModule}
 use Rattle.instrument.specs.Output.{hook_types}

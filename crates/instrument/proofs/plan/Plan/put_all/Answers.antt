@@ -1,5 +1,5 @@
 use Rattle.std.proofs.Common.{◌≡◌, ℕ, ◌+◌, ◌<◌, ◌≤◌, List, ◌++◌, length, ap, sym, ◌∙◌, subst, arith}
-use Rattle.module_ast.specs.Canonical.{module_bytes}
+use Rattle.module_ast.specs.Binary.{module_bytes}
 use Rattle.wasm_encode.specs.Outline.{front_bytes}
 use Rattle.instrument.specs.Made.{narrow_file}
 use Rattle.instrument.specs.Output.{output_bytes}

@@ -1,5 +1,5 @@
 use Rattle.std.proofs.Common.{◌≡◌, ◌++◌, drop, slice_get}
-use Rattle.module_ast.specs.Spaces.{funcs_of, imported_funcs}
+use Rattle.module_ast.specs.Structure.{funcs_of, imported_funcs}
 use Rattle.module_ast.proofs.module.Module.type_index.Given as goal
 
 abbrev pub invariant-loop-import : goal.invariant-loop-import

@@ -1,5 +1,5 @@
 use Rattle.std.proofs.Common.{◌≡◌, ◌+◌, ◌≤◌, drop, length}
-use Rattle.module_ast.specs.Spaces.{imported_funcs, imported_tables, imported_memories, imported_globals}
+use Rattle.module_ast.specs.Structure.{imported_funcs, imported_tables, imported_memories, imported_globals}
 use Rattle.module_ast.proofs.spaces.Counts.of_imports.Given as goal
 
 abbrev pub invariant-loop-import : goal.invariant-loop-import

@@ -1,6 +1,6 @@
 use Rattle.std.proofs.Common.{rules}
 use Rattle.leb_binary.proofs.Fronts.{one_unsigned}
-use Rattle.module_ast.specs.Grammar.{IsU32}
+use Rattle.module_ast.specs.Binary.{IsU32}
 use Rattle.module_ast.proofs.Compose.{both_some, both_none_first, both_none_second}
 use Rattle.name_map.specs.declared.Locals.{Locals}
 use Rattle.name_map.specs.NameMaps.{IsNameMap}

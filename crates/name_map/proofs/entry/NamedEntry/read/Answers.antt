@@ -1,7 +1,7 @@
 use Rattle.std.proofs.Common.{rules}
 use Rattle.leb_binary.specs.Leb.{IsName}
 use Rattle.leb_binary.proofs.Fronts.{one_unsigned}
-use Rattle.module_ast.specs.Grammar.{IsU32}
+use Rattle.module_ast.specs.Binary.{IsU32}
 use Rattle.module_ast.proofs.Compose.{both_some, both_none_first, both_none_second}
 use Rattle.name_map.specs.declared.Named.{Named}
 use Rattle.name_map.proofs.entry.NamedEntry.read.Goals as goal

@@ -1,6 +1,5 @@
 use Rattle.std.proofs.Common.{◌+◌, ◌++◌, ap, drop, arith}
-use Rattle.module_ast.specs.Tree.{weight}
-use Rattle.module_ast.specs.Seen.{code_of}
+use Rattle.module_ast.specs.Structure.{weight, code_of}
 use Rattle.branch_resolve.specs.Levels.{block_sizes}
 use Rattle.module_ast.proofs.Plains.{next_instr, weight_before}
 use Rattle.rewrite.proofs.SizesAlong.{at_instr}

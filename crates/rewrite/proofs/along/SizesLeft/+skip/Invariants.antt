@@ -1,6 +1,5 @@
 use Rattle.std.proofs.Common.{◌≡◌, ◌≤◌, ◌+◌, ◌*◌, ◌++◌, ℕ, List, drop}
-use Rattle.module_ast.specs.Tree.{weight, done}
-use Rattle.module_ast.specs.Seen.{before, code_of}
+use Rattle.module_ast.specs.Structure.{weight, done, before, code_of}
 use Rattle.branch_resolve.specs.Levels.{block_sizes}
 use Rattle.rewrite.proofs.along.SizesLeft.+skip.Given as goal
 

@@ -3,15 +3,13 @@ use Rattle.wasm_num.specs.declared.BlockKind.TheVariants as kinds
 use Rattle.branch_resolve.specs.declared.Block.{Block}
 use Rattle.branch_resolve.specs.Levels.{block_sizes}
 use Rattle.module_ast.specs.Lists.{when}
-use Rattle.module_ast.specs.Tree.{Tree, weight, done}
-use Rattle.module_ast.specs.Seen.{before, code_of}
-use Rattle.module_ast.specs.Positions.{code_size, ends_live, block_scope, loop_scope, if_scope, then_scope, else_scope}
+use Rattle.module_ast.specs.Structure.{Tree, weight, done, before, code_of, plains}
+use Rattle.module_ast.specs.Places.{code_size, ends_live, block_scope, loop_scope, if_scope, then_scope, else_scope}
 use Rattle.module_ast.proofs.Plains.{next_instr, weight_before, size_before}
 use Rattle.rewrite.proofs.SizesAlong.{at_instr, opened, both_opened, block_first, loop_first}
 use Rattle.index_remap.specs.Remap.{Maps, map_tree}
 use Rattle.index_remap.proofs.Along.{maps_parts}
 use Rattle.rewrite.specs.Setting.{remap}
-use Rattle.module_ast.specs.Plains.{plains}
 use Rattle.rewrite.specs.Templates.{tell_begin}
 use Rattle.rewrite_needs.specs.Temporaries.{open_temps, code_temps}
 use Rattle.rewrite.specs.Rewrite.{live_code}

@@ -1,8 +1,7 @@
 use Rattle.std.proofs.Common.{◌≡◌, ◌≤◌, ◌+◌, ◌*◌, ◌++◌, ℕ, drop, List, true}
-use Rattle.module_ast.specs.Tree.{weight, done}
-use Rattle.module_ast.specs.Seen.{before, code_of, onto}
+use Rattle.module_ast.specs.Structure.{weight, done, before, code_of, onto}
 use Rattle.module_ast.specs.Lists.{when}
-use Rattle.module_ast.specs.Positions.{Scope, code_size, ends_live}
+use Rattle.module_ast.specs.Places.{Scope, code_size, ends_live}
 use Rattle.branch_resolve.specs.Levels.{block_sizes}
 use Rattle.branch_resolve.specs.Scopes.{blocks_around}
 use Rattle.index_remap.specs.Remap.{Maps}

@@ -1,7 +1,6 @@
 use Rattle.std.proofs.Common.{◌≡◌, ◌∙◌, ◌∷◌, ap, sym, ◌++◌}
 use Rattle.std.proofs.lemmas.Result.{on_ok_weaker}
-use Rattle.module_ast.specs.Tree.{done}
-use Rattle.module_ast.specs.Seen.{onto}
+use Rattle.module_ast.specs.Structure.{done, onto}
 use Rattle.branch_resolve.specs.Scopes.{end_of}
 use Rattle.i64_split.specs.Pushing.{instrs}
 use Rattle.rewrite.specs.Live.{rest_code}

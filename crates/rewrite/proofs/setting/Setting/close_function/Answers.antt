@@ -2,9 +2,8 @@ use Rattle.std.proofs.Common.{◌≡◌, ◌∙◌, ◌++◌, ◌∷◌, [], ap,
 use Rattle.std.proofs.lemmas.Result.{on_ok_weaker}
 use Rattle.wasm_num.specs.declared.BlockKind.TheVariants as kinds
 use Rattle.module_ast.specs.Lists.{when}
-use Rattle.module_ast.specs.Positions.{function_scope}
-use Rattle.module_ast.specs.Seen.{onto}
-use Rattle.module_ast.specs.Tree.{done}
+use Rattle.module_ast.specs.Places.{function_scope}
+use Rattle.module_ast.specs.Structure.{onto, done}
 use Rattle.i64_split.specs.Pushing.{instrs}
 use Rattle.rewrite.specs.Templates.{tell_results}
 use Rattle.rewrite_needs.specs.Temporaries.{close_temps}

@@ -4,7 +4,7 @@ use Rattle.std.proofs.lemmas.Int.{to_z_pos}
 use Rattle.std.proofs.lemmas.Result.{on_ok_weaker}
 use Rattle.module_ast.specs.Lists.{when}
 use Rattle.module_ast.specs.declared.code.Instr.TheVariants.{BrIf}
-use Rattle.module_ast.specs.Seen.{onto, onto_push}
+use Rattle.module_ast.specs.Structure.{onto, onto_push}
 use Rattle.hook_select.specs.declared.GroupName.TheVariants as groups
 use Rattle.hook_select.specs.Groups.{has}
 use Rattle.hook_mono.specs.declared.HookKey.TheVariants as keys

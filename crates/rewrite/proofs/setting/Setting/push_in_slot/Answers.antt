@@ -1,6 +1,6 @@
 use Rattle.std.proofs.Common.{◌≡◌, List, ◌++◌, ◌∷◌, [], ◌∙◌, ap, pos, append_assoc}
 use Rattle.std.proofs.lemmas.Result.{on_ok_weaker}
-use Rattle.module_ast.specs.Tree.{Plain, local_set, local_get, call_indirect}
+use Rattle.module_ast.specs.Structure.{Plain, local_set, local_get, call_indirect}
 use Rattle.hook_mono.specs.declared.HookKey.TheVariants.{IndirectPre}
 use Rattle.i64_split.specs.Split.{save_code, word_code, words_code}
 use Rattle.i64_split.specs.Pushing.{instrs}

@@ -1,6 +1,6 @@
 use Rattle.std.proofs.Common.{refl, rules}
 use Rattle.std.proofs.lemmas.Result.{on_ok_weaker}
-use Rattle.module_ast.specs.Tree.{load}
+use Rattle.module_ast.specs.Structure.{load}
 use Rattle.rewrite.proofs.setting.Setting.push_load.Goals as goal
 
 pub returns : goal.returns

@@ -1,6 +1,6 @@
 use Rattle.std.proofs.Common.{List, ◌≡◌, ◌++◌}
 use Rattle.std.proofs.lemmas.Result.{on_ok_weaker}
-use Rattle.module_ast.specs.Positions.{Scope}
+use Rattle.module_ast.specs.Places.{Scope}
 use Rattle.branch_resolve.specs.Scopes.{blocks_around}
 use Rattle.i64_split.specs.Pushing.{instrs}
 use Rattle.rewrite.specs.Emitted.{template_of}

@@ -1,6 +1,6 @@
 use Rattle.std.proofs.Common.{refl, rules}
 use Rattle.std.proofs.lemmas.Result.{on_ok_weaker}
-use Rattle.module_ast.specs.Tree.{store}
+use Rattle.module_ast.specs.Structure.{store}
 use Rattle.rewrite.proofs.setting.Setting.push_stored.Goals as goal
 
 pub returns : goal.returns

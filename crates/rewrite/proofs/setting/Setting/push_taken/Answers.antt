@@ -1,8 +1,8 @@
 use Rattle.std.proofs.Common.{◌∙◌, ap, sym, ◌++◌, ◌∷◌, []}
 use Rattle.module_ast.specs.declared.code.BlockType.TheVariants.{Empty}
 use Rattle.module_ast.specs.declared.code.Instr.TheVariants.{If}
-use Rattle.module_ast.specs.Seen.{onto}
-use Rattle.module_ast.specs.Positions.{left_by}
+use Rattle.module_ast.specs.Structure.{onto}
+use Rattle.module_ast.specs.Places.{left_by}
 use Rattle.branch_resolve.specs.Scopes.{ends}
 use Rattle.i64_split.specs.Pushing.{instrs}
 use Rattle.rewrite.specs.Rewrite.{if_taken}

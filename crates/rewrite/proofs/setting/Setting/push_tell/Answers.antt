@@ -1,6 +1,6 @@
 use Rattle.std.proofs.Common.{◌≡◌, ◌++◌, ◌∷◌, [], map, rules}
 use Rattle.std.proofs.lemmas.Result.{on_ok_weaker}
-use Rattle.module_ast.specs.Tree.{i32_const, call}
+use Rattle.module_ast.specs.Structure.{i32_const, call}
 use Rattle.i64_split.specs.Split.{words_code}
 use Rattle.i64_split.specs.Pushing.{instrs}
 use Rattle.rewrite.specs.Setting.{constant, hook_index}

@@ -1,8 +1,8 @@
 use Rattle.std.proofs.Common.{◌∙◌, ap, sym, subst, true}
 use Rattle.wasm_num.specs.declared.BlockKind.TheVariants as kinds
-use Rattle.module_ast.specs.declared.module.Body.{Body}
+use Rattle.wasm_sem.specs.Types.{Body}
 use Rattle.module_ast.specs.Lists.{when}
-use Rattle.module_ast.specs.Positions.{ends_live}
+use Rattle.module_ast.specs.Places.{ends_live}
 use Rattle.rewrite.specs.Setting.{Setting}
 use Rattle.rewrite_needs.specs.Temporaries.{close_temps, code_temps}
 use Rattle.rewrite.specs.Emitted.{HasRoom}

@@ -1,6 +1,5 @@
 use Rattle.std.proofs.Common.{◌≡◌, ◌+◌, ◌*◌, ◌≤◌, drop}
-use Rattle.module_ast.specs.Seen.{before, code_of}
-use Rattle.module_ast.specs.Tree.{done, weight}
+use Rattle.module_ast.specs.Structure.{before, code_of, done, weight}
 use Rattle.rewrite_needs.specs.Room.{behind_code}
 use Rattle.rewrite_needs.proofs.pool.Measured.+measured.Given as goal
 

@@ -1,12 +1,10 @@
 use Rattle.std.proofs.Common.{◌≡◌, ◌+◌, ◌∙◌, List, Some, sym, ap, subst, arith}
-use Rattle.module_ast.specs.declared.module.Module.{Module}
-use Rattle.module_ast.specs.Marks.{Mark}
-use Rattle.module_ast.specs.Start.{is_start}
+use Rattle.wasm_sem.specs.Types.{Module, Counts}
+use Rattle.module_ast.specs.Places.{Mark}
+use Rattle.module_ast.specs.Structure.{is_start, SpaceTable}
 use Rattle.code_valid.proofs.Few.{entries_fit, imported_few}
 use Rattle.code_valid.proofs.Sizes.{few_positions, flat}
 use Rattle.hook_mono.specs.Needed.{import_count}
-use Rattle.module_ast.specs.declared.spaces.Counts.{Counts}
-use Rattle.module_ast.specs.Spaces.{SpaceTable}
 use Rattle.code_valid.specs.declared.marks.Marks.{Marks}
 use Rattle.rewrite_needs.specs.Rising.{MarksRiseFrom}
 use Rattle.rewrite_needs.proofs.Sites.{marks_rise, site_with, site_is}

@@ -1,5 +1,5 @@
 use Rattle.std.proofs.Common.{◌≡◌, ap, sym, ◌∙◌, subst, IfOk}
-use Rattle.wasm_sem.specs.Answers.{summary}
+use Rattle.wasm_sem.specs.Execution.{summary}
 use Rattle.wasm_run.specs.Running.{Run, configuration_of}
 use Rattle.run_session.specs.Sessions.{told_outcome, pending_in, pending_summary}
 use Rattle.run_session.proofs.Phases.{told_of}

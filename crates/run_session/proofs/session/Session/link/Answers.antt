@@ -1,5 +1,5 @@
 use Rattle.std.proofs.Common.{ap, sym, ◌∙◌, is_some}
-use Rattle.module_ast.specs.declared.module.Module.{Module}
+use Rattle.wasm_sem.specs.Types.{Module}
 use Rattle.wasm_run.specs.Running.{Run}
 use Rattle.run_session.proofs.Within.{opened_within}
 use Rattle.run_session.proofs.session.Session.link.Goals as goal

@@ -1,5 +1,5 @@
 use Rattle.std.proofs.Common.{ap, sym, ◌∙◌}
-use Rattle.wasm_sem.specs.Machine.{is_over}
+use Rattle.wasm_sem.specs.Execution.{is_over}
 use Rattle.wasm_run.specs.Running.{Run, configuration_of}
 use Rattle.run_session.proofs.Phases.{moment_so, pending_start, pending_call}
 use Rattle.run_session.proofs.session.Session.pending.Goals as goal

@@ -1,6 +1,6 @@
 use Rattle.std.proofs.Common.{◌∙◌, ◌+◌, ap, length, arith}
 use Rattle.std.proofs.lemmas.List.{drop_all, length-reverse}
-use Rattle.module_ast.specs.Typing.{push}
+use Rattle.module_ast.specs.Validation.{push}
 use Rattle.run_stack.specs.Flat.{Flat}
 use Rattle.run_stack.proofs.Stacks.{none_long}
 use Rattle.run_stack.proofs.stack.Stack.answer.Goals as goal

@@ -1,7 +1,7 @@
 use Rattle.std.proofs.Common.{◌≡◌, ◌+◌, ◌-◌, ◌∙◌, ap, sym, arith, get_or, length, subst}
 use Rattle.std.specs.Prelude.{slice_get, option_map}
 use Rattle.std.proofs.lemmas.List.{length-reverse}
-use Rattle.module_ast.specs.Seen.{code_of}
+use Rattle.module_ast.specs.Structure.{code_of}
 use Rattle.run_stack.specs.Flat.{Spot, Flat, Base, first_base}
 use Rattle.run_stack.proofs.Stacks.{spot_at, base_at}
 use Rattle.run_stack.proofs.stack.Stack.branch.Goals as goal

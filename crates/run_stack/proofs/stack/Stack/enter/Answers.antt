@@ -1,8 +1,8 @@
 use Rattle.std.proofs.Common.{◌∙◌, ap, sym, None}
-use Rattle.module_ast.specs.declared.module.Group.{Group}
-use Rattle.module_ast.specs.Validity.{declared_locals}
+use Rattle.wasm_sem.specs.Types.{Group}
+use Rattle.module_ast.specs.Validation.{declared_locals}
 use Rattle.std.specs.Prelude.{List, reverse, ◌++◌}
-use Rattle.wasm_sem.specs.Store.{zeros}
+use Rattle.wasm_sem.specs.Execution.{zeros}
 use Rattle.run_stack.specs.Flat.{opened}
 use Rattle.run_stack.proofs.Zeros.{count_zeros}
 use Rattle.run_stack.proofs.Stacks.{entered}

@@ -1,6 +1,6 @@
 use Rattle.std.proofs.Common.{◌∙◌}
 use Rattle.std.specs.Prelude.{reverse}
-use Rattle.module_ast.specs.Seen.{code_of}
+use Rattle.module_ast.specs.Structure.{code_of}
 use Rattle.run_stack.proofs.Stacks.{go_on_view}
 use Rattle.run_stack.proofs.stack.Stack.go_on.Goals as goal
 

@@ -1,8 +1,7 @@
 use Rattle.std.proofs.Common.{◌≡◌, ◌+◌, ◌-◌, ◌∙◌, ap, sym, arith, get_or, set, take, length, Some, None, subst}
 use Rattle.std.specs.Prelude.{reverse, vec_capacity, option_map}
 use Rattle.std.proofs.lemmas.List.{length-take-le, length-reverse}
-use Rattle.module_ast.specs.Tree.{Tree}
-use Rattle.module_ast.specs.Seen.{code_of}
+use Rattle.module_ast.specs.Structure.{Tree, code_of}
 use Rattle.run_stack.specs.Flat.{Spot, Flat, resumed, moved_spots}
 use Rattle.run_stack.proofs.Stacks.{land_view, resumed_spots}
 use Rattle.run_stack.proofs.stack.Stack.land.Goals as goal

@@ -1,6 +1,6 @@
 use Rattle.std.proofs.Common.{◌≡◌, length, refl, sym, subst, get_or}
 use Rattle.std.specs.Prelude.{option_map, reverse, vec_capacity}
-use Rattle.module_ast.specs.Seen.{code_of}
+use Rattle.module_ast.specs.Structure.{code_of}
 use Rattle.run_stack.specs.Flat.{Spot}
 use Rattle.run_stack.proofs.Stacks.{lowest_view}
 use Rattle.run_stack.proofs.stack.Stack.lowest_arity.Goals as goal

@@ -1,8 +1,8 @@
 use Rattle.std.proofs.Common.{◌≡◌, ◌∙◌, ◌+◌, ◌-◌, ◌<◌, ap, sym, subst, refl, List, ◌∷◌, [], ◌++◌, take, drop, length, arith, length-append}
 use Rattle.std.specs.Prelude.{reverse}
 use Rattle.std.proofs.lemmas.List.{length-reverse, take_more, reverse-append}
-use Rattle.wasm_num.specs.declared.Value.{Value}
-use Rattle.module_ast.specs.Typing.{push}
+use Rattle.wasm_sem.specs.Types.{Value}
+use Rattle.module_ast.specs.Validation.{push}
 use Rattle.run_stack.specs.Flat.{Flat}
 use Rattle.run_stack.proofs.Pushed.{push_more}
 use Rattle.ctrl_stack.proofs.Lists.{reverse-take}

@@ -1,6 +1,6 @@
 use Rattle.std.proofs.Common.{◌≡◌, ◌+◌, ◌-◌, take, length}
 use Rattle.std.specs.Prelude.{reverse}
-use Rattle.module_ast.specs.Typing.{push}
+use Rattle.module_ast.specs.Validation.{push}
 use Rattle.run_stack.proofs.stack.Stack.values_below.Given as goal
 
 -- those so far stand in turn on the lower ones

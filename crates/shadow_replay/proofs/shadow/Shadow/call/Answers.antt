@@ -1,7 +1,7 @@
 use Rattle.std.proofs.Common.{◌≡◌, ◌+◌, ◌∙◌, List, [], Some, IsSome, length, sym, ap, subst, arith}
 use Rattle.std.specs.Prelude.{option_map}
-use Rattle.module_ast.specs.declared.module.FuncType.{FuncType}
-use Rattle.wasm_sem.specs.Link.{callee_type}
+use Rattle.wasm_sem.specs.Types.{FuncType}
+use Rattle.wasm_sem.specs.Execution.{callee_type}
 use Rattle.shadow_replay.specs.declared.marked.Marked.{Marked}
 use Rattle.shadow_replay.specs.Shadow.{calls_callee}
 use Rattle.shadow_replay.specs.Stacked.{Standing, Has, exchanged, AreOperandsBelow}

@@ -1,7 +1,7 @@
 use Rattle.std.proofs.Common.{◌≡◌, ◌∙◌, ◌+◌, ◌∷◌, [], Some, IsSome, slice_get, get_or, length, option_and_then, sym, ap, subst}
 use Rattle.std.specs.Prelude.{option_map}
 use Rattle.wasm_num.specs.declared.ValType.TheVariants as types
-use Rattle.module_ast.specs.declared.module.Module.{Module}
+use Rattle.wasm_sem.specs.Types.{Module}
 use Rattle.shadow_replay.specs.Shadow.{calls_typed, swap}
 use Rattle.shadow_replay.specs.Stacked.{Standing, Has, exchanged, AreOperandsBelow}
 use Rattle.shadow_replay.specs.Taint.{exchange}

@@ -1,7 +1,6 @@
 use Rattle.std.proofs.Common.{◌≡◌, ◌∙◌, List, false, Some, None, IsSome, slice_get, refl, sym, ap, subst}
 use Rattle.std.specs.Prelude.{option_map}
-use Rattle.wasm_sem.specs.Link.{callees_of}
-use Rattle.wasm_sem.specs.Events.{entry}
+use Rattle.wasm_sem.specs.Execution.{callees_of, entry}
 use Rattle.shadow_replay.specs.declared.marked.Marked.{Marked}
 use Rattle.shadow_replay.specs.Shadow.{effect}
 use Rattle.shadow_replay.specs.Stacked.{Standing}

@@ -1,8 +1,8 @@
 use Rattle.std.proofs.Common.{◌≡◌, ◌≤◌, ◌∙◌, false, sym, ap, subst}
 use Rattle.std.proofs.lemmas.Result.{IfOk-weaker}
-use Rattle.module_ast.specs.declared.module.Module.{Module}
-use Rattle.module_ast.specs.Spaces.{memories_of}
-use Rattle.wasm_sem.specs.Link.{least_size, page_limit}
+use Rattle.wasm_sem.specs.Types.{Module}
+use Rattle.module_ast.specs.Structure.{memories_of}
+use Rattle.wasm_sem.specs.Execution.{least_size, page_limit}
 use Rattle.run_opening.proofs.Ranges.{begins_within}
 use Rattle.shadow_replay.specs.Opened.{opening_replay, replay_with}
 use Rattle.shadow_replay.specs.Replayed.{marked_values}

@@ -1,8 +1,8 @@
 use Rattle.std.proofs.Common.{◌∙◌, Some, refl, sym, ap, subst, rules, SFits, w32}
 use Rattle.std.proofs.lemmas.Int.{to_z-of_z}
 use Rattle.std.specs.Prelude.{option_map}
-use Rattle.module_ast.specs.declared.module.Module.{Module}
-use Rattle.module_ast.specs.Typing.{block_type}
+use Rattle.wasm_sem.specs.Types.{Module}
+use Rattle.module_ast.specs.Validation.{block_type}
 use Rattle.shadow_replay.specs.declared.blocks.Counts.{Counts}
 use Rattle.shadow_replay.specs.Shadow.{begins_block}
 use Rattle.shadow_replay.specs.Stacked.{Standing, Has, label_opened}

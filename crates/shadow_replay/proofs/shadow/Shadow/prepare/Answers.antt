@@ -2,9 +2,8 @@ use Rattle.std.proofs.Common.{◌≡◌, ◌∙◌, suc, length, Some, slice_get
 use Rattle.std.specs.Prelude.{option_map}
 use Rattle.std.proofs.lemmas.Option.{slice_get-map, slice_get_read}
 use Rattle.std.proofs.lemmas.Bool.{leb-true}
-use Rattle.module_ast.specs.declared.module.FuncType.{FuncType}
-use Rattle.wasm_sem.specs.Link.{callee_type, callees_of}
-use Rattle.wasm_sem.specs.Machine.{same_func_type}
+use Rattle.wasm_sem.specs.Types.{FuncType}
+use Rattle.wasm_sem.specs.Execution.{callee_type, callees_of, same_func_type}
 use Rattle.run_opening.specs.Resolved.{callee_for}
 use Rattle.shadow_replay.specs.Replayed.{Replay, Prepares}
 use Rattle.shadow_replay.proofs.ShadowEnters.{prepares_locals}

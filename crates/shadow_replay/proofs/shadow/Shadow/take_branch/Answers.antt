@@ -1,8 +1,8 @@
 use Rattle.std.proofs.Common.{◌≡◌, ◌∙◌, [], refl, sym, ap, subst}
 use Rattle.std.specs.Prelude.{option_map}
-use Rattle.hook_select.specs.declared.Event.{Event}
+use Rattle.wasm_sem.specs.Types.{Event}
 use Rattle.hook_select.specs.declared.Event.TheVariants as events
-use Rattle.wasm_sem.specs.Events.{event}
+use Rattle.wasm_sem.specs.Execution.{event}
 use Rattle.shadow_replay.specs.Stacked.{Standing, outer_count, exchanged}
 use Rattle.shadow_replay.specs.Replayed.{Replay, shadow_seen, TakesItem, IsFitEvent, HoldsValues, MovesStanding, with_standing, standing_in}
 use Rattle.shadow_replay.proofs.ShadowBranches.{on_ok_map, br_takes, branch_takes, taken_is, taken_fit, return_takes}

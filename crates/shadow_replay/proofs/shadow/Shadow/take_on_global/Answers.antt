@@ -1,10 +1,9 @@
 use Rattle.std.proofs.Common.{◌≡◌, ◌∙◌, refl, sym, ap, subst}
 use Rattle.std.specs.Prelude.{option_map, slice_set}
-use Rattle.hook_select.specs.declared.Event.{Event}
+use Rattle.wasm_sem.specs.Types.{Event, VarOp}
 use Rattle.hook_select.specs.declared.Event.TheVariants as events
-use Rattle.module_ast.specs.declared.ops.VarOp.{VarOp}
 use Rattle.module_ast.specs.declared.ops.VarOp.TheVariants.{Set}
-use Rattle.wasm_sem.specs.Events.{event}
+use Rattle.wasm_sem.specs.Execution.{event}
 use Rattle.shadow_replay.specs.declared.marked.Marked.{Marked}
 use Rattle.shadow_replay.specs.Replayed.{Replay, shadow_seen, TakesItem, IsFitEvent}
 use Rattle.shadow_replay.specs.Taint.{Watch}

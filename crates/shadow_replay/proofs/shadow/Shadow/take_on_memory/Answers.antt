@@ -1,9 +1,9 @@
 use Rattle.std.proofs.Common.{◌+◌, refl, sym, ap, subst, ◌∙◌}
 use Rattle.std.specs.Prelude.{option_map}
-use Rattle.module_ast.specs.Shapes.{load_width}
-use Rattle.hook_select.specs.declared.Event.{Event}
+use Rattle.module_ast.specs.Validation.{load_width}
+use Rattle.wasm_sem.specs.Types.{Event}
 use Rattle.hook_select.specs.declared.Event.TheVariants as events
-use Rattle.wasm_sem.specs.Events.{event}
+use Rattle.wasm_sem.specs.Execution.{event}
 use Rattle.shadow_replay.specs.Taint.{read_mark}
 use Rattle.shadow_replay.specs.Replayed.{Replay, shadow_seen, with_standing, TakesItem, IsFitEvent}
 use Rattle.shadow_replay.proofs.ShadowTakes.{takes, load_takes}

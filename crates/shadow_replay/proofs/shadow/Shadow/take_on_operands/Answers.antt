@@ -1,7 +1,7 @@
 use Rattle.std.proofs.Common.{sym, subst, refl}
-use Rattle.hook_select.specs.declared.Event.{Event}
+use Rattle.wasm_sem.specs.Types.{Event}
 use Rattle.hook_select.specs.declared.Event.TheVariants as events
-use Rattle.wasm_sem.specs.Events.{event}
+use Rattle.wasm_sem.specs.Execution.{event}
 use Rattle.shadow_replay.specs.Replayed.{TakesItem, IsFitEvent}
 use Rattle.shadow_replay.proofs.ShadowTakes.{number_takes}
 use Rattle.shadow_replay.proofs.shadow.Shadow.take_on_operands.Goals as goal

@@ -1,6 +1,6 @@
 use Rattle.std.proofs.Common.{arith, ℕ, List, subst, rules}
 use Rattle.leb_binary.proofs.Fronts.{one_unsigned}
-use Rattle.module_ast.specs.Grammar.{Both, ElementNode, CodeNode, IsU32, IsVec, IsExpr}
+use Rattle.module_ast.specs.Binary.{Both, ElementNode, CodeNode, IsU32, IsVec, IsExpr}
 use Rattle.module_ast.proofs.Compose.{both_none_first, both_none_second, both_some}
 use Rattle.code_decode.proofs.Unique.{one_expr}
 use Rattle.wasm_decode.specs.Makes.{element_by}

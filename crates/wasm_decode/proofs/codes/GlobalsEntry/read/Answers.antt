@@ -1,5 +1,5 @@
 use Rattle.std.proofs.Common.{arith, rules}
-use Rattle.module_ast.specs.Grammar.{GlobalNode, GlobalTypeNode, CodeNode, IsGlobalType, IsExpr}
+use Rattle.module_ast.specs.Binary.{GlobalNode, GlobalTypeNode, CodeNode, IsGlobalType, IsExpr}
 use Rattle.module_ast.proofs.Compose.{both_none_first, both_none_second, both_some}
 use Rattle.code_decode.proofs.Items.{one_global_type}
 use Rattle.wasm_decode.specs.Makes.{global_by}

@@ -1,7 +1,7 @@
 use Rattle.std.proofs.Common.{arith, ℕ, List, subst, rules}
 use Rattle.leb_binary.proofs.Fronts.{one_unsigned}
 use Rattle.leb_binary.specs.Reading.{IsByte}
-use Rattle.module_ast.specs.Grammar.{Both, SegmentNode, CodeNode, IsU32, IsVec, IsExpr}
+use Rattle.module_ast.specs.Binary.{Both, SegmentNode, CodeNode, IsU32, IsVec, IsExpr}
 use Rattle.module_ast.proofs.Compose.{both_none_first, both_none_second, both_some}
 use Rattle.code_decode.proofs.Unique.{one_expr}
 use Rattle.wasm_decode.specs.Makes.{segment_by}

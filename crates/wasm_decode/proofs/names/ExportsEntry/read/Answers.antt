@@ -3,7 +3,7 @@ use Rattle.leb_binary.specs.Texts.{Text}
 use Rattle.leb_binary.specs.Leb.{IsName}
 use Rattle.leb_binary.proofs.Fronts.{one_name}
 use Rattle.module_ast.specs.declared.module.ExportKind.{ExportKind}
-use Rattle.module_ast.specs.Grammar.{Both, IsU32, ExportNode, IsExportKind}
+use Rattle.module_ast.specs.Binary.{Both, IsU32, ExportNode, IsExportKind}
 use Rattle.module_ast.proofs.Compose.{both_none_first, both_none_second, both_some}
 use Rattle.code_decode.proofs.Items.{one_export_kind}
 use Rattle.wasm_decode.proofs.names.ExportsEntry.read.Goals as goal

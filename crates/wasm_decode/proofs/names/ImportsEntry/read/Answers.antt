@@ -2,7 +2,7 @@ use Rattle.std.proofs.Common.{ℕ, List, ap, arith, rules}
 use Rattle.leb_binary.specs.Texts.{Text}
 use Rattle.leb_binary.specs.Leb.{IsName}
 use Rattle.leb_binary.proofs.Fronts.{one_name}
-use Rattle.module_ast.specs.Grammar.{Both, ItemNode, ImportNode, IsItem}
+use Rattle.module_ast.specs.Binary.{Both, ItemNode, ImportNode, IsItem}
 use Rattle.module_ast.proofs.Compose.{both_none_first, both_none_second, both_some}
 use Rattle.wasm_decode.proofs.names.ImportsEntry.read.Goals as goal
 

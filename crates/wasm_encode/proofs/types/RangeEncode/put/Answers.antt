@@ -3,7 +3,7 @@ use Rattle.std.proofs.Common.{◌≡◌, ℕ, ◌∷◌, ◌++◌, None, Some, r
 use Rattle.std.proofs.lemmas.Result.{on_ok_weaker}
 use Rattle.leb_binary.specs.Shortest.{unsigned_bytes}
 use Rattle.module_ast.specs.declared.module.Range.{Range}
-use Rattle.module_ast.specs.Canonical.{limits_bytes}
+use Rattle.module_ast.specs.Binary.{limits_bytes}
 use Rattle.wasm_encode.proofs.Adding.{added_two, added_three}
 use Rattle.wasm_encode.proofs.types.RangeEncode.put.Goals as goal
 

@@ -3,7 +3,7 @@ use Rattle.std.specs.Prelude.{slice_index_or}
 use Rattle.std.proofs.lemmas.Option.{slice_get_read}
 use Rattle.wasm_sem.specs.declared.Call.{Call}
 use Rattle.wasm_sem.specs.declared.Script.{Script}
-use Rattle.wasm_sem.specs.Link.{Callee, instance}
+use Rattle.wasm_sem.specs.Execution.{Callee, instance}
 use Rattle.wasm_run.specs.Entries.{EntersWith}
 use Rattle.wasm_run.specs.Moves.{env_beside}
 use Rattle.wasm_run.specs.Progress.{IsStage, IsEntry}

@@ -1,6 +1,5 @@
 use Rattle.std.proofs.Common.{◌≡◌, ◌<◌, ◌∙◌, length, false, refl, ap, subst, arith, vec_capacity}
-use Rattle.wasm_sem.specs.Link.{instance}
-use Rattle.wasm_sem.specs.Machine.{is_over}
+use Rattle.wasm_sem.specs.Execution.{instance, is_over}
 use Rattle.wasm_run.specs.declared.progress.Progress.{Progress}
 use Rattle.wasm_run.specs.Moves.{env_beside, MayWant}
 use Rattle.wasm_run.specs.Progress.{IsStage, KeepsAnswers}

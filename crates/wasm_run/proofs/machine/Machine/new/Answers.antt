@@ -1,7 +1,6 @@
 use Rattle.std.proofs.Common.{◌≡◌, ◌∙◌, None, length, refl, sym, ap, subst, arith}
-use Rattle.module_ast.specs.declared.module.Module.{Module}
-use Rattle.wasm_sem.specs.Link.{instance}
-use Rattle.wasm_sem.specs.Machine.{first_phase, call_from}
+use Rattle.wasm_sem.specs.Types.{Module}
+use Rattle.wasm_sem.specs.Execution.{instance, first_phase, call_from}
 use Rattle.wasm_run.specs.declared.progress.Progress.{Progress}
 use Rattle.wasm_run.specs.Progress.{IsStage, AreCalled, KeepsAnswers}
 use Rattle.wasm_run.specs.Running.{Run}

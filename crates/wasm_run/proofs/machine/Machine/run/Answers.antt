@@ -1,5 +1,5 @@
 use Rattle.std.proofs.Common.{◌≡◌, ◌∙◌, Ok, false, sym, ap, subst, arith}
-use Rattle.wasm_sem.specs.Machine.{is_over}
+use Rattle.wasm_sem.specs.Execution.{is_over}
 use Rattle.wasm_run.specs.Moves.{MayWant}
 use Rattle.wasm_run.specs.Progress.{GoesOn}
 use Rattle.wasm_run.specs.Running.{Run, configuration_of}

@@ -1,7 +1,5 @@
 use Rattle.std.proofs.Common.{◌∙◌, false, sym, ap, subst}
-use Rattle.wasm_sem.specs.Answers.{turn_by, hook_in}
-use Rattle.wasm_sem.specs.Link.{instance}
-use Rattle.wasm_sem.specs.Trace.{items}
+use Rattle.wasm_sem.specs.Execution.{turn_by, hook_in, instance, items}
 use Rattle.wasm_run.specs.Moves.{MayWant}
 use Rattle.wasm_run.specs.Running.{Run, configuration_of}
 use Rattle.wasm_run.specs.Turns.{next_turn}

@@ -1,6 +1,6 @@
 use Rattle.std.proofs.Common.{sym, ap, subst}
-use Rattle.module_ast.specs.Seen.{code_of}
-use Rattle.wasm_sem.specs.Link.{hook, instance}
+use Rattle.module_ast.specs.Structure.{code_of}
+use Rattle.wasm_sem.specs.Execution.{hook, instance}
 use Rattle.wasm_run.specs.Moves.{RunsOn}
 use Rattle.wasm_run.specs.Reaching.{Reaches}
 use Rattle.wasm_run.specs.Running.{Run, one_more, configuration_of}

@@ -1,8 +1,8 @@
 use Rattle.std.proofs.Common.{◌≡◌, Some, None, suc, sym, ap, subst}
 use Rattle.std.specs.Prelude.{All}
-use Rattle.module_ast.specs.Seen.{code_of}
+use Rattle.module_ast.specs.Structure.{code_of}
 use Rattle.wasm_sem.specs.declared.HostAnswer.{HostAnswer}
-use Rattle.wasm_sem.specs.Link.{IsWriteInRange, host, instance}
+use Rattle.wasm_sem.specs.Execution.{IsWriteInRange, host, instance}
 use Rattle.wasm_run.specs.Answering.{answer_given}
 use Rattle.wasm_run.specs.Moves.{RunsOn}
 use Rattle.wasm_run.specs.Noting.{host_items, last_outside}

@@ -1,9 +1,7 @@
 use Rattle.std.proofs.Common.{◌≡◌, None, sym, ap, subst, arith, length}
 use Rattle.std.proofs.lemmas.List.{length-map}
-use Rattle.module_ast.specs.Seen.{code_of}
-use Rattle.module_ast.specs.Tree.{plain, call}
-use Rattle.wasm_sem.specs.Link.{instance}
-use Rattle.wasm_sem.specs.Machine.{Frame}
+use Rattle.module_ast.specs.Structure.{code_of, plain, call}
+use Rattle.wasm_sem.specs.Execution.{instance, Frame}
 use Rattle.wasm_run.specs.Reaching.{Reaches}
 use Rattle.run_opening.specs.Resolved.{callee_for, HasSize}
 use Rattle.wasm_run.specs.Running.{Run, configuration_of, Innermost}

@@ -1,6 +1,6 @@
 use Rattle.std.proofs.Common.{Some, None, ap, sym, subst}
-use Rattle.wasm_sem.specs.Link.{own, instance}
-use Rattle.module_ast.specs.Validity.{declared_locals}
+use Rattle.wasm_sem.specs.Execution.{own, instance}
+use Rattle.module_ast.specs.Validation.{declared_locals}
 use Rattle.wasm_run.specs.Entries.{EntersNext}
 use Rattle.wasm_run.specs.Moves.{RunsOn}
 use Rattle.run_opening.specs.Resolved.{IsSizeOf}

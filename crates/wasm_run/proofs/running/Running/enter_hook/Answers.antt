@@ -1,8 +1,7 @@
 use Rattle.std.proofs.Common.{◌∙◌, Some, None, ap, sym, subst}
 use Rattle.wasm_sem.specs.declared.Answer.TheVariants.{Returned}
-use Rattle.wasm_sem.specs.Link.{hook, instance}
-use Rattle.wasm_num.specs.declared.ValType.{ValType}
-use Rattle.wasm_sem.specs.Store.{values_of}
+use Rattle.wasm_sem.specs.Execution.{hook, instance, values_of}
+use Rattle.wasm_sem.specs.Types.{ValType}
 use Rattle.std.specs.Prelude.{List, []}
 use Rattle.wasm_run.specs.Entries.{EntersNext}
 use Rattle.wasm_run.specs.Moves.{EndsWith}

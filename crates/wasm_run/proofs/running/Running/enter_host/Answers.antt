@@ -1,15 +1,14 @@
 use Rattle.std.proofs.Common.{◌∙◌, List, Some, ap, sym, subst}
-use Rattle.wasm_num.specs.declared.ValType.{ValType}
+use Rattle.wasm_sem.specs.Types.{ValType}
 use Rattle.std.specs.Prelude.{All}
 use Rattle.wasm_sem.specs.declared.Answer.TheVariants.{Returned}
 use Rattle.wasm_sem.specs.declared.HostAnswer.{HostAnswer}
-use Rattle.wasm_sem.specs.Link.{host, instance, IsWriteInRange}
+use Rattle.wasm_sem.specs.Execution.{host, instance, IsWriteInRange, values_of}
 use Rattle.wasm_run.specs.Answering.{answer_given}
 use Rattle.wasm_run.specs.Entries.{EntersNext}
 use Rattle.wasm_run.specs.Moves.{EndsWith}
 use Rattle.wasm_run.specs.Running.{Run, one_more, configuration_of}
 use Rattle.wasm_run.proofs.Answered.{answer_in_range}
-use Rattle.wasm_sem.specs.Store.{values_of}
 use Rattle.wasm_run.proofs.Noting.{step_note, host_noted}
 use Rattle.wasm_run.proofs.Entered.{host_ends, host_running, host_counted}
 use Rattle.wasm_run.proofs.Moments.{wants}

@@ -1,8 +1,8 @@
 use Rattle.std.proofs.Common.{Some, None, ap, sym, subst}
-use Rattle.module_ast.specs.Seen.{code_of}
-use Rattle.module_ast.specs.Validity.{declared_locals}
+use Rattle.module_ast.specs.Structure.{code_of}
+use Rattle.module_ast.specs.Validation.{declared_locals}
 use Rattle.wasm_sem.specs.declared.Answer.TheVariants.{Trapped}
-use Rattle.wasm_sem.specs.Link.{own, instance}
+use Rattle.wasm_sem.specs.Execution.{own, instance}
 use Rattle.run_stack.specs.Flat.{Flat}
 use Rattle.wasm_run.specs.Moves.{RunsOn, EndsWith, MayWant}
 use Rattle.wasm_run.specs.Reaching.{Reaches}

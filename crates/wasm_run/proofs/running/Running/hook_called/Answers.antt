@@ -1,5 +1,5 @@
-use Rattle.module_ast.specs.Seen.{code_of}
-use Rattle.wasm_sem.specs.Link.{instance}
+use Rattle.module_ast.specs.Structure.{code_of}
+use Rattle.wasm_sem.specs.Execution.{instance}
 use Rattle.run_opening.specs.Resolved.{callee_for}
 use Rattle.wasm_run.specs.Running.{configuration_of}
 use Rattle.wasm_run.proofs.Hooks.{nothing_told, none_told, on_err}

@@ -1,9 +1,6 @@
 use Rattle.std.proofs.Common.{◌≡◌, ◌∙◌, Some, None, ap, sym, subst}
-use Rattle.wasm_num.specs.declared.ValType.{ValType}
-use Rattle.wasm_sem.specs.Answers.{hook_in}
-use Rattle.wasm_sem.specs.Link.{hook, instance}
-use Rattle.wasm_sem.specs.Store.{values_of}
-use Rattle.wasm_sem.specs.Trace.{items}
+use Rattle.wasm_sem.specs.Types.{ValType}
+use Rattle.wasm_sem.specs.Execution.{hook_in, hook, instance, values_of, items}
 use Rattle.std.specs.Prelude.{List}
 use Rattle.wasm_run.specs.Entries.{EntersNext}
 use Rattle.wasm_run.specs.Running.{Run, configuration_of}

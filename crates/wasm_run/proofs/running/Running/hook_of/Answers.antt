@@ -1,9 +1,7 @@
 use Rattle.std.proofs.Common.{◌≡◌, ◌+◌, ◌≤◌, Some, None, length, List, ap, sym, subst}
-use Rattle.module_ast.specs.Seen.{code_of}
-use Rattle.wasm_num.specs.declared.ValType.{ValType}
-use Rattle.wasm_sem.specs.Answers.{hook_in}
-use Rattle.wasm_sem.specs.Link.{hook, instance}
-use Rattle.wasm_sem.specs.Trace.{items}
+use Rattle.module_ast.specs.Structure.{code_of}
+use Rattle.wasm_sem.specs.Types.{ValType}
+use Rattle.wasm_sem.specs.Execution.{hook_in, hook, instance, items}
 use Rattle.run_stack.specs.Below.{IsBelow}
 use Rattle.wasm_run.specs.Reaching.{Reaches}
 use Rattle.run_opening.specs.Resolved.{callee_for}

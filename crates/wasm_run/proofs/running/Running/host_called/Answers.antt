@@ -1,10 +1,8 @@
 use Rattle.std.proofs.Common.{◌≡◌, ◌∙◌, ◌+◌, ◌≤◌, List, [], ◌∷◌, length, suc, Some, Ok, Err, Result, ap, sym, subst}
 use Rattle.std.specs.Prelude.{IfOk}
 use Rattle.std.specs.declared.alloc.AllocError.{AllocError}
-use Rattle.wasm_num.specs.declared.ValType.{ValType}
-use Rattle.wasm_sem.specs.Events.{host_call}
-use Rattle.wasm_sem.specs.Link.{host, instance}
-use Rattle.wasm_sem.specs.Store.{values_of, answer_at, writes_done}
+use Rattle.wasm_sem.specs.Types.{ValType}
+use Rattle.wasm_sem.specs.Execution.{host_call, host, instance, values_of, answer_at, writes_done}
 use Rattle.wasm_run.specs.declared.note.HostNote.{HostNote}
 use Rattle.wasm_run.specs.Answering.{answer_given}
 use Rattle.run_stack.specs.Below.{IsBelow}

@@ -1,13 +1,11 @@
 use Rattle.std.proofs.Common.{◌≡◌, ◌∙◌, ◌<◌, Some, true, false, List, [], slice_get, length, sym, ap, subst}
 use Rattle.std.specs.Prelude.{slice_index_or}
 use Rattle.std.proofs.lemmas.Option.{slice_get_read}
-use Rattle.module_ast.specs.declared.module.FuncType.{FuncType}
-use Rattle.module_ast.specs.Seen.{code_of}
+use Rattle.wasm_sem.specs.Types.{FuncType}
+use Rattle.module_ast.specs.Structure.{code_of}
 use Rattle.wasm_sem.specs.declared.Trap.TheVariants.{WrongType}
 use Rattle.wasm_sem.specs.Laws.{slots_in}
-use Rattle.wasm_sem.specs.Link.{callee_type, callees_of, instance}
-use Rattle.wasm_sem.specs.Machine.{same_func_type, step, traps}
-use Rattle.wasm_sem.specs.Trace.{told_items}
+use Rattle.wasm_sem.specs.Execution.{callee_type, callees_of, instance, same_func_type, step, traps, told_items}
 use Rattle.wasm_run.specs.Reaching.{Reaches, IsAtSlot}
 use Rattle.run_opening.specs.Resolved.{callee_for}
 use Rattle.wasm_run.specs.Running.{Run, configuration_of, Innermost}

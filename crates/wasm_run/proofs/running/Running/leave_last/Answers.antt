@@ -1,6 +1,6 @@
 use Rattle.std.proofs.Common.{◌+◌, ◌≤◌, length, refl, sym, ap, subst}
 use Rattle.wasm_sem.specs.declared.Answer.TheVariants.{Returned}
-use Rattle.wasm_sem.specs.Link.{instance}
+use Rattle.wasm_sem.specs.Execution.{instance}
 use Rattle.run_stack.specs.Below.{IsBelow}
 use Rattle.run_stack.specs.Flat.{Flat}
 use Rattle.run_stack.specs.Leaving.{LeavesLast}

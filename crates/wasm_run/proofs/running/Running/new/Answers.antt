@@ -1,7 +1,7 @@
 use Rattle.std.proofs.Common.{◌≤◌, sym, subst}
-use Rattle.module_ast.specs.declared.module.Module.{Module}
-use Rattle.module_ast.specs.Spaces.{memories_of}
-use Rattle.wasm_sem.specs.Link.{least_size, page_limit}
+use Rattle.wasm_sem.specs.Types.{Module}
+use Rattle.module_ast.specs.Structure.{memories_of}
+use Rattle.wasm_sem.specs.Execution.{least_size, page_limit}
 use Rattle.run_opening.proofs.Ranges.{begins_within}
 use Rattle.wasm_run.proofs.running.Running.new.Goals as goal
 

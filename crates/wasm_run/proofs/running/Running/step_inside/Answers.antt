@@ -1,6 +1,6 @@
 use Rattle.std.proofs.Common.{◌+◌, ◌<◌, Ok, Err, sym, ap, subst}
 use Rattle.wasm_sem.specs.declared.Answer.TheVariants.{Trapped}
-use Rattle.wasm_sem.specs.Link.{instance}
+use Rattle.wasm_sem.specs.Execution.{instance}
 use Rattle.run_stack.specs.Advances.{IsAtGrow, GoesAtNoCall}
 use Rattle.run_stack.specs.Flat.{Flat, first_rest}
 use Rattle.run_stack.specs.Leaving.{LeavesLast}

@@ -1,7 +1,6 @@
 use Rattle.std.proofs.Common.{◌≡◌, ◌∙◌, sym, subst}
 use Rattle.wasm_sem.specs.Laws.{slots_in}
-use Rattle.wasm_sem.specs.Link.{instance}
-use Rattle.wasm_sem.specs.Machine.{opening_configuration}
+use Rattle.wasm_sem.specs.Execution.{instance, opening_configuration}
 use Rattle.wasm_sem.proofs.Ended.{slots_stay}
 use Rattle.wasm_run.specs.Running.{Run, configuration_of}
 use Rattle.wasm_run.proofs.running.Running.table.Goals as goal

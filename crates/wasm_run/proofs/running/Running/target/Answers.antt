@@ -1,7 +1,6 @@
 use Rattle.std.proofs.Common.{◌≡◌, ◌-◌, take, drop, length, sym, subst}
-use Rattle.module_ast.specs.Seen.{before, code_of}
-use Rattle.module_ast.specs.Tree.{Tree}
-use Rattle.wasm_sem.specs.Machine.{Frame}
+use Rattle.module_ast.specs.Structure.{before, code_of, Tree}
+use Rattle.wasm_sem.specs.Execution.{Frame}
 use Rattle.wasm_run.specs.Running.{Run, configuration_of, IsInside, Innermost}
 use Rattle.wasm_run.proofs.Moments.{label_there, place_there}
 use Rattle.wasm_run.proofs.Targets.{first_before}

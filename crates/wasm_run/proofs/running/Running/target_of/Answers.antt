@@ -1,4 +1,4 @@
-use Rattle.module_ast.specs.Seen.{code_of}
+use Rattle.module_ast.specs.Structure.{code_of}
 use Rattle.wasm_run.specs.Running.{configuration_of}
 use Rattle.wasm_run.proofs.Targets.{no_call_there}
 use Rattle.wasm_run.proofs.running.Running.target_of.Goals as goal

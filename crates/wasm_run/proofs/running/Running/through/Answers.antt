@@ -1,12 +1,9 @@
 use Rattle.std.proofs.Common.{◌≡◌, ◌∙◌, Some, List, [], ◌++◌, slice_get, sym, ap, subst}
 use Rattle.std.specs.Prelude.{ℕ, Option}
-use Rattle.module_ast.specs.Seen.{code_of}
-use Rattle.module_ast.specs.Tree.{plain, call_indirect}
+use Rattle.module_ast.specs.Structure.{code_of, plain, call_indirect}
 use Rattle.wasm_sem.specs.declared.Trap.TheVariants.{NoSlot, EmptySlot}
 use Rattle.wasm_sem.specs.Laws.{slots_in}
-use Rattle.wasm_sem.specs.Link.{instance}
-use Rattle.wasm_sem.specs.Machine.{Frame, step, traps, opening_configuration}
-use Rattle.wasm_sem.specs.Trace.{told_items}
+use Rattle.wasm_sem.specs.Execution.{instance, Frame, step, traps, opening_configuration, told_items}
 use Rattle.wasm_sem.proofs.Ended.{slots_stay}
 use Rattle.run_stack.specs.Kept.{under}
 use Rattle.wasm_run.specs.Reaching.{IsAtSlot}

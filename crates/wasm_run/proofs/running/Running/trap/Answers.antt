@@ -1,6 +1,5 @@
 use Rattle.std.proofs.Common.{◌≡◌, ap, sym, subst}
-use Rattle.wasm_sem.specs.Link.{instance}
-use Rattle.wasm_sem.specs.Machine.{step, traps}
+use Rattle.wasm_sem.specs.Execution.{instance, step, traps}
 use Rattle.wasm_sem.specs.declared.Answer.TheVariants.{Trapped}
 use Rattle.run_stack.specs.Flat.{Flat}
 use Rattle.wasm_run.specs.Moves.{EndsWith}

@@ -1,8 +1,8 @@
 -- 5 No bytes of a module are fewer than its canonical bytes.
 use Rattle.std.specs.Prelude.{ℕ, ◌≤◌, List, length}
 use Rattle.module_ast.specs.declared.module.Module.{Module}
-use Rattle.module_ast.specs.Canonical.{module_bytes}
-use Rattle.module_ast.specs.Decoding.{Gram}
+use Rattle.module_ast.specs.Binary.Canonical.{module_bytes}
+use Rattle.module_ast.specs.Binary.Decoding.{Gram}
 
 -- whatever spells a module is at least as long as its canonical bytes
 abbrev pub CanonicalBytesAreShortest : Type 0
