@@ -25,7 +25,7 @@ def specs():
 
 def imports_of(text):
     names = {}
-    for match in re.finditer(r"^\s*(?:ghost |pub )?use Rattle\.(\w+)\.specs\.([\w.]+?)\.\{([^}]*)\}", text, re.M):
+    for match in re.finditer(r"^\s*(?:ghost |(?:unfoldable )?pub )?use Rattle\.(\w+)\.specs\.([\w.]+?)\.\{([^}]*)\}", text, re.M):
         for item in match[3].split(","):
             parts = item.split()
             if parts:  # a constructor stands for its type
@@ -41,11 +41,11 @@ def parse(crate, file, text):
     found, current = {}, None
     for line in text.split("\n"):
         match = START.match(line)
-        if match and not re.match(r"pub (mod|use) ", line):
+        if match and not re.match(r"(unfoldable )?pub (mod|use) ", line):
             name = match[1] or match[2]
             current = name
             found.setdefault(name, [])
-        elif re.match(r"^((pub )?use |--)", line):
+        elif re.match(r"^(((unfoldable )?pub )?use |--)", line):
             continue
         if current:
             found[current].append(re.split(r"(?:^|\s)-- ", line)[0])
@@ -60,12 +60,18 @@ for crate, file, text in specs():
         if not re.match(r"(\w+ )?pub ", body):
             private.add((crate, file, name))
 
+def defined(key):
+    """Where a name is defined that a file has, or passes on."""
+    while key not in definitions and key[2] in scopes.get(key[:2], ({},))[0]:
+        key = scopes[key[:2]][0][key[2]]
+    return key
+
 def reached_by(crate, file, body, names, aliases):
     for token in TOKEN.findall(body):
         if (crate, file, token) in definitions:
             yield crate, file, token
-        elif token in names and names[token] in definitions:
-            yield names[token]
+        elif token in names and defined(names[token]) in definitions:
+            yield defined(names[token])
     for match in re.finditer(r"\b(\w+)\.(\w+)", body):
         if match[1] in aliases and (*aliases[match[1]], match[2]) in definitions:
             yield (*aliases[match[1]], match[2])
