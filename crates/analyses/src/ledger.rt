@@ -14,7 +14,7 @@ use std::marker::Model;
 use wasm_num::NoMemory;
 
 // What a row is about.
-#[derive(Clone, Copy, Debug, PartialEq, Eq, PartialOrd, Ord)]
+#[derive(Clone, Copy, PartialEq, Eq, PartialOrd, Ord)]
 pub struct Heading {
     pub func: u32,
     pub instr: i32,
@@ -23,7 +23,7 @@ pub struct Heading {
 }
 
 // How often it came, and for memory the least and the greatest address.
-#[derive(Clone, Copy, Debug)]
+#[derive(Clone, Copy)]
 pub struct Totals {
     pub count: u64,
     pub least: u64,

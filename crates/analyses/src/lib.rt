@@ -11,7 +11,7 @@ pub use crate::analysis::Analysis;
 pub use crate::tools::{Blocks, Branches, CallGraph, MemoryUse};
 
 /// What an analysis counts.
-#[derive(Clone, Copy, Debug, PartialEq, Eq)]
+#[derive(Clone, Copy, PartialEq, Eq)]
 pub enum Kind {
     /// Begins of blocks.
     Blocks,
@@ -25,7 +25,7 @@ pub enum Kind {
 
 /// A row of a book: the function and the position of what it counts, a tag and a number beside it that say which, how often it
 /// came, and of memory the least and the greatest effective address, which are 0 else.
-#[derive(Clone, Copy, Debug, PartialEq, Eq)]
+#[derive(Clone, Copy, PartialEq, Eq)]
 pub struct Row {
     pub func: u32,
     pub instr: i32,

@@ -7,7 +7,7 @@ ghost use Rattle.hook_select.specs.Groups.{pieces};
 use analyses::Kind;
 
 /// A set of kinds of reports.
-#[derive(Clone, Copy, Debug, PartialEq, Eq)]
+#[derive(Clone, Copy, PartialEq, Eq)]
 pub struct Kinds {
     blocks: bool,
     branches: bool,

@@ -4,7 +4,7 @@ use crate::Block;
 use module_ast::code::Instr;
 
 /// What stands at a position.
-#[derive(Clone, Copy, Debug)]
+#[derive(Clone, Copy)]
 pub enum Opcode<'m> {
     /// The entry of the function.
     Enters,
@@ -24,7 +24,7 @@ pub enum Opcode<'m> {
 
 /// A place of a body: its position, -1 at the entry of the function and counted from 0 at opcodes in the order of the
 /// bytes, `else` and `end` included; whether it is live (Standard, 3.3.5); and what stands there.
-#[derive(Clone, Copy, Debug)]
+#[derive(Clone, Copy)]
 pub struct Place<'m> {
     pub position: i32,
     pub live: bool,

@@ -54,7 +54,7 @@ fn note_sizes(code: &Code, sizes: &mut Vec<u32>) -> Result<u32, AllocError>
 
 /// The size of a sequence, and those of the blocks in it in the order of their opcodes: how many positions stand between
 /// the opcode and its end. An `if` has two with an `else`.
-#[derive(Debug, Drop)]
+#[derive(Drop)]
 pub struct Sizes {
     pub whole: u32,
     pub inside: Seq<u32>,

@@ -12,7 +12,7 @@ use std::alloc::AllocError;
 use wasm_num::BlockKind;
 
 // A block, a side of an `if`, or the function: where it begins, where its end stands, and where a branch to it leads.
-#[derive(Clone, Copy, Debug)]
+#[derive(Clone, Copy)]
 pub struct Sequence {
     pub kind: BlockKind,
     pub begin: i32,
@@ -36,14 +36,14 @@ impl Sequence {
 }
 
 // The else part that follows a then part.
-#[derive(Clone, Copy, Debug)]
+#[derive(Clone, Copy)]
 pub struct Other<'m> {
     pub part: Sequence,
     pub code: &'m [Instr],
 }
 
 // A sequence, from inside: whether its block is live, an else part that follows, and the instructions behind the block.
-#[derive(Clone, Copy, Debug)]
+#[derive(Clone, Copy)]
 pub struct Level<'m> {
     pub part: Sequence,
     pub live: bool,
@@ -53,7 +53,7 @@ pub struct Level<'m> {
 
 // Where a walk is: the rest of the innermost sequence, the sequences around it, outermost first, and the sizes of the
 // blocks in the whole body, those from `unused` on of blocks that it has not come to.
-#[derive(Debug, Drop)]
+#[derive(Drop)]
 pub struct Steps<'m> {
     pub rest: &'m [Instr],
     pub position: u32,

@@ -18,7 +18,7 @@ use wasm_num::BlockKind;
 
 /// A walk over the places of a body, from the entry of its function to its last `end`, in the order of the bytes. It takes
 /// time in proportion to the code. Contracts see the places that it has left, and the blocks around the one read last.
-#[derive(Debug, Drop)]
+#[derive(Drop)]
 pub struct Walk<'m> {
     steps: Steps<'m>,
     scopes: Scopes,

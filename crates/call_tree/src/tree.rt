@@ -33,7 +33,7 @@ impl From<AllocError> for TreeFault {
 }
 
 // A begin that is open.
-#[derive(Clone, Copy, Debug)]
+#[derive(Clone, Copy)]
 pub struct Open {
     pub func: u32,
     pub kind: BlockKind,

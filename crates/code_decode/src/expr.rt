@@ -15,7 +15,7 @@ use module_ast::code::{Code, Instr};
 use std::alloc::{AllocError, Global};
 
 /// An expression that was read: its tree, or that it has a floating node, or its nesting where that is above the bound.
-#[derive(Debug, Drop)]
+#[derive(Drop)]
 pub enum Expr {
     Built(Code),
     Floats,

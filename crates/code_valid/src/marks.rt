@@ -6,7 +6,7 @@ use wasm_num::ValType;
 
 /// The type of what a live `drop` drops or a live `select` leaves, and the position of it in its body. (Standard,
 /// 3.3.2)
-#[derive(Clone, Copy, Debug, PartialEq, Eq)]
+#[derive(Clone, Copy, PartialEq, Eq)]
 pub struct Mark {
     pub pos: u32,
     pub ty: ValType,
@@ -24,7 +24,7 @@ impl Model for Mark {
 
 /// The marks of a body, in rising order, and its height: the most operands at a live place, those under open blocks
 /// counted.
-#[derive(Debug, Drop)]
+#[derive(Drop)]
 pub struct Marks {
     pub types: Seq<Mark>,
     pub height: u64,

@@ -11,7 +11,7 @@ use wasm_num::NoMemory;
 
 /// The body of a defined function that the rules of typing type, in a module that is whole and keeps the rules, with the
 /// marks, the height and the sizes of blocks that it has. (Standard, 3.4.1)
-#[derive(Debug, Drop)]
+#[derive(Drop)]
 pub struct TypedBody<'m> {
     module: &'m Module,
     spaces: &'m Spaces,

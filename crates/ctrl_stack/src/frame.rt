@@ -7,7 +7,7 @@ use std::marker::Model;
 use wasm_num::{BlockKind, ValType};
 
 /// Types in order, which contracts see as a list.
-#[derive(Debug, Drop)]
+#[derive(Drop)]
 pub struct Types {
     items: Vec<ValType>,
 }
@@ -39,7 +39,7 @@ impl Types {
 
 /// An open block: the types that it begins and ends with, how many operands stand below it, and whether the rest of its
 /// code is never reached. (Standard, Appendix, Validation Algorithm)
-#[derive(Debug, Drop)]
+#[derive(Drop)]
 pub struct Frame {
     pub kind: BlockKind,
     pub starts: Types,

@@ -42,7 +42,7 @@ impl<T: Drop> From<AllocFailed<T>> for StackFault {
 /// The open blocks of a body and the types of its operands, which contracts see as two lists: the frames, innermost
 /// first, and the operands of all of them, topmost first. An operand that code behind a branch may have is of unknown
 /// type. After an `Err` it is as before the call. (Standard, Appendix, Validation Algorithm)
-#[derive(Debug, Drop)]
+#[derive(Drop)]
 pub struct CtrlStack {
     frames: Vec<Frame>,
     operands: Vec<Option<ValType>>,

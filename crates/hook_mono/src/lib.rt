@@ -22,7 +22,7 @@ pub const HOOK_MODULE: &str = "__wasabi_hooks";
 
 /// What a hook is for. `Plain` stands for start, nop, unreachable, if, br, br_if, br_table, memory_size and memory_grow
 /// alone, and a global has no `Tee`.
-#[derive(Debug, Drop)]
+#[derive(Drop)]
 pub enum HookKey {
     Plain(GroupName),
     Begin(BlockKind),

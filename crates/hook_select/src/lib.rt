@@ -12,7 +12,7 @@ use module_ast::ops::{LoadOp, StoreOp, VarOp};
 use wasm_num::{BlockKind, NumOp, Value, Values};
 
 /// The groups of hooks, in their fixed order.
-#[derive(Clone, Copy, Debug, PartialEq, Eq)]
+#[derive(Clone, Copy, PartialEq, Eq)]
 pub enum GroupName {
     Start,
     Nop,
@@ -202,7 +202,7 @@ pub enum Event {
 }
 
 /// A set of groups: a flag for each.
-#[derive(Clone, Copy, Debug, PartialEq, Eq)]
+#[derive(Clone, Copy, PartialEq, Eq)]
 pub struct Hooks {
     pub start: bool,
     pub nop: bool,

@@ -15,7 +15,7 @@ use std::alloc::{AllocError, Global};
 use wasm_num::ValType;
 
 /// The temporaries of a body: from local `base` on, first `ints` of type i32, then `longs` of type i64.
-#[derive(Clone, Copy, Debug, PartialEq, Eq)]
+#[derive(Clone, Copy, PartialEq, Eq)]
 pub struct Pool {
     pub base: u32,
     pub ints: u32,
@@ -23,7 +23,7 @@ pub struct Pool {
 }
 
 /// A temporary: its type, and its number among the locals.
-#[derive(Clone, Copy, Debug, PartialEq, Eq)]
+#[derive(Clone, Copy, PartialEq, Eq)]
 pub struct Temp {
     pub ty: ValType,
     pub local: u32,

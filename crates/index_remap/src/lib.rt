@@ -11,7 +11,7 @@ ghost use Rattle.std.specs.Prelude.{◌≡◌, ◌+◌, ◌^◌, ◌<◌};
 pub use crate::copies::{DeepCopy, copy_list, copy_parts};
 
 /// An index below `imports` stays, any other rises by `added`.
-#[derive(Clone, Copy, Debug, PartialEq, Eq)]
+#[derive(Clone, Copy, PartialEq, Eq)]
 pub struct Remap {
     pub imports: u32,
     pub added: u32,

@@ -7,7 +7,7 @@ use std::marker::Model;
 use std::mem::size_of;
 
 /// Labels in order, which contracts see as a list. It is as large as a pointer, so that an instruction stays small.
-#[derive(Debug, Drop)]
+#[derive(Drop)]
 pub struct Labels {
     items: Box<Vec<u32>>,
 }

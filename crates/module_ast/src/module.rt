@@ -8,28 +8,28 @@ use crate::seq::Seq;
 use wasm_num::ValType;
 
 /// The parameters and results of a function. (Standard, 2.3.3)
-#[derive(Debug, Drop)]
+#[derive(Drop)]
 pub struct FuncType {
     pub params: Seq<ValType>,
     pub results: Seq<ValType>,
 }
 
 /// The size of a table, in slots, or of a memory, in pages of 65,536 bytes. (Standard, 2.3.4)
-#[derive(Clone, Copy, Debug, PartialEq, Eq)]
+#[derive(Clone, Copy)]
 pub struct Range {
     pub min: u32,
     pub max: Option<u32>,
 }
 
 /// (Standard, 2.3.7)
-#[derive(Clone, Copy, Debug, PartialEq, Eq)]
+#[derive(Clone, Copy)]
 pub struct GlobalType {
     pub ty: ValType,
     pub mutable: bool,
 }
 
 /// What is imported: a function by its type's index, a table, a memory or a global. (Standard, 2.5.11)
-#[derive(Clone, Copy, Debug, PartialEq, Eq)]
+#[derive(Clone, Copy)]
 pub enum Item {
     Func(u32),
     Table(Range),
@@ -37,7 +37,7 @@ pub enum Item {
     Global(GlobalType),
 }
 
-#[derive(Debug, Drop)]
+#[derive(Drop)]
 pub struct Import {
     pub module: Name,
     pub name: Name,
@@ -45,13 +45,13 @@ pub struct Import {
 }
 
 /// (Standard, 2.5.6)
-#[derive(Debug, Drop)]
+#[derive(Drop)]
 pub struct GlobalDef {
     pub ty: GlobalType,
     pub init: Code,
 }
 
-#[derive(Clone, Copy, Debug, PartialEq, Eq)]
+#[derive(Clone, Copy, PartialEq, Eq)]
 pub enum ExportKind {
     Func,
     Table,
@@ -60,7 +60,7 @@ pub enum ExportKind {
 }
 
 /// (Standard, 2.5.10)
-#[derive(Debug, Drop)]
+#[derive(Drop)]
 pub struct Export {
     pub name: Name,
     pub kind: ExportKind,
@@ -68,7 +68,7 @@ pub struct Export {
 }
 
 /// Functions for the slots of a table from an offset on. (Standard, 2.5.7)
-#[derive(Debug, Drop)]
+#[derive(Drop)]
 pub struct Element {
     pub table: u32,
     pub offset: Code,
@@ -76,7 +76,7 @@ pub struct Element {
 }
 
 /// Bytes for a memory from an offset on. (Standard, 2.5.8)
-#[derive(Debug, Drop)]
+#[derive(Drop)]
 pub struct Segment {
     pub memory: u32,
     pub offset: Code,
@@ -84,14 +84,14 @@ pub struct Segment {
 }
 
 /// So many locals of one type, as a body lists them. (Standard, 5.4.6)
-#[derive(Clone, Copy, Debug, PartialEq, Eq)]
+#[derive(Clone, Copy, PartialEq, Eq)]
 pub struct Group {
     pub count: u32,
     pub ty: ValType,
 }
 
 /// (Standard, 2.5.3)
-#[derive(Debug, Drop)]
+#[derive(Drop)]
 pub struct Body {
     pub groups: Seq<Group>,
     pub code: Code,
@@ -99,7 +99,7 @@ pub struct Body {
 
 /// A module. Its functions are `funcs`, by their type's index, with the body of each in `bodies`; `customs` are the
 /// names of its custom sections in file order. (Standard, 2.5)
-#[derive(Debug, Drop)]
+#[derive(Drop)]
 pub struct Module {
     pub types: Seq<FuncType>,
     pub imports: Seq<Import>,
@@ -155,7 +155,7 @@ pub struct Loc {
 }
 
 /// The greatest number of each counted quantity.
-#[derive(Clone, Copy, Debug, PartialEq, Eq)]
+#[derive(Clone, Copy)]
 pub struct Limits {
     pub functions: u32,
     pub types: u32,

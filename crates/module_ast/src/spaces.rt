@@ -9,7 +9,7 @@ use std::marker::Model;
 use wasm_num::NoMemory;
 
 /// How many entries each index space has. (Standard, 2.5.1)
-#[derive(Clone, Copy, Debug, PartialEq, Eq)]
+#[derive(Clone, Copy)]
 pub struct Counts {
     pub funcs: usize,
     pub tables: usize,
@@ -67,7 +67,7 @@ impl Counts {
 }
 
 /// The index spaces of a module, imports first, made once: each look-up takes constant time. (Standard, 2.5.1)
-#[derive(Debug, Drop)]
+#[derive(Drop)]
 pub struct Spaces {
     funcs: Vec<u32>,
     globals: Vec<GlobalType>,

@@ -19,7 +19,7 @@ use module_ast::name::Name;
 use module_ast::seq::Seq;
 
 /// An index and its name.
-#[derive(Debug, Drop)]
+#[derive(Drop)]
 pub struct Named {
     /// The index of a function, or of a local of a function, whose parameters come first.
     pub index: u32,
@@ -27,7 +27,7 @@ pub struct Named {
 }
 
 /// The names of a function's locals.
-#[derive(Debug, Drop)]
+#[derive(Drop)]
 pub struct Locals {
     /// The index of the function.
     pub func: u32,
@@ -36,7 +36,7 @@ pub struct Locals {
 }
 
 /// What the `name` section of a module tells.
-#[derive(Debug, Drop)]
+#[derive(Drop)]
 pub struct Names {
     /// The name of the module, if it has one.
     pub module: Option<Name>,

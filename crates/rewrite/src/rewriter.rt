@@ -31,7 +31,7 @@ pub trait Rewriter: Sync {
 }
 
 /// Rewrites by `rewrite_body`.
-#[derive(Clone, Copy, Debug)]
+#[derive(Clone, Copy)]
 pub struct PlainRewriter;
 
 impl Rewriter for PlainRewriter {

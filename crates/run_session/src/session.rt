@@ -20,7 +20,7 @@ use wasm_sem::{Answer, Script, Stop, Turn};
 use wasm_valid::ValidModule;
 
 /// What came of a run when it stopped.
-#[derive(Debug, Drop)]
+#[derive(Drop)]
 pub struct Outcome {
     /// The answer of the start function, where the module has one.
     pub start: Option<Answer>,

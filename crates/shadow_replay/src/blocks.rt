@@ -17,14 +17,14 @@ use std::mem::size_of;
 use wasm_num::{BlockKind, NoMemory, ValType};
 
 /// A block, a loop or a part of an `if`: its kind, and its type as it is written.
-#[derive(Clone, Copy, Debug)]
+#[derive(Clone, Copy)]
 pub struct Block {
     pub kind: BlockKind,
     pub ty: BlockType,
 }
 
 /// How many values a block takes, and how many a branch to its label. (Standard, 4.4.6)
-#[derive(Clone, Copy, Debug)]
+#[derive(Clone, Copy)]
 pub(crate) struct Counts {
     pub starts: usize,
     pub arity: usize,
@@ -53,7 +53,7 @@ impl Block {
 }
 
 // What begins at a position. Types that are written out stand apart from those of an index, so that it has eight bytes.
-#[derive(Clone, Copy, Debug)]
+#[derive(Clone, Copy)]
 pub(crate) enum Begun {
     Nothing,
     Written(BlockKind, Option<ValType>),

@@ -10,7 +10,7 @@ use std::marker::Model;
 use wasm_num::NoMemory;
 
 /// Where some blocks begin at the earliest and end at the latest.
-#[derive(Clone, Copy, Debug)]
+#[derive(Clone, Copy)]
 pub struct Span {
     pub begin: i32,
     pub end: i32,
@@ -48,7 +48,7 @@ impl Span {
 
 /// The blocks of a function, which contracts see as a list. Those around a position are found without a walk over all of
 /// them: the list is cut in halves again and again, and of each piece it is kept where its blocks begin and end.
-#[derive(Debug, Drop)]
+#[derive(Drop)]
 pub struct BlockTable {
     blocks: Vec<Block>,
     // The spans of the first half and of the pieces in it, of the second half and of those in it, and then of the whole.

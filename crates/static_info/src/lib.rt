@@ -27,14 +27,14 @@ use module_ast::seq::Seq;
 use wasm_num::ValType;
 
 /// A br_table: its position, and its labels with the default last.
-#[derive(Debug, Drop)]
+#[derive(Drop)]
 pub struct TableInfo {
     pub pos: i32,
     pub labels: Seq<u32>,
 }
 
 /// A function of the original. An imported one has no blocks and no tables.
-#[derive(Debug, Drop)]
+#[derive(Drop)]
 pub struct FuncInfo {
     pub params: Seq<ValType>,
     pub results: Seq<ValType>,
@@ -45,7 +45,7 @@ pub struct FuncInfo {
 
 /// The selected groups, the number of imported functions of the original, the hooks in import order, the functions of
 /// the original, and the names of its custom sections.
-#[derive(Debug, Drop)]
+#[derive(Drop)]
 pub struct Info {
     pub groups: Hooks,
     pub imports: u32,

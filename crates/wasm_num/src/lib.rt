@@ -22,7 +22,7 @@ pub enum ValType {
 }
 
 /// What a label belongs to. The two parts of an `if` are blocks of their own.
-#[derive(Clone, Copy, Debug, PartialEq, Eq)]
+#[derive(Clone, Copy, PartialEq, Eq)]
 pub enum BlockKind {
     Function = 0,
     Block = 1,
@@ -79,7 +79,7 @@ impl BlockKind {
 }
 
 /// The number instructions, constants left out, each with its opcode. (Standard, 2.4.1 and 5.4.5)
-#[derive(Clone, Copy, Debug, PartialEq, Eq)]
+#[derive(Clone, Copy, PartialEq, Eq)]
 pub enum NumOp {
     I32Eqz = 0x45,
     I32Eq = 0x46,

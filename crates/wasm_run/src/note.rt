@@ -14,7 +14,7 @@ use wasm_num::{NoMemory, Values};
 use wasm_sem::{HostAnswer, HostWrite};
 
 /// The start function, or the function of a call of the script, by its index, with the arguments with which it was entered.
-#[derive(Debug, Drop)]
+#[derive(Drop)]
 pub struct Entry {
     pub func: u32,
     pub args: Values,
@@ -22,7 +22,7 @@ pub struct Entry {
 
 /// The call of a host function that is no hook: the import's index among the module's functions, what it took, what it gave,
 /// and the writes that were done, in order.
-#[derive(Debug, Drop)]
+#[derive(Drop)]
 pub struct HostNote {
     pub import: u32,
     pub args: Values,
@@ -31,7 +31,7 @@ pub struct HostNote {
 }
 
 /// What one step entered, and the host call that it made, if any.
-#[derive(Debug, Drop)]
+#[derive(Drop)]
 pub struct Note {
     pub entered: Option<Entry>,
     pub host: Option<HostNote>,

@@ -10,28 +10,28 @@ use wasm_num::Values;
 pub mod laws;
 
 /// One call of an export.
-#[derive(Debug, Drop)]
+#[derive(Drop)]
 pub struct Call {
     pub export: Name,
     pub args: Seq<i128>,
 }
 
 /// Bytes that a host function writes to memory from an address on.
-#[derive(Debug, Drop)]
+#[derive(Drop)]
 pub struct HostWrite {
     pub address: u32,
     pub bytes: Seq<u8>,
 }
 
 /// The answer to one host call.
-#[derive(Debug, Drop)]
+#[derive(Drop)]
 pub struct HostAnswer {
     pub results: Seq<i128>,
     pub writes: Seq<HostWrite>,
 }
 
 /// Which exports are called, how host functions answer, and the limits of the run.
-#[derive(Debug, Drop)]
+#[derive(Drop)]
 pub struct Script {
     pub calls: Seq<Call>,
     pub hosts: Seq<HostAnswer>,
@@ -63,14 +63,14 @@ pub enum Answer {
 }
 
 /// The call of a hook: the import's index among the module's functions, and the words.
-#[derive(Debug, Drop)]
+#[derive(Drop)]
 pub struct HookCall {
     pub import: u32,
     pub args: Values,
 }
 
 /// What one step did. `Over` says that the run had ended before.
-#[derive(Debug, Drop)]
+#[derive(Drop)]
 pub enum Turn {
     Ran,
     Hook(HookCall),
@@ -78,7 +78,7 @@ pub enum Turn {
 }
 
 /// Why a run of several steps stopped.
-#[derive(Clone, Copy, Debug, PartialEq, Eq)]
+#[derive(Clone, Copy, PartialEq, Eq)]
 pub enum Stop {
     Over,
     OutOfSteps,

@@ -10,7 +10,7 @@ use std::marker::Model;
 
 /// A module that is whole, complete and valid, with what the check of each body noted. Contracts see the module.
 /// (Standard, 3.4)
-#[derive(Debug, Drop)]
+#[derive(Drop)]
 pub struct ValidModule {
     module: Module,
     spaces: Spaces,
