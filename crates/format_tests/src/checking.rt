@@ -1,16 +1,15 @@
 // The check of one body by itself.
 
-ghost use Rattle.std.specs.Prelude.{IsTrue};
+ghost use Rattle.std.specs.Prelude.{◌≡◌, IsTrue};
 ghost use Rattle.module_ast.specs.Validation.{IsWhole, KeepsRules};
 
-use crate::files::{file_of, put_section};
+use crate::files::{file_of, module_of, put_section};
 use crate::typing::has_marks;
 use code_valid::{BodyInvalid, check_body};
-use module_ast::module::{Limits, Module};
+use module_ast::module::Module;
 use std::alloc::Global;
 use std::test::Fail;
 use std::thread::Threads;
-use wasm_decode::decode;
 use wasm_num::ValType;
 use wasm_valid::{Invalid, validate};
 
@@ -38,8 +37,42 @@ fn keeps_rules<R: Threads + Sync>(rt: &R, alloc: Global, m: Module) -> bool
     }
 }
 
-// Whether the first body of a file is valid, with these marks and this height; `None` where anything else is wrong. The
-// file is read twice: validation takes one module, and the check is asked of the other.
+// Whether the first body of a module is valid, with these marks and this height; `None` where anything else is wrong.
+fn body_of(alloc: Global, m: &Module, marks: &[(u32, ValType)], height: u64) -> Option<bool>
+    requires whole { IsWhole m.now }
+    requires rules { KeepsRules m.now }
+{
+    if m.bodies.as_slice().is_empty() {
+        return None;
+    }
+    match check_body(alloc, m, 0) {
+        Ok(found) if found.height == height && has_marks(found.types.as_slice(), marks) => {
+            Some(true)
+        }
+        Err(BodyInvalid::Invalid) => Some(false),
+        _ => None,
+    }
+}
+
+// The same of a module with an equal one, which is validated.
+fn body_by_twin<R: Threads + Sync>(
+    rt: &R,
+    alloc: Global,
+    m: &Module,
+    twin: Module,
+    marks: &[(u32, ValType)],
+    height: u64,
+) -> Option<bool>
+    requires whole { IsWhole m.now }
+    requires same { twin ≡ m.now }
+{
+    if !keeps_rules(rt, alloc, twin) {
+        return None;
+    }
+    body_of(alloc, m, marks, height)
+}
+
+// The same of a file, which is read twice: validation takes one module, and the check is asked of the other.
 fn checked<R: Threads + Sync>(
     rt: &R,
     alloc: Global,
@@ -47,23 +80,9 @@ fn checked<R: Threads + Sync>(
     marks: &[(u32, ValType)],
     height: u64,
 ) -> Option<bool> {
-    if file.len() > 268_435_456 {
-        return None;
-    }
-    let limits = Limits::wide();
-    let (Ok(m), Ok(twin)) = (decode(alloc, file, &limits), decode(alloc, file, &limits)) else {
-        return None;
-    };
-    if m.bodies.as_slice().is_empty() || !keeps_rules(rt, alloc, twin) {
-        return None;
-    }
-    match check_body(alloc, &m, 0) {
-        Ok(found) if found.height == height && has_marks(found.types.as_slice(), marks) => {
-            Some(true)
-        }
-        Err(BodyInvalid::Invalid) => Some(false),
-        _ => None,
-    }
+    let m = module_of(alloc, file)?;
+    let twin = module_of(alloc, file)?;
+    body_by_twin(rt, alloc, &m, twin, marks, height)
 }
 
 #[test]

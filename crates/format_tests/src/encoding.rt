@@ -1,15 +1,29 @@
 // A module whose bytes are known.
 
+ghost use Rattle.std.specs.Prelude.{◌≤◌};
+
 use crate::files::file_of;
 use module_ast::module::Limits;
+use std::alloc::Global;
 use std::test::Fail;
 use wasm_decode::decode;
 use wasm_encode::{EncodeFault, encode};
 
+// What the module of a short file is written as, in at most so many bytes; `None` where there is none.
+#[tactic(auto, using(module_ast::proofs::LeastModules::module_least))]
+fn written(alloc: Global, file: &[u8], max: u64) -> Option<Result<Vec<u8>, EncodeFault>>
+    requires { max ≤ 268435456 }
+{
+    if file.len() > 128 {
+        return None;
+    }
+    let module = decode(alloc, file, &Limits::wide()).ok()?;
+    Some(encode(alloc, &module, max))
+}
+
 // One function, of no parameters and no results, that is exported as "f" and does nothing: read with each size in five
 // bytes, and written with each in one.
 #[test]
-#[tactic(auto, using(module_ast::proofs::LeastModules::module_least))]
 fn one_function(rt: HostRuntime) -> Result<(), Fail> {
     let alloc = rt.alloc();
     let padded = file_of(
@@ -17,27 +31,16 @@ fn one_function(rt: HostRuntime) -> Result<(), Fail> {
         "01848080800001600000 0382808080000100 0785808080000101660000 0A8580808000010300010B",
     )?;
     let want = file_of(alloc, "010401600000 03020100 07050101660000 0A05010300010B")?;
-    if padded.len() > 64 {
-        return Err("too long".into());
-    }
-    let Ok(module) = decode(alloc, &padded, &Limits::wide()) else {
-        return Err("no module".into());
-    };
-    let Ok(bytes) = encode(alloc, &module, 32) else {
-        return Err("no bytes".into());
-    };
+    let bytes = written(alloc, &padded, 32).ok_or("no module")??;
     assert_eq!(rt; bytes.as_slice(), want.as_slice());
-    let Err(fault) = encode(alloc, &module, 31) else {
-        return Err("too many bytes".into());
-    };
-    assert_eq!(rt; fault, EncodeFault::TooLarge { length: 32 });
+    let fault = written(alloc, &padded, 31);
+    assert!(rt; matches!(fault, Some(Err(EncodeFault::TooLarge { length: 32 }))));
     Ok(())
 }
 
 // A block of no values, one of a value, a loop and an `if` of a type with a parameter and two results, and a block whose
 // index, 64, names no type: read with padded indices, and written with each in its shortest spelling.
 #[test]
-#[tactic(auto, using(module_ast::proofs::LeastModules::module_least))]
 fn types_of_blocks(rt: HostRuntime) -> Result<(), Fail> {
     let alloc = rt.alloc();
     let padded = file_of(
@@ -48,15 +51,7 @@ fn types_of_blocks(rt: HostRuntime) -> Result<(), Fail> {
         alloc,
         "010A02600000 60017F027F7E 03020100 0A28012600 02400B 027F41000B1A 410003014200 0B1A1A 41004100040142000542010B1A1A 02C0000B 0B",
     )?;
-    if padded.len() > 128 {
-        return Err("too long".into());
-    }
-    let Ok(module) = decode(alloc, &padded, &Limits::wide()) else {
-        return Err("no module".into());
-    };
-    let Ok(bytes) = encode(alloc, &module, 66) else {
-        return Err("no bytes".into());
-    };
+    let bytes = written(alloc, &padded, 66).ok_or("no module")??;
     assert_eq!(rt; bytes.as_slice(), want.as_slice());
     Ok(())
 }

@@ -1,8 +1,14 @@
 // Files of modules from hex digits.
 
+ghost use Rattle.std.specs.Prelude.{IfSome};
+ghost use Rattle.module_ast.specs.Binary.{Gram};
+ghost use Rattle.module_ast.specs.Validation.{IsWhole};
+
 use leb_binary::put_u32;
+use module_ast::module::{Limits, Module};
 use std::alloc::{AllocError, Global};
 use std::test::Fail;
+use wasm_decode::decode;
 
 // The bytes that hex digits spell, whatever stands between them.
 pub(crate) fn bytes_of(alloc: Global, text: &str) -> Result<Vec<u8>, AllocError> {
@@ -56,4 +62,15 @@ pub(crate) fn put_section(
     }
     file.push(id)?;
     put_sized(file, &bytes)
+}
+
+// The module of a file.
+pub(crate) fn module_of(alloc: Global, file: &[u8]) -> Option<Module>
+    ensures gram { IfSome result (λ m. Gram file.now m) }
+    ensures whole { IfSome result (λ m. IsWhole m) }
+{
+    if file.len() > 268_435_456 {
+        return None;
+    }
+    decode(alloc, file, &Limits::wide()).ok()
 }

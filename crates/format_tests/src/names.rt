@@ -42,8 +42,22 @@ fn names_of(alloc: Global, sections: &str) -> Result<Names, Fail>
     Ok(read_names(alloc, &file, 2)?)
 }
 
-// The section of these names in an output with 15 hooks, and that of the names taken back from there.
-fn sections_of(alloc: Global, names: &Names) -> Result<(Vec<u8>, Vec<u8>), Fail>
+// Whether names are written so.
+fn are_written(alloc: Global, names: &Names, text: &str) -> Result<bool, Fail> {
+    let mut section = Vec::new(alloc);
+    put_section(alloc, &mut section, names)?;
+    let wanted = bytes_of(alloc, text)?;
+    Ok(section.as_slice() == wanted.as_slice())
+}
+
+// Whether names of an output are written so, when they are taken back.
+fn come_back(alloc: Global, mapped: &Names, remap: Remap, text: &str) -> Result<bool, Fail> {
+    let names = unmap_names(alloc, mapped, remap)?;
+    are_written(alloc, &names, text)
+}
+
+// Whether names are written so in an output with 15 hooks, and so when they are taken back from there.
+fn follow(alloc: Global, names: &Names, there: &str, back: &str) -> Result<bool, Fail>
     requires functions { All (λ n. n.index < 2) names.now.functions }
     requires locals { All (λ l. l.func < 2) names.now.locals }
 {
@@ -52,12 +66,13 @@ fn sections_of(alloc: Global, names: &Names) -> Result<(Vec<u8>, Vec<u8>), Fail>
         added: 15,
     };
     let mapped = map_names(alloc, names, remap)?;
-    let mut there = Vec::new(alloc);
-    put_section(alloc, &mut there, &mapped)?;
-    let unmapped = unmap_names(alloc, &mapped, remap)?;
-    let mut back = Vec::new(alloc);
-    put_section(alloc, &mut back, &unmapped)?;
-    Ok((there, back))
+    Ok(are_written(alloc, &mapped, there)? && come_back(alloc, &mapped, remap, back)?)
+}
+
+// The same of the names of the module with these sections.
+fn names_follow(alloc: Global, sections: &str, there: &str, back: &str) -> Result<bool, Fail> {
+    let names = names_of(alloc, sections)?;
+    follow(alloc, &names, there, back)
 }
 
 // What the module carries behind its last section, its names in the output, and the names taken back.
@@ -127,14 +142,8 @@ static SECTIONS: [(&str, &str, &str); 18] = [
 
 #[test]
 fn names_follow_their_functions(rt: HostRuntime) -> Result<(), Fail> {
-    let alloc = rt.alloc();
     for (sections, there, back) in SECTIONS {
-        let names = names_of(alloc, sections)?;
-        let (found_there, found_back) = sections_of(alloc, &names)?;
-        let there = bytes_of(alloc, there)?;
-        let back = bytes_of(alloc, back)?;
-        assert_eq!(rt; found_there.as_slice(), there.as_slice(), "{sections}");
-        assert_eq!(rt; found_back.as_slice(), back.as_slice(), "{sections}");
+        assert!(rt; names_follow(rt.alloc(), sections, there, back)?, "{sections}");
     }
     Ok(())
 }

@@ -95,6 +95,13 @@ pub(crate) fn has_marks(found: &[Mark], marks: &[(u32, ValType)]) -> bool {
     true
 }
 
+// The file with these bodies.
+fn file_with(alloc: Global, bodies: &str) -> Result<Vec<u8>, Fail> {
+    let mut file = file_of(alloc, FRONT)?;
+    put_section(&mut file, alloc, 10, bodies)?;
+    Ok(file)
+}
+
 // The valid module of a file with as many locals as there can be.
 fn valid_of<R: Threads + Sync>(rt: &R, alloc: Global, file: &[u8]) -> Result<ValidModule, Fail> {
     if file.len() > 256 {
@@ -125,8 +132,7 @@ fn are_marked<R: Threads + Sync>(
     marks: &[(u32, ValType)],
     height: u64,
 ) -> Result<bool, Fail> {
-    let mut file = file_of(alloc, FRONT)?;
-    put_section(&mut file, alloc, 10, bodies)?;
+    let file = file_with(alloc, bodies)?;
     let valid = valid_of(rt, alloc, &file)?;
     Ok(is_marked(&valid, marks, height))
 }

@@ -4,8 +4,6 @@
 #[cfg(test)]
 mod commands;
 #[cfg(test)]
-mod forms;
-#[cfg(test)]
 mod numbers;
 #[cfg(test)]
 mod outside;
@@ -23,5 +21,3 @@ mod traces;
 mod trees;
 #[cfg(test)]
 mod values;
-#[cfg(test)]
-mod words;

@@ -1,4 +1,4 @@
-// Two hooks put behind the one import of a small module.
+// Two hooks put behind the one import of a module, of which only what names functions is there.
 
 ghost use Rattle.std.specs.Prelude.{◌≡◌, [], ◌∷◌, All, IfOk};
 ghost use Rattle.module_ast.specs.Structure.{block, call, done, plain, return_, code_of};
@@ -8,23 +8,15 @@ ghost use Rattle.index_remap.specs.Remap.{MapsIndex, MapsReference, MapsModule};
 
 use index_remap::Remap;
 use module_ast::code::{BlockType, Code, Instr};
-use module_ast::module::{
-    Element, Export, ExportKind, FuncType, GlobalDef, GlobalType, Import, Item, Module, Segment,
-};
+use module_ast::module::{Element, Export, ExportKind, Module};
 use module_ast::name::Name;
 use module_ast::seq::Seq;
 use std::alloc::{AllocError, Global};
 use std::test::Fail;
-use wasm_num::ValType;
 
 const TWO_HOOKS: Remap = Remap {
     imports: 1,
     added: 2,
-};
-
-const INT: GlobalType = GlobalType {
-    ty: ValType::I32,
-    mutable: false,
 };
 
 // block, call 0, end, return, call 1, end: the last call is not live
@@ -76,13 +68,6 @@ fn export(alloc: Global, kind: ExportKind, index: u32) -> Result<Export, AllocEr
     Ok(Export { name, kind, index })
 }
 
-fn import(alloc: Global) -> Result<Import, AllocError> {
-    let module = name(alloc, "env")?;
-    let name = name(alloc, "print")?;
-    let item = Item::Func(0);
-    Ok(Import { module, name, item })
-}
-
 fn element(alloc: Global, func: u32) -> Result<Element, AllocError>
     ensures { IfOk result (λ element. element.funcs ≡ func ∷ []) }
 {
@@ -92,21 +77,6 @@ fn element(alloc: Global, func: u32) -> Result<Element, AllocError>
         table: 0,
         offset,
         funcs,
-    })
-}
-
-fn global(alloc: Global) -> Result<GlobalDef, AllocError> {
-    let init = zero(alloc)?;
-    Ok(GlobalDef { ty: INT, init })
-}
-
-fn segment(alloc: Global) -> Result<Segment, AllocError> {
-    let offset = zero(alloc)?;
-    let bytes = Seq::from_vec(vec![in alloc; 42]?);
-    Ok(Segment {
-        memory: 0,
-        offset,
-        bytes,
     })
 }
 
@@ -130,50 +100,6 @@ fn elements(alloc: Global) -> Result<Seq<Element>, AllocError>
     let first = element(alloc, 0)?;
     let second = element(alloc, 2)?;
     Ok(Seq::from_vec(vec![in alloc; first, second]?))
-}
-
-fn types(alloc: Global) -> Result<Seq<FuncType>, AllocError> {
-    let ty = FuncType {
-        params: Seq::from_vec(vec![in alloc; ValType::I32]?),
-        results: none(alloc),
-    };
-    Ok(Seq::from_vec(vec![in alloc; ty]?))
-}
-
-// What the module declares.
-#[derive(Drop)]
-struct Declarations {
-    types: Seq<FuncType>,
-    imports: Seq<Import>,
-    globals: Seq<GlobalDef>,
-}
-
-fn declared(alloc: Global) -> Result<Declarations, AllocError> {
-    let types = types(alloc)?;
-    let import = import(alloc)?;
-    let imports = Seq::from_vec(vec![in alloc; import]?);
-    let global = global(alloc)?;
-    let globals = Seq::from_vec(vec![in alloc; global]?);
-    Ok(Declarations {
-        types,
-        imports,
-        globals,
-    })
-}
-
-// What stands in the module by itself.
-#[derive(Drop)]
-struct Fillings {
-    segments: Seq<Segment>,
-    customs: Seq<Name>,
-}
-
-fn filled(alloc: Global) -> Result<Fillings, AllocError> {
-    let segment = segment(alloc)?;
-    let segments = Seq::from_vec(vec![in alloc; segment]?);
-    let custom = name(alloc, "producers")?;
-    let customs = Seq::from_vec(vec![in alloc; custom]?);
-    Ok(Fillings { segments, customs })
 }
 
 // What names the functions of the module.
@@ -201,22 +127,20 @@ fn naming(alloc: Global) -> Result<References, AllocError>
 fn module(alloc: Global) -> Result<Module, AllocError>
     ensures { IfOk result (MapsModule TWO_HOOKS) }
 {
-    let declared = declared(alloc)?;
-    let filled = filled(alloc)?;
     let naming = naming(alloc)?;
     Ok(Module {
-        types: declared.types,
-        imports: declared.imports,
+        types: none(alloc),
+        imports: none(alloc),
         funcs: naming.funcs,
         tables: none(alloc),
         memories: none(alloc),
-        globals: declared.globals,
+        globals: none(alloc),
         exports: naming.exports,
         start: Some(1),
         elements: naming.elements,
         bodies: none(alloc),
-        segments: filled.segments,
-        customs: filled.customs,
+        segments: none(alloc),
+        customs: none(alloc),
     })
 }
 

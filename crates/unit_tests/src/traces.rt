@@ -33,29 +33,53 @@ fn written_again(alloc: Global, bytes: &[u8]) -> Result<Vec<u8>, Fail> {
     Ok(writer.finish()?)
 }
 
-#[test]
-fn events_are_written_up_to_the_bound(rt: HostRuntime) -> Result<(), Fail> {
-    let alloc = rt.alloc();
-    let nop = Event::Nop { loc: PLACE };
-    assert_eq!(rt; file_of(alloc, 9, &nop)?.as_slice(), NOP.as_slice());
-    assert!(rt; matches!(file_of(alloc, 8, &nop), Err(TraceFault::TooLarge)));
+fn nop() -> Event {
+    Event::Nop { loc: PLACE }
+}
+
+// Whether an event has a file of these bytes, where there may be so many.
+fn is_file(alloc: Global, max: u64, event: &Event, wanted: &[u8]) -> bool
+    requires { max ≤ 268435456 }
+{
+    match file_of(alloc, max, event) {
+        Ok(file) => file.as_slice() == wanted,
+        Err(_) => false,
+    }
+}
+
+// Whether a `nop` has a file of nine bytes, and none of eight.
+fn nop_fits(alloc: Global) -> bool {
+    let nop = nop();
+    is_file(alloc, 9, &nop, &NOP)
+        && matches!(file_of(alloc, 8, &nop), Err(TraceFault::TooLarge))
+}
+
+fn constant_fits(alloc: Global) -> bool {
     let constant = Event::Const {
         loc: PLACE,
         value: Value::I64(18_446_744_073_709_551_614),
     };
-    let want = b"WTR1\x0A\x00\x00\x7E\x7E\x00\x01".as_slice();
-    assert_eq!(rt; file_of(alloc, 11, &constant)?.as_slice(), want);
+    is_file(alloc, 11, &constant, b"WTR1\x0A\x00\x00\x7E\x7E\x00\x01")
+}
+
+// The file of a stray hook call, where an event behind it has no room.
+fn file_of_a_stray(alloc: Global) -> Result<Vec<u8>, TraceFault> {
     let mut writer = TraceWriter::new(alloc, 9);
     writer.put(&Event::Stray { hook: 300 })?;
-    assert_eq!(rt; writer.put(&nop), Err(TraceFault::TooLarge));
-    let want = b"WTR1\x19\xAC\x02\x00\x01".as_slice();
-    assert_eq!(rt; writer.finish()?.as_slice(), want);
-    assert!(rt;
-        matches!(
-            TraceWriter::new(alloc, 5).finish(),
-            Err(TraceFault::TooLarge)
-        )
-    );
+    match writer.put(&nop()) {
+        Err(TraceFault::TooLarge) => writer.finish(),
+        _ => Err(TraceFault::NoMemory),
+    }
+}
+
+#[test]
+fn events_are_written_up_to_the_bound(rt: HostRuntime) -> Result<(), Fail> {
+    let alloc = rt.alloc();
+    assert!(rt; nop_fits(alloc) && constant_fits(alloc));
+    let stray = file_of_a_stray(alloc)?;
+    assert_eq!(rt; stray.as_slice(), b"WTR1\x19\xAC\x02\x00\x01".as_slice());
+    let none = TraceWriter::new(alloc, 5).finish();
+    assert!(rt; matches!(none, Err(TraceFault::TooLarge)));
     Ok(())
 }
 

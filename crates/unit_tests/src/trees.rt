@@ -3,168 +3,203 @@
 use call_tree::{Node, Tree, TreeFault};
 use hook_select::Event;
 use module_ast::module::Loc;
+use std::alloc::Global;
 use std::test::Fail;
 use wasm_num::BlockKind;
 
-fn begin_at(func: u32, instr: i32, kind: BlockKind) -> Event {
-    Event::Begin {
-        loc: Loc { func, instr },
-        kind,
+// An entry, the begin or the end of a function, or those of a block with its function, its position and its kind.
+#[derive(Clone, Copy)]
+enum Step {
+    Enter,
+    Begin(u32),
+    End(u32),
+    BeginBlock(u32, i32, BlockKind),
+    EndBlock(u32, i32, BlockKind),
+}
+
+use Step::{Begin, BeginBlock, End, EndBlock, Enter};
+
+fn take_begin(
+    tree: &mut Tree,
+    func: u32,
+    instr: i32,
+    kind: BlockKind,
+) -> Result<(), TreeFault> {
+    if tree.taken() >= 1_000_000 {
+        return Err(TreeFault::NoMemory);
     }
+    let loc = Loc { func, instr };
+    tree.take(&Event::Begin { loc, kind })
 }
 
-fn end_of(func: u32, kind: BlockKind, begin: i32) -> Event {
-    Event::End {
-        loc: Loc { func, instr: 5 },
-        kind,
-        begin,
+fn take_end(tree: &mut Tree, func: u32, begin: i32, kind: BlockKind) -> Result<(), TreeFault> {
+    if tree.taken() >= 1_000_000 {
+        return Err(TreeFault::NoMemory);
     }
+    let loc = Loc { func, instr: 5 };
+    tree.take(&Event::End { loc, kind, begin })
 }
 
-fn begins(func: u32) -> Event {
-    begin_at(func, -1, BlockKind::Function)
-}
-
-fn ends(func: u32) -> Event {
-    end_of(func, BlockKind::Function, -1)
-}
-
-fn node(depth: u64, func: u32, count: u64) -> Node {
-    Node { depth, func, count }
-}
-
-// Takes an event, or an entry where there is none; a test has far fewer than there may be.
-fn take(tree: &mut Tree, event: Option<Event>) -> Result<(), TreeFault> {
-    match event {
-        Some(event) if tree.taken() < 1_000_000 => tree.take(&event),
-        Some(_) => Err(TreeFault::NoMemory),
-        None => {
+// Makes a step; a test has far fewer than there may be.
+fn take(tree: &mut Tree, step: Step) -> Result<(), TreeFault> {
+    match step {
+        Enter => {
             tree.enter();
             Ok(())
         }
+        Begin(func) => take_begin(tree, func, -1, BlockKind::Function),
+        End(func) => take_end(tree, func, -1, BlockKind::Function),
+        BeginBlock(func, instr, kind) => take_begin(tree, func, instr, kind),
+        EndBlock(func, begin, kind) => take_end(tree, func, begin, kind),
     }
 }
 
-// A function that calls itself until the calls are too deep, in one call of the script.
-#[test]
-fn calls_itself(rt: HostRuntime) -> Result<(), Fail> {
-    let mut tree = Tree::new(rt.alloc());
-    assert_eq!(rt; tree.rows()?.as_slice(), [].as_slice());
-    for event in [None, Some(begins(0)), Some(begins(0)), Some(begins(0))] {
-        take(&mut tree, event)?;
+// Whether a tree has nodes of these depths, functions and counts.
+fn has(tree: &Tree, nodes: &[(u64, u32, u64)]) -> Result<bool, Fail> {
+    let found = tree.rows()?;
+    Ok(found
+        .iter()
+        .map(|node| (node.depth, node.func, node.count))
+        .eq(nodes.iter().copied()))
+}
+
+// Steps, and the depth, the function and the count of each node then.
+static ROWS: [(&[Step], &[(u64, u32, u64)]); 4] = [
+    (&[], &[]),
+    // a function that calls itself until the calls are too deep, in one call of the script
+    (
+        &[Enter, Begin(0), Begin(0), Begin(0)],
+        &[(0, 0, 1), (1, 0, 1), (2, 0, 1)],
+    ),
+    // four calls of function 2, three of which trap; the last calls function 0
+    (
+        &[
+            Enter,
+            Begin(2),
+            Enter,
+            Begin(2),
+            Enter,
+            Begin(2),
+            Enter,
+            Begin(2),
+            Begin(0),
+            End(0),
+            End(2),
+        ],
+        &[(0, 2, 4), (1, 0, 1)],
+    ),
+    // a path stands before those that go on from it, and these by rising function, whichever came first
+    (
+        &[
+            Begin(7),
+            Begin(5),
+            End(5),
+            Begin(2),
+            Begin(9),
+            End(9),
+            End(2),
+            Begin(5),
+            Begin(7),
+            End(7),
+            End(5),
+            End(7),
+            Begin(3),
+        ],
+        &[
+            (0, 3, 1),
+            (0, 7, 1),
+            (1, 2, 1),
+            (2, 9, 1),
+            (1, 5, 2),
+            (2, 7, 1),
+        ],
+    ),
+];
+
+// Whether a tree has these nodes behind these steps.
+fn grows(alloc: Global, steps: &[Step], nodes: &[(u64, u32, u64)]) -> Result<bool, Fail> {
+    let mut tree = Tree::new(alloc);
+    for step in steps {
+        take(&mut tree, *step)?;
     }
-    let nodes = [node(0, 0, 1), node(1, 0, 1), node(2, 0, 1)];
-    assert_eq!(rt; tree.rows()?.as_slice(), nodes.as_slice());
+    has(&tree, nodes)
+}
+
+#[test]
+fn paths_of_calls(rt: HostRuntime) -> Result<(), Fail> {
+    for &(steps, nodes) in &ROWS {
+        assert!(rt; grows(rt.alloc(), steps, nodes)?);
+    }
     Ok(())
 }
 
-// Four calls of function 2, three of which trap; the last calls function 0.
-#[test]
-fn calls_another(rt: HostRuntime) -> Result<(), Fail> {
-    let mut tree = Tree::new(rt.alloc());
-    let events = [
-        None,
-        Some(begins(2)),
-        None,
-        Some(begins(2)),
-        None,
-        Some(begins(2)),
-        None,
-        Some(begins(2)),
-        Some(begins(0)),
-        Some(ends(0)),
-        Some(ends(2)),
-    ];
-    for event in events {
-        take(&mut tree, event)?;
-    }
-    let nodes = [node(0, 2, 4), node(1, 0, 1)];
-    assert_eq!(rt; tree.rows()?.as_slice(), nodes.as_slice());
-    Ok(())
+// Whether an end of a function is refused at its own location.
+fn refuses(tree: &mut Tree, step: Step, func: u32) -> bool {
+    let loc = Loc { func, instr: 5 };
+    take(tree, step) == Err(TreeFault::NotNested { loc })
 }
 
-// A path stands before those that go on from it, and these by rising function, whichever came first.
-#[test]
-fn paths_in_order(rt: HostRuntime) -> Result<(), Fail> {
-    let mut tree = Tree::new(rt.alloc());
-    let events = [
-        begins(7),
-        begins(5),
-        ends(5),
-        begins(2),
-        begins(9),
-        ends(9),
-        ends(2),
-        begins(5),
-        begins(7),
-        ends(7),
-        ends(5),
-        ends(7),
-        begins(3),
-    ];
-    for event in events {
-        take(&mut tree, Some(event))?;
-    }
-    let nodes = [
-        node(0, 3, 1),
-        node(0, 7, 1),
-        node(1, 2, 1),
-        node(2, 9, 1),
-        node(1, 5, 2),
-        node(2, 7, 1),
-    ];
-    assert_eq!(rt; tree.rows()?.as_slice(), nodes.as_slice());
-    Ok(())
+// Whether an end of another function, kind or begin than the latest is refused, and one that is not the latest.
+fn refuses_others(tree: &mut Tree) -> bool {
+    refuses(tree, End(1), 1)
+        && refuses(tree, EndBlock(1, 2, BlockKind::Loop), 1)
+        && refuses(tree, EndBlock(1, 3, BlockKind::Block), 1)
+        && refuses(tree, EndBlock(2, 2, BlockKind::Block), 2)
 }
 
-// An end with no begin, of another function, kind or begin than the latest, of one that is not the latest, or behind an entry
-// is refused at its own location, and changes nothing.
+// Whether an end with no begin is refused, others than the latest are, and one behind an entry, and nothing changes.
+fn refuses_all(tree: &mut Tree) -> Result<bool, TreeFault> {
+    let none_begun = refuses(tree, End(1), 1);
+    take(tree, Begin(1))?;
+    take(tree, BeginBlock(1, 2, BlockKind::Block))?;
+    let others = refuses_others(tree);
+    take(tree, EndBlock(1, 2, BlockKind::Block))?;
+    let taken = tree.taken();
+    take(tree, Enter)?;
+    Ok(none_begun && others && taken == 3 && refuses(tree, End(1), 1))
+}
+
 #[test]
 fn refuses_ends(rt: HostRuntime) -> Result<(), Fail> {
     let mut tree = Tree::new(rt.alloc());
-    let fault = Err(TreeFault::NotNested {
-        loc: Loc { func: 1, instr: 5 },
-    });
-    assert_eq!(rt; take(&mut tree, Some(ends(1))), fault);
-    take(&mut tree, Some(begins(1)))?;
-    take(&mut tree, Some(begin_at(1, 2, BlockKind::Block)))?;
-    let other_kind = end_of(1, BlockKind::Loop, 2);
-    let other_begin = end_of(1, BlockKind::Block, 3);
-    for end in [ends(1), other_kind, other_begin] {
-        assert_eq!(rt; take(&mut tree, Some(end)), fault);
-    }
-    let other_func = take(&mut tree, Some(end_of(2, BlockKind::Block, 2)));
-    assert_eq!(rt;
-        other_func,
-        Err(TreeFault::NotNested {
-            loc: Loc { func: 2, instr: 5 }
-        })
-    );
-    take(&mut tree, Some(end_of(1, BlockKind::Block, 2)))?;
-    assert_eq!(rt; tree.taken(), 3);
-    take(&mut tree, None)?;
-    assert_eq!(rt; take(&mut tree, Some(ends(1))), fault);
-    assert_eq!(rt; tree.rows()?.as_slice(), [node(0, 1, 1)].as_slice());
+    assert!(rt; refuses_all(&mut tree)?);
+    assert!(rt; has(&tree, &[(0, 1, 1)])?);
     Ok(())
 }
 
-// Calls that are as deep as a script allows, and as many beside each other.
+fn node(depth: u64, func: u32, count: u64) -> Option<Node> {
+    Some(Node { depth, func, count })
+}
+
+// Whether calls may be as deep as a script allows.
+fn is_deep(tree: &mut Tree) -> Result<bool, Fail> {
+    for _ in 0..100_000 {
+        take(tree, Begin(1))?;
+    }
+    Ok(tree.rows()?.last().copied() == node(99_999, 1, 1))
+}
+
+fn widen(tree: &mut Tree) -> Result<(), TreeFault> {
+    take(tree, Enter)?;
+    take(tree, Begin(0))?;
+    for func in 0..100_000 {
+        take(tree, Begin(func))?;
+        take(tree, End(func))?;
+    }
+    Ok(())
+}
+
+// Whether as many may stand beside each other.
+fn is_wide(tree: &mut Tree) -> Result<bool, Fail> {
+    widen(tree)?;
+    let nodes = tree.rows()?;
+    Ok(nodes.len() == 200_001 && nodes.get(100_000).copied() == node(1, 99_999, 1))
+}
+
 #[test]
 fn deep_and_wide(rt: HostRuntime) -> Result<(), Fail> {
     let mut tree = Tree::new(rt.alloc());
-    for _ in 0..100_000 {
-        take(&mut tree, Some(begins(1)))?;
-    }
-    let nodes = tree.rows()?;
-    assert_eq!(rt; nodes.last().copied(), Some(node(99_999, 1, 1)));
-    take(&mut tree, None)?;
-    take(&mut tree, Some(begins(0)))?;
-    for func in 0..100_000 {
-        take(&mut tree, Some(begins(func)))?;
-        take(&mut tree, Some(ends(func)))?;
-    }
-    let nodes = tree.rows()?;
-    assert_eq!(rt; nodes.len(), 200_001);
-    assert_eq!(rt; nodes.get(100_000).copied(), Some(node(1, 99_999, 1)));
+    assert!(rt; is_deep(&mut tree)?);
+    assert!(rt; is_wide(&mut tree)?);
     Ok(())
 }

@@ -46,24 +46,13 @@ abbrev pub named_run : (keeps : Bool) → RunNames → (Module → Names → Inf
 named_run keeps names next =
     reads (named_read names.subject wide_file wide keeps) (λ named. informed names (λ m. next m named.1) named.0)
 
--- all three were read, and what comes of the rest comes of the whole
-abbrev pub LeadsOn : RunNames → (old mid : ShelfState) → Module → Info → Script → Type 0
-LeadsOn names old mid m info s =
+-- the information and the script were read for a module, and what comes of the rest comes of all that follows the module
+abbrev pub LeadsOn : RunNames → Module → (old mid : ShelfState) → Info → Script → Type 0
+LeadsOn names m old mid info s =
     (next : Module → Info → Script → Plan) (new : ShelfState) (was is : List ToolState) (result : Result Printed Refusal)
-    → Yields (Some (next m info s)) mid new was is result → Yields (Some (told_run names next)) old new was is result
+    → Yields (Some (next m info s)) mid new was is result → Yields (Some (informed names next m)) old new was is result
 
--- one of them was not, whatever was to be done then
-abbrev pub IsNotLed : RunNames → (old new : ShelfState) → Refusal → Type 0
-IsNotLed names old new refusal =
-    (next : Module → Info → Script → Plan) (tools : List ToolState) → Yields (Some (told_run names next)) old new tools tools (Err refusal)
-
--- so with names
-abbrev pub LeadsOnWith : (keeps : Bool) → RunNames → (old mid : ShelfState) → Module → Names → Info → Script → Type 0
-LeadsOnWith keeps names old mid m kept info s =
-    (next : Module → Names → Info → Script → Plan) (new : ShelfState) (was is : List ToolState) (result : Result Printed Refusal)
-    → Yields (Some (next m kept info s)) mid new was is result → Yields (Some (named_run keeps names next)) old new was is result
-
-abbrev pub IsNotLedWith : (keeps : Bool) → RunNames → (old new : ShelfState) → Refusal → Type 0
-IsNotLedWith keeps names old new refusal =
-    (next : Module → Names → Info → Script → Plan) (tools : List ToolState)
-    → Yields (Some (named_run keeps names next)) old new tools tools (Err refusal)
+-- one of the two was not, whatever was to be done then
+abbrev pub IsNotLed : RunNames → Module → (old new : ShelfState) → Refusal → Type 0
+IsNotLed names m old new refusal =
+    (next : Module → Info → Script → Plan) (tools : List ToolState) → Yields (Some (informed names next m)) old new tools tools (Err refusal)

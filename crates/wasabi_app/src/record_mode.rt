@@ -13,13 +13,15 @@ ghost use Rattle.app_runs.specs.Recording.{recorded_bytes};
 ghost use Rattle.app_runs.specs.RunTexts.{run_status, run_text};
 ghost use Rattle.wasabi_app.specs.Modes.Record.{record_line, record_line_of, record_mode, record_plan, recorded_plan};
 ghost use Rattle.wasabi_app.specs.Playing.{ending_of};
+ghost use Rattle.wasabi_app.specs.ToldRuns.{informed, names_of};
 ghost use Rattle.wasabi_app.specs.Words.{given_of};
 
 use crate::run_mode::told;
 use crate::told_run::{RunNames, ToldRun, load_run, names_in};
 use crate::words::Given;
-use app_plan::{Printed, Refusal, bad_words, put, refused};
+use app_plan::{LONGEST_SUBJECT, Printed, Refusal, bad_words, load, put, refused};
 use app_runs::{RecordFault, record_run, unlinked};
+use module_ast::module::Limits;
 use outside_io::Shelf;
 use static_info::Info;
 use std::alloc::{AllocError, Global};
@@ -89,12 +91,34 @@ fn record_by<R: Threads + Sync, S: Shelf>(
     ensures read_count { S.read_faults shelf.old ≤ S.read_faults shelf.new }
     ensures write_count { S.write_faults shelf.old ≤ S.write_faults shelf.new }
 {
-    let ToldRun {
-        module,
-        info,
-        script,
-    } = load_run(rt, alloc, &line.names, jobs, shelf)?;
-    record_loaded(alloc, line, &module, &info, script, shelf)
+    let module = load(
+        rt,
+        alloc,
+        line.names.subject,
+        LONGEST_SUBJECT,
+        &Limits::wide(),
+        jobs,
+        shelf,
+    )?;
+    record_module(alloc, line, &module, shelf)
+}
+
+// Reads what a module is run with, runs it, and writes the trace of its events.
+fn record_module<S: Shelf>(
+    alloc: Global,
+    line: &RecordLine<'_>,
+    m: &ValidModule,
+    shelf: &mut S,
+) -> Result<Printed, Refusal>
+    requires bound { line.now.bound ≤ longest_output }
+    ensures ended { (tools : List ToolState) → Yields (Some (informed (names_of line.now.names) (recorded_plan line.now.target.now line.now.bound) m.now))
+        (shelf_state (S.contents shelf.old) (S.read_faults shelf.old) (S.write_faults shelf.old))
+        (shelf_state (S.contents shelf.new) (S.read_faults shelf.new) (S.write_faults shelf.new)) tools tools result }
+    ensures read_count { S.read_faults shelf.old ≤ S.read_faults shelf.new }
+    ensures write_count { S.write_faults shelf.old ≤ S.write_faults shelf.new }
+{
+    let ToldRun { info, script } = load_run(alloc, &line.names, m, shelf)?;
+    record_loaded(alloc, line, m, &info, script, shelf)
 }
 
 // Runs a module by a script, and writes the trace of its events.

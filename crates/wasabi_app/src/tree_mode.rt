@@ -11,7 +11,7 @@ ghost use Rattle.app_plan.specs.Printing.{ShelfState, shelf_state};
 ghost use Rattle.app_plan.specs.Texts.{few_groups_text, not_nested_text};
 ghost use Rattle.app_runs.specs.RunTexts.{run_status, run_text};
 ghost use Rattle.app_runs.specs.Treeing.{node_text, nodes_text, tells_brackets, tree_line};
-ghost use Rattle.wasabi_app.specs.Modes.Tree.{tree_mode, tree_plan, treed_plan};
+ghost use Rattle.wasabi_app.specs.Modes.Tree.{tree_informed, tree_mode, tree_plan, tree_scripted, treed_plan};
 ghost use Rattle.wasabi_app.specs.ToldRuns.{names_of};
 ghost use Rattle.wasabi_app.specs.Words.{given_of};
 
@@ -86,12 +86,47 @@ fn tree_by<R: Threads + Sync, S: Shelf>(
         jobs,
         shelf,
     )?;
-    let info = load_info(alloc, names.info, &module, shelf)?;
-    if !tells_brackets(&info) {
+    tree_module(alloc, &module, names, shelf)
+}
+
+// Reads the information on the original of a module, and goes on with it.
+fn tree_module<S: Shelf>(
+    alloc: Global,
+    m: &ValidModule,
+    names: &RunNames<'_>,
+    shelf: &mut S,
+) -> Result<Printed, Refusal>
+    ensures ended { (tools : List ToolState) → Yields (Some (tree_informed (names_of names.now) m.now))
+        (shelf_state (S.contents shelf.old) (S.read_faults shelf.old) (S.write_faults shelf.old))
+        (shelf_state (S.contents shelf.new) (S.read_faults shelf.new) (S.write_faults shelf.new)) tools tools result }
+    ensures read_count { S.read_faults shelf.old ≤ S.read_faults shelf.new }
+    ensures write_count { S.write_faults shelf.old ≤ S.write_faults shelf.new }
+{
+    let info = load_info(alloc, names.info, m, shelf)?;
+    tree_told(alloc, m, &info, names, shelf)
+}
+
+// Reads the script, where the information tells of begins and ends, and runs a module by it.
+fn tree_told<S: Shelf>(
+    alloc: Global,
+    m: &ValidModule,
+    info: &Info,
+    names: &RunNames<'_>,
+    shelf: &mut S,
+) -> Result<Printed, Refusal>
+    requires formed { IsWellFormed info.now }
+    requires belongs { Belongs info.now m.now }
+    ensures ended { (tools : List ToolState) → Yields (Some (tree_scripted (names_of names.now) m.now info.now))
+        (shelf_state (S.contents shelf.old) (S.read_faults shelf.old) (S.write_faults shelf.old))
+        (shelf_state (S.contents shelf.new) (S.read_faults shelf.new) (S.write_faults shelf.new)) tools tools result }
+    ensures read_count { S.read_faults shelf.old ≤ S.read_faults shelf.new }
+    ensures write_count { S.write_faults shelf.old ≤ S.write_faults shelf.new }
+{
+    if !tells_brackets(info) {
         return Err(refused(21, few_groups_line(alloc)));
     }
     let script = load_script(alloc, names.script, shelf)?;
-    tree_loaded(alloc, &module, &info, script)
+    tree_loaded(alloc, m, info, script)
 }
 
 fn few_groups_line(alloc: Global) -> Result<String, AllocError>

@@ -1,41 +1,16 @@
--- A subject or a script that is not loaded, that do not link, or that were run.
-use Rattle.std.proofs.Common.{Err}
+-- A subject that is not loaded, or what came of the rest.
 use Rattle.std.proofs.lemmas.Result.{err_from_is_err_and}
-use Rattle.wasabi_app.proofs.Linked.{fault_within, was_unlinked, was_run}
-use Rattle.wasabi_app.proofs.Modes.Run.{no_subject, with_subject, no_script, with_script}
+use Rattle.wasabi_app.proofs.Modes.Run.{no_subject, with_subject}
 use Rattle.wasabi_app.proofs.run_mode.run_by.Goals as goal
 
-pub returns-in_err-valid-clause-ended : goal.returns-in_err-valid-clause-ended
-returns-in_err-valid-clause-ended g c = λ tools.
+pub returns-in_err-module-clause-ended : goal.returns-in_err-module-clause-ended
+returns-in_err-module-clause-ended g c = λ tools.
     let p = err_from_is_err_and c.from_residual.result c.from_residual.ensures.1 in
     rw (p.1, p.2)
-    (no_subject c.args.subject.now c.args.script.now _ _ tools c.in_err-valid.field-0.0 (rw c.wide.ensures at c.in_err-valid.ensures.refused)
-    c.in_err-valid.ensures.kept)
-
-pub returns-in_err-script-clause-ended : goal.returns-in_err-script-clause-ended
-returns-in_err-script-clause-ended g c = λ tools.
-    let p = err_from_is_err_and c.from_residual-in_err-script.result c.from_residual-in_err-script.ensures.1 in
-    rw (p.1, p.2)
-    (with_subject c.args.subject.now c.args.script.now c.in_ok-valid.valid _ _ _ tools (Err c.in_err-script.field-0.0)
-    (rw c.wide.ensures at c.in_ok-valid.ensures.ok) c.in_ok-valid.ensures.kept c.in_ok-valid.ensures.read_count c.in_ok-valid.ensures.write_count
-    (no_script c.args.script.now c.in_ok-valid.valid _ _ tools c.in_err-script.field-0.0 c.in_err-script.ensures.refused c.in_err-script.ensures.kept))
-
-pub unlinked-requires : goal.unlinked-requires
-unlinked-requires g c = λ call e. fault_within c.in_ok-valid.valid c.in_ok-script.script _ call c.in-Err.ensures.refused e
-
-pub returns-in-Ok-clause-ended : goal.returns-in-Ok-clause-ended
-returns-in-Ok-clause-ended g c = λ tools.
-    with_subject c.args.subject.now c.args.script.now c.in_ok-valid.valid _ _ _ tools c.told.result (rw c.wide.ensures at c.in_ok-valid.ensures.ok)
-    c.in_ok-valid.ensures.kept c.in_ok-valid.ensures.read_count c.in_ok-valid.ensures.write_count
-    (with_script c.args.script.now c.in_ok-valid.valid c.in_ok-script.script _ _ tools c.told.result c.in_ok-script.ensures.ok
-    c.in_ok-script.ensures.kept c.in_ok-script.ensures.read_count c.in_ok-script.ensures.write_count
-    (was_run c.in_ok-valid.valid c.in_ok-script.script _ _ tools c.told.result c.in-Ok.ensures.links c.in-Ok.ensures.ended c.told.ensures.status
-    c.told.ensures.text c.told.ensures.no_memory))
+    (no_subject c.args.subject.now c.args.script.now _ _ tools c.in_err-module.field-0.0 (rw c.wide.ensures at c.in_err-module.ensures.refused)
+    c.in_err-module.ensures.kept)
 
 pub returns-clause-ended : goal.returns-clause-ended
 returns-clause-ended g c = λ tools.
-    with_subject c.args.subject.now c.args.script.now c.in_ok-valid.valid _ _ _ tools (Err c.unlinked.result)
-    (rw c.wide.ensures at c.in_ok-valid.ensures.ok) c.in_ok-valid.ensures.kept c.in_ok-valid.ensures.read_count c.in_ok-valid.ensures.write_count
-    (with_script c.args.script.now c.in_ok-valid.valid c.in_ok-script.script _ _ tools (Err c.unlinked.result) c.in_ok-script.ensures.ok
-    c.in_ok-script.ensures.kept c.in_ok-script.ensures.read_count c.in_ok-script.ensures.write_count
-    (was_unlinked c.in_ok-valid.valid c.in_ok-script.script c.in-Err.fault _ _ tools c.unlinked.result c.in-Err.ensures.refused c.unlinked.ensures))
+    with_subject c.args.subject.now c.args.script.now c.in_ok-module.module _ _ _ tools c.run_module.result (rw c.wide.ensures at c.in_ok-module.ensures.ok)
+    c.in_ok-module.ensures.kept c.in_ok-module.ensures.read_count c.in_ok-module.ensures.write_count (c.run_module.ensures.ended tools)
