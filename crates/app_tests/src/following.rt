@@ -173,6 +173,42 @@ fn hooked<R: Threads + Sync>(rt: &R, alloc: Global, m: &ValidModule) -> Result<M
     }
 }
 
+// The same by the script of one call.
+fn called_byte(
+    alloc: Global,
+    own: &ValidModule,
+    output: &ValidModule,
+    info: &Info,
+) -> Result<Option<u8>, NoMemory>
+    requires own { own.now ≡ storing_one }
+    requires output { output.now ≡ hooked_two }
+    requires info { info.now ≡ info_two }
+    requires formed { IsWellFormed info.now }
+    requires belongs { Belongs info.now output.now }
+{
+    let script = script(alloc)?;
+    linked_byte(alloc, own, output, info, &script)
+}
+
+// The same of the output that was made of the other module.
+fn made_byte<R: Threads + Sync>(
+    rt: &R,
+    alloc: Global,
+    own: &ValidModule,
+    other: &ValidModule,
+    hooked: &Made,
+) -> Result<Option<u8>, NoMemory>
+    requires own { own.now ≡ storing_one }
+    requires other { other.now ≡ storing_two }
+    requires valid { IsValid other.now }
+    requires free { IsFree other.now }
+    requires made { IsMade other.now all_hooks hooked.now.bytes.items hooked.now.info }
+    requires few { output_length other.now all_hooks ≤ longest_output }
+{
+    let output = read(rt, alloc, hooked.bytes.as_slice())?;
+    called_byte(alloc, own, &output, &hooked.info)
+}
+
 // The first byte of the shadow of the one when the output of the other has run.
 fn output_byte<R: Threads + Sync>(
     rt: &R,
@@ -185,16 +221,25 @@ fn output_byte<R: Threads + Sync>(
     requires valid { IsValid other.now }
 {
     let hooked = hooked(rt, alloc, other)?;
-    let output = read(rt, alloc, hooked.bytes.as_slice())?;
-    let script = script(alloc)?;
-    linked_byte(alloc, own, &output, &hooked.info, &script)
+    made_byte(rt, alloc, own, other, &hooked)
+}
+
+// The same of the other's file.
+fn other_byte<R: Threads + Sync>(
+    rt: &R,
+    alloc: Global,
+    own: &ValidModule,
+) -> Result<Option<u8>, NoMemory>
+    requires { own.now ≡ storing_one }
+{
+    let other = read(rt, alloc, &STORING_TWO)?;
+    output_byte(rt, alloc, own, &other)
 }
 
 // The same of both files.
 fn told_byte<R: Threads + Sync>(rt: &R, alloc: Global) -> Result<Option<u8>, NoMemory> {
     let own = read(rt, alloc, &STORING_ONE)?;
-    let other = read(rt, alloc, &STORING_TWO)?;
-    output_byte(rt, alloc, &own, &other)
+    other_byte(rt, alloc, &own)
 }
 
 #[test]

@@ -143,7 +143,10 @@ static SECTIONS: [(&str, &str, &str); 18] = [
 #[test]
 fn names_follow_their_functions(rt: HostRuntime) -> Result<(), Fail> {
     for (sections, there, back) in SECTIONS {
-        assert!(rt; names_follow(rt.alloc(), sections, there, back)?, "{sections}");
+        assert!(rt;
+            names_follow(rt.alloc(), sections, there, back)?,
+            "{sections}"
+        );
     }
     Ok(())
 }

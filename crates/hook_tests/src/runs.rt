@@ -4,7 +4,7 @@ ghost use Rattle.std.specs.Prelude.{OnOk};
 ghost use Rattle.wasm_sem.specs.Execution.{IsScriptInRange, Links};
 
 use crate::files::valid_of;
-use run_session::{LinkFault, Session, read_script};
+use run_session::{LinkFault, Outcome, Session, read_script};
 use std::alloc::Global;
 use std::test::Fail;
 use std::thread::Threads;
@@ -219,25 +219,36 @@ fn linked(alloc: Global, valid: &ValidModule, script: &Script) -> Result<(), Lin
     Ok(())
 }
 
-// Whether the machine's run comes to this. It has no answer for a call that has not ended.
+// Whether a machine that has stopped so has come to this. It has no answer for a call that has not ended.
+fn has_come_to(machine: &Machine<'_>, stop: Stop, ran: &Ran) -> bool {
+    let ended = match ran.ends {
+        [before @ .., End::Never] => before,
+        ends => ends,
+    };
+    stop == ran.stop
+        && are_ends(machine.answers(), ended)
+        && machine.start().is_none()
+        && machine.over() == (stop == Stop::Over)
+        && machine.pages() == ran.pages
+        && machine.hosts() == 0
+}
+
+// Whether the machine's run comes to this.
 fn runs_to(alloc: Global, valid: &ValidModule, script: &Script, ran: &Ran) -> Result<bool, NoMemory>
     requires range { IsScriptInRange script.now }
     requires links { Links valid.now script.now }
 {
     let mut machine = Machine::new(alloc, valid, script)?;
     let stop = machine.run(script.steps)?;
-    let ended = match ran.ends {
-        [before @ .., End::Never] => before,
-        ends => ends,
-    };
-    Ok(
-        stop == ran.stop
-            && are_ends(machine.answers(), ended)
-            && machine.start().is_none()
-            && machine.over() == (stop == Stop::Over)
-            && machine.pages() == ran.pages
-            && machine.hosts() == 0,
-    )
+    Ok(has_come_to(&machine, stop, ran))
+}
+
+// Whether a session that has stopped so has come to this.
+fn is_outcome(outcome: &Outcome, stop: Stop, ran: &Ran) -> bool {
+    stop == ran.stop
+        && are_ends(outcome.calls.as_slice(), ran.ends)
+        && outcome.running == (stop == Stop::OutOfSteps)
+        && outcome.pages == ran.pages
 }
 
 // Whether a session comes to this.
@@ -252,12 +263,7 @@ fn plays_to(
     let mut session = Session::link(alloc, valid, script)?;
     let stop = session.run()?;
     let outcome = session.finish()?;
-    Ok(
-        stop == ran.stop
-            && are_ends(outcome.calls.as_slice(), ran.ends)
-            && outcome.running == (stop == Stop::OutOfSteps)
-            && outcome.pages == ran.pages,
-    )
+    Ok(is_outcome(&outcome, stop, ran))
 }
 
 // Whether the run of a module by a script comes to this, by the machine and by a session.

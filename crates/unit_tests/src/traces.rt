@@ -50,8 +50,7 @@ fn is_file(alloc: Global, max: u64, event: &Event, wanted: &[u8]) -> bool
 // Whether a `nop` has a file of nine bytes, and none of eight.
 fn nop_fits(alloc: Global) -> bool {
     let nop = nop();
-    is_file(alloc, 9, &nop, &NOP)
-        && matches!(file_of(alloc, 8, &nop), Err(TraceFault::TooLarge))
+    is_file(alloc, 9, &nop, &NOP) && matches!(file_of(alloc, 8, &nop), Err(TraceFault::TooLarge))
 }
 
 fn constant_fits(alloc: Global) -> bool {

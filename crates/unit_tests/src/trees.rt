@@ -19,12 +19,7 @@ enum Step {
 
 use Step::{Begin, BeginBlock, End, EndBlock, Enter};
 
-fn take_begin(
-    tree: &mut Tree,
-    func: u32,
-    instr: i32,
-    kind: BlockKind,
-) -> Result<(), TreeFault> {
+fn take_begin(tree: &mut Tree, func: u32, instr: i32, kind: BlockKind) -> Result<(), TreeFault> {
     if tree.taken() >= 1_000_000 {
         return Err(TreeFault::NoMemory);
     }
@@ -57,10 +52,12 @@ fn take(tree: &mut Tree, step: Step) -> Result<(), TreeFault> {
 // Whether a tree has nodes of these depths, functions and counts.
 fn has(tree: &Tree, nodes: &[(u64, u32, u64)]) -> Result<bool, Fail> {
     let found = tree.rows()?;
-    Ok(found
-        .iter()
-        .map(|node| (node.depth, node.func, node.count))
-        .eq(nodes.iter().copied()))
+    Ok(
+        found
+            .iter()
+            .map(|node| (node.depth, node.func, node.count))
+            .eq(nodes.iter().copied()),
+    )
 }
 
 // Steps, and the depth, the function and the count of each node then.
