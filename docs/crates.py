@@ -34,9 +34,14 @@ def listed():
     return groups, below
 
 
+def all_below(crate, below):
+    """The libraries that a crate names, and those that stand below them."""
+    return {it for name in below.get(crate, ()) for it in (name, *all_below(name, below))}
+
+
 def right_below(crate, below):
     """The libraries that a crate names, without those that stand below another of these."""
-    lower = [it for other in below[crate] for it in below.get(other, ())]
+    lower = {it for other in below[crate] for it in all_below(other, below)}
     return [it for it in below[crate] if it not in lower]
 
 
