@@ -91,7 +91,7 @@ fn record_by<R: Threads + Sync, S: Shelf>(
     ensures read_count { S.read_faults shelf.old ≤ S.read_faults shelf.new }
     ensures write_count { S.write_faults shelf.old ≤ S.write_faults shelf.new }
 {
-    let module = load(
+    match load(
         rt,
         alloc,
         line.names.subject,
@@ -99,8 +99,10 @@ fn record_by<R: Threads + Sync, S: Shelf>(
         &Limits::wide(),
         jobs,
         shelf,
-    )?;
-    record_module(alloc, line, &module, shelf)
+    ) {
+        Ok(module) => record_module(alloc, line, &module, shelf),
+        Err(refusal) => Err(refusal),
+    }
 }
 
 // Reads what a module is run with, runs it, and writes the trace of its events.

@@ -115,7 +115,7 @@ fn taint_by<R: Threads + Sync, S: Shelf>(
     ensures read_count { S.read_faults shelf.old ≤ S.read_faults shelf.new }
     ensures write_count { S.write_faults shelf.old ≤ S.write_faults shelf.new }
 {
-    let valid = load(
+    match load(
         rt,
         alloc,
         line.subject,
@@ -123,8 +123,10 @@ fn taint_by<R: Threads + Sync, S: Shelf>(
         &Limits::narrow(),
         jobs,
         shelf,
-    )?;
-    taint_module(rt, alloc, line, jobs, &valid, shelf)
+    ) {
+        Ok(valid) => taint_module(rt, alloc, line, jobs, &valid, shelf),
+        Err(refusal) => Err(refusal),
+    }
 }
 
 // Finds what is watched of a module, gives it hooks, reads the script, and runs the output.

@@ -77,7 +77,7 @@ fn tree_by<R: Threads + Sync, S: Shelf>(
     ensures read_count { S.read_faults shelf.old ≤ S.read_faults shelf.new }
     ensures write_count { S.write_faults shelf.old ≤ S.write_faults shelf.new }
 {
-    let module = load(
+    match load(
         rt,
         alloc,
         names.subject,
@@ -85,8 +85,10 @@ fn tree_by<R: Threads + Sync, S: Shelf>(
         &Limits::wide(),
         jobs,
         shelf,
-    )?;
-    tree_module(alloc, &module, names, shelf)
+    ) {
+        Ok(module) => tree_module(alloc, &module, names, shelf),
+        Err(refusal) => Err(refusal),
+    }
 }
 
 // Reads the information on the original of a module, and goes on with it.

@@ -1,5 +1,4 @@
 -- A subject that is not loaded, or what came of the rest.
-use Rattle.std.proofs.lemmas.Result.{err_from_is_err_and}
 use Rattle.module_ast.specs.Validation.{wide}
 use Rattle.app_plan.specs.Files.{wide_file}
 use Rattle.app_plan.specs.Wants.{module_read}
@@ -8,17 +7,15 @@ use Rattle.wasabi_app.specs.Modes.Tree.{tree_informed}
 use Rattle.wasabi_app.specs.ToldRuns.{names_of}
 use Rattle.wasabi_app.proofs.tree_mode.tree_by.Goals as goal
 
-pub returns-in_err-module-clause-ended : goal.returns-in_err-module-clause-ended
-returns-in_err-module-clause-ended g c = λ tools.
+pub returns-in-Err-clause-ended : goal.returns-in-Err-clause-ended
+returns-in-Err-clause-ended g c = λ tools.
     let names = names_of c.args.names.now in
-    let p = err_from_is_err_and c.from_residual.result c.from_residual.ensures.1 in
-    rw (p.1, p.2)
-    (stopped (module_read names.subject wide_file wide) (tree_informed names) _ _ tools c.in_err-module.field-0.0
-    (rw c.wide.ensures at c.in_err-module.ensures.refused) c.in_err-module.ensures.kept)
+    (stopped (module_read names.subject wide_file wide) (tree_informed names) _ _ tools c.in-Err.refusal
+    (rw c.wide.ensures at c.in-Err.ensures.refused) c.load.ensures.kept)
 
-pub returns-clause-ended : goal.returns-clause-ended
-returns-clause-ended g c = λ tools.
+pub returns-in-Ok-clause-ended : goal.returns-in-Ok-clause-ended
+returns-in-Ok-clause-ended g c = λ tools.
     let names = names_of c.args.names.now in
-    went_on (module_read names.subject wide_file wide) (tree_informed names) c.in_ok-module.module _ _ _ tools tools c.tree_module.result
-    (rw c.wide.ensures at c.in_ok-module.ensures.ok) c.in_ok-module.ensures.kept c.in_ok-module.ensures.read_count c.in_ok-module.ensures.write_count
+    went_on (module_read names.subject wide_file wide) (tree_informed names) c.in-Ok.module _ _ _ tools tools c.tree_module.result
+    (rw c.wide.ensures at c.in-Ok.ensures.ok) c.load.ensures.kept c.load.ensures.read_count c.load.ensures.write_count
     (c.tree_module.ensures.ended tools)
