@@ -12,8 +12,6 @@ mod remaps;
 #[cfg(test)]
 mod stacks;
 #[cfg(test)]
-mod stores;
-#[cfg(test)]
 mod texts;
 #[cfg(test)]
 mod traces;
