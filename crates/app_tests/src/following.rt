@@ -1,6 +1,6 @@
 // A shadow that takes what a session of another module tells.
 
-ghost use Rattle.std.specs.Prelude.{◌≡◌, ◌≤◌, Decides, IfOk, OnOk, length};
+ghost use Rattle.std.specs.Prelude.{◌≡◌, ◌≤◌, IfOk, OnOk, length};
 ghost use Rattle.module_ast.specs.Validation.{wide, IsValid};
 ghost use Rattle.wasm_sem.specs.Execution.{IsFree};
 ghost use Rattle.run_session.specs.Sessions.{opened_run};
@@ -8,13 +8,11 @@ ghost use Rattle.static_info.specs.Belongs.{Belongs};
 ghost use Rattle.static_info.specs.Form.{IsWellFormed};
 ghost use Rattle.instrument.specs.Made.{IsMade, longest_output};
 ghost use Rattle.app_plan.specs.Files.{IsFit};
-ghost use Rattle.app_runs.specs.Following.{AreFitFor};
-ghost use Rattle.app_runs.specs.Reporting.{items_told};
 ghost use Rattle.wasabi_app.specs.Making.{output_length};
 ghost use Rattle.wasabi_app.specs.Modes.Trial.{all_hooks};
 ghost use Rattle.app_tests.specs.Storing.{called_once, hooked_two, info_two, storing_one, storing_two};
 
-use app_runs::follow;
+use app_runs::follow_out;
 use hook_select::Hooks;
 use instrument::{Made, instrument};
 use module_ast::module::Limits;
@@ -29,7 +27,7 @@ use std::test;
 use std::thread::Threads;
 use wasm_decode::decode;
 use wasm_num::NoMemory;
-use wasm_sem::{Call, Script, Turn};
+use wasm_sem::{Call, Script};
 use wasm_valid::{ValidModule, validate};
 
 // One function `f`, which stores the byte 1 at 0.
@@ -88,29 +86,6 @@ fn script(alloc: Global) -> Result<Script, NoMemory>
     })
 }
 
-// Whether a run is over.
-fn is_over(turn: &Turn) -> bool
-    ensures { Decides result (turn.now ≡ Turn.Over) }
-{
-    matches!(turn, Turn::Over)
-}
-
-// Makes step after step until the run is over, and lets a shadow take what they tell.
-fn follow_all(
-    alloc: Global,
-    mut session: Session<'_>,
-    info: &Info,
-    shadow: &mut Shadow<'_>,
-) -> Result<(), NoMemory>
-    requires begun { session.made ≡ 0 }
-    requires formed { IsWellFormed info.now }
-    requires belongs { Belongs info.now session.module }
-    requires fit { AreFitFor shadow.old (items_told info.now session.module session.script session.script.steps) }
-{
-    while !is_over(&follow(alloc, &mut session, info, shadow)?) {}
-    Ok(())
-}
-
 // The first byte of the shadow of the module that stores 1, when it has taken what the output of the other tells.
 fn followed_byte(
     alloc: Global,
@@ -127,7 +102,7 @@ fn followed_byte(
     requires belongs { Belongs info.now session.module }
 {
     let mut shadow = Shadow::new(alloc, own, script, &[], &[])?;
-    follow_all(alloc, session, info, &mut shadow)?;
+    follow_out(alloc, session, info, &mut shadow)?;
     Ok(shadow.bytes().first().copied())
 }
 

@@ -32,15 +32,18 @@ abbrev pub with_rules : App → List Rule → App
 with_rules app [] = app
 with_rules app (rule ∷ rest) = with_rules (with_rule app rule) rest
 
--- `wasabi MODE SUBJECT` with its options
-abbrev pub wasabi : App
-wasabi =
-    with_rules (new_app (codes "wasabi"))
-    (wanted (codes "mode") ∷ wanted (codes "subject")
+-- a mode, a subject, and options
+abbrev pub arguments : List Rule
+arguments =
+    wanted (codes "mode") ∷ wanted (codes "subject")
     ∷ text_option (codes "out") ∷ text_option (codes "info") ∷ text_option (codes "script")
     ∷ text_option (codes "sources") ∷ text_option (codes "sinks")
     ∷ worded_option (codes "hooks") (codes "all") ∷ worded_option (codes "reports") (codes "all") ∷ worded_option (codes "names") (codes "drop")
-    ∷ number_option (codes "jobs") 64 (codes "1") ∷ number_option (codes "max-output") 268435456 (codes "268435456") ∷ [])
+    ∷ number_option (codes "jobs") 64 (codes "1") ∷ number_option (codes "max-output") 268435456 (codes "268435456") ∷ []
+
+-- `wasabi MODE SUBJECT` with its options
+abbrev pub wasabi : App
+wasabi = with_rules (new_app (codes "wasabi")) arguments
 
 -- ---- what the words ask for
 

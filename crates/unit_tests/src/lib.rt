@@ -2,11 +2,12 @@
 #![tactic(auto)]
 
 #[cfg(test)]
-mod commands;
 #[cfg(test)]
 mod numbers;
 #[cfg(test)]
 mod outside;
+#[cfg(test)]
+mod parts;
 #[cfg(test)]
 mod remaps;
 #[cfg(test)]

@@ -15,10 +15,10 @@ pub new-requires-clause-links : goal.new-requires-clause-links
 new-requires-clause-links c =
     subst (λ s. Links c.args.own.now s) (sym c.requires.script) (subst (λ (m : Module). Links m called_once) (sym c.requires.own) one_links)
 
-pub follow_all-requires-clause-begun : goal.follow_all-requires-clause-begun
-follow_all-requires-clause-begun c = ap (λ (r : Run). r.made) c.requires.opened
+pub follow_out-requires-clause-begun : goal.follow_out-requires-clause-begun
+follow_out-requires-clause-begun c = ap (λ (r : Run). r.made) c.requires.opened
 
-pub follow_all-requires-clause-fit : goal.follow_all-requires-clause-fit
-follow_all-requires-clause-fit c =
+pub follow_out-requires-clause-fit : goal.follow_out-requires-clause-fit
+follow_out-requires-clause-fit c =
     told_fit _ c.args.own.now c.args.info.now c.args.script.now c.args.session c.in_ok-shadow.shadow c.requires.own c.requires.info c.requires.script
     c.requires.opened c.in_ok-shadow.ensures

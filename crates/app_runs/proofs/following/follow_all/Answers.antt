@@ -1,8 +1,8 @@
--- What a step tells is fit where all that the run tells is.
+-- A step more, or the end.
 use Rattle.std.proofs.Common.{◌∙◌}
-use Rattle.app_runs.proofs.FollowTurns.{next_fit, next_taken}
-use Rattle.app_runs.proofs.RunEnds.{not_over, step_taken}
-use Rattle.app_tests.proofs.following.follow_all.Goals as goal
+use Rattle.app_runs.proofs.FollowTurns.{next_fit, next_taken, all_taken}
+use Rattle.app_runs.proofs.RunEnds.{not_over, step_taken, over_taken}
+use Rattle.app_runs.proofs.following.follow_all.Goals as goal
 
 pub follow-requires-clause-fit : goal.follow-requires-clause-fit
 follow-requires-clause-fit c =
@@ -20,3 +20,15 @@ loop-session-preserved c =
       taken = next_taken c.args.info.now c.in_ok-follow.field-0 c.loop-session.session c.follow.new.session c.args.shadow.now c.loop-session.shadow
           c.follow.new.shadow c.in_ok-follow.ensures.turn c.loop-session.invariant.taken c.in_ok-follow.ensures.taken;
     }
+
+pub returns-clause-ended : goal.returns-clause-ended
+returns-clause-ended c =
+    c.in_ok-outcome.ensures.outcome
+    ∙ over_taken c.in_ok-follow.field-0 c.args.session c.loop-session.session c.follow.new.session c.in_ok-follow.ensures.turn
+    (c.is_over.ensures.0 c.if-not-is_over.false) c.loop-session.invariant.module_is c.loop-session.invariant.script_is c.loop-session.invariant.few
+
+pub returns-clause-taken : goal.returns-clause-taken
+returns-clause-taken c =
+    all_taken c.args.info.now c.in_ok-follow.field-0 c.loop-session.session c.follow.new.session c.args.session c.args.shadow.now c.loop-session.shadow
+    c.follow.new.shadow c.in_ok-follow.ensures.turn (c.is_over.ensures.0 c.if-not-is_over.false) c.loop-session.invariant.few
+    c.loop-session.invariant.module_is c.loop-session.invariant.script_is c.loop-session.invariant.taken c.in_ok-follow.ensures.taken
