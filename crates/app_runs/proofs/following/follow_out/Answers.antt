@@ -2,7 +2,7 @@
 use Rattle.std.proofs.Common.{◌∙◌}
 use Rattle.app_runs.proofs.FollowTurns.{next_fit, next_taken, all_taken}
 use Rattle.app_runs.proofs.RunEnds.{not_over, step_taken, over_taken}
-use Rattle.app_runs.proofs.following.follow_all.Goals as goal
+use Rattle.app_runs.proofs.following.follow_out.Goals as goal
 
 pub follow-requires-clause-fit : goal.follow-requires-clause-fit
 follow-requires-clause-fit c =

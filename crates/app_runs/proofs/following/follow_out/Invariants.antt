@@ -1,7 +1,7 @@
 use Rattle.std.proofs.Common.{◌≡◌, ◌≤◌, ◌-◌}
 use Rattle.app_runs.specs.Following.{TakesAll}
 use Rattle.app_runs.specs.Treeing.{items_so_far}
-use Rattle.app_runs.proofs.following.follow_all.Given as goal
+use Rattle.app_runs.proofs.following.follow_out.Given as goal
 
 abbrev pub invariant-loop-session : goal.invariant-loop-session
 invariant-loop-session l = record {
