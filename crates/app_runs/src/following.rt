@@ -1,8 +1,9 @@
 // A shadow that takes what the steps of a session tell.
 
 ghost use Rattle.std.specs.Prelude.{◌≡◌, ◌≤◌, ◌⊎◌, [], map, IfOk, OnOk, OnErr};
-ghost use Rattle.wasm_sem.specs.Execution.{summary_of, event};
+ghost use Rattle.wasm_sem.specs.Execution.{summary, summary_of, event};
 ghost use Rattle.wasm_run.specs.Noting.{entry_items, host_items, noted_items};
+ghost use Rattle.wasm_run.specs.Running.{configuration_of};
 ghost use Rattle.wasm_run.specs.Turns.{after_turn};
 ghost use Rattle.run_session.specs.Sessions.{session_turn, told_outcome};
 ghost use Rattle.static_info.specs.Belongs.{Belongs};
@@ -106,6 +107,26 @@ pub fn follow(
     Ok(turn)
 }
 
+// Makes step after step, to the end of the run or for the script's steps, and lets a shadow take what they tell.
+fn follow_all(
+    alloc: Global,
+    session: &mut Session<'_>,
+    info: &Info,
+    shadow: &mut Shadow<'_>,
+) -> Result<(), NoMemory>
+    requires begun { session.old.made ≡ 0 }
+    requires formed { IsWellFormed info.now }
+    requires belongs { Belongs info.now session.old.module }
+    requires fit { AreFitFor shadow.old (items_told info.now session.old.module session.old.script session.old.script.steps) }
+    ensures ended { OnOk result (summary (configuration_of session.new)
+        ≡ summary_of session.old.module session.old.script session.old.script.steps) }
+    ensures taken { OnOk result (TakesAll
+        (items_told info.now session.old.module session.old.script session.old.script.steps) shadow.old shadow.new) }
+{
+    while !is_over(&follow(alloc, session, info, shadow)?) {}
+    Ok(())
+}
+
 /// Makes step after step, to the end of the run or for the script's steps, and lets a shadow take what they tell; what
 /// came of the run. An error is want of memory.
 pub fn follow_out(
@@ -123,7 +144,8 @@ pub fn follow_out(
     ensures taken { OnOk result (TakesAll
         (items_told info.now session.entry.module session.entry.script session.entry.script.steps) shadow.old shadow.new) }
 {
-    while !is_over(&follow(alloc, &mut session, info, shadow)?) {}
-    let outcome = session.finish()?;
-    Ok(outcome)
+    match follow_all(alloc, &mut session, info, shadow) {
+        Ok(()) => session.finish(),
+        Err(fault) => Err(fault),
+    }
 }
