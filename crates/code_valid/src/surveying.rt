@@ -49,7 +49,6 @@ struct BlockEnds<'m> {
 
 // A part of a block from its opening to its end, its opcode left out, above the operands under its starts.
 #[cycle(surveying)]
-#[tactic(auto, using(crate::proofs::Moves::begins_live))]
 fn survey_part(
     alloc: Global,
     env: &Env,
@@ -114,7 +113,6 @@ fn survey_loop(
 }
 
 #[cycle(surveying)]
-#[tactic(auto, using(crate::proofs::Moves::pop_all_last))]
 fn survey_if(
     alloc: Global,
     env: &Env,
@@ -140,7 +138,6 @@ fn survey_if(
 }
 
 #[cycle(surveying)]
-#[tactic(auto, using(crate::proofs::Moves::pop_all_last))]
 fn survey_if_else(
     alloc: Global,
     env: &Env,

@@ -1,7 +1,8 @@
 use Rattle.std.proofs.Common.{◌+◌, drop, arith, ap, ◌∙◌}
+use Rattle.std.proofs.lemmas.Grind.{common_steps}
 use Rattle.module_ast.specs.Structure.{weight, before, code_of}
 use Rattle.module_ast.specs.Places.{code_size}
-use Rattle.code_valid.proofs.Moves.{kept}
+use Rattle.code_valid.proofs.Moves.{kept, pop_all_last, begins_live}
 use Rattle.code_valid.proofs.Sequences.{more_surveyed}
 use Rattle.module_ast.proofs.Plains.{next_instr, weight_before, size_before}
 use Rattle.code_valid.proofs.surveying.+surveying.Goals as goal
@@ -23,3 +24,51 @@ survey_code-loop-instr-preserved t c =
       lighter = omega (arith, weights, c.loop-instr.invariant.lighter);
       position = omega (arith, sizes, c.loop-instr.invariant.position, c.in_ok-survey_instr.ensures.position);
     }
+
+pub survey_code-survey_instr-requires : goal.survey_code-survey_instr-requires
+survey_code-survey_instr-requires t c = grind (arith, common_steps)
+
+pub survey_code-returns-in_err-survey_instr-clause-surveyed : goal.survey_code-returns-in_err-survey_instr-clause-surveyed
+survey_code-returns-in_err-survey_instr-clause-surveyed t c = grind (arith, common_steps)
+
+pub survey_code-returns-clause-surveyed : goal.survey_code-returns-clause-surveyed
+survey_code-returns-clause-surveyed t c = grind (arith, common_steps)
+
+pub survey_code-returns-clause-position : goal.survey_code-returns-clause-position
+survey_code-returns-clause-position t c = grind (arith, common_steps)
+
+pub survey_if-returns-in_err-pop_i32-clause-steps : goal.survey_if-returns-in_err-pop_i32-clause-steps
+survey_if-returns-in_err-pop_i32-clause-steps t c = grind (arith, pop_all_last)
+
+pub survey_if-returns-in_err-pop_all-clause-steps : goal.survey_if-returns-in_err-pop_all-clause-steps
+survey_if-returns-in_err-pop_all-clause-steps t c = grind (arith, pop_all_last)
+
+pub survey_if-returns-in_err-survey_part-clause-steps : goal.survey_if-returns-in_err-survey_part-clause-steps
+survey_if-returns-in_err-survey_part-clause-steps t c = grind (arith, pop_all_last)
+
+pub survey_if-returns-clause-steps : goal.survey_if-returns-clause-steps
+survey_if-returns-clause-steps t c = grind (arith, pop_all_last)
+
+pub survey_if_else-returns-in_err-pop_i32-clause-steps : goal.survey_if_else-returns-in_err-pop_i32-clause-steps
+survey_if_else-returns-in_err-pop_i32-clause-steps t c = grind (arith, pop_all_last)
+
+pub survey_if_else-returns-in_err-pop_all-clause-steps : goal.survey_if_else-returns-in_err-pop_all-clause-steps
+survey_if_else-returns-in_err-pop_all-clause-steps t c = grind (arith, pop_all_last)
+
+pub survey_if_else-returns-in_err-survey_part-clause-steps : goal.survey_if_else-returns-in_err-survey_part-clause-steps
+survey_if_else-returns-in_err-survey_part-clause-steps t c = grind (arith, pop_all_last)
+
+pub survey_if_else-returns-in_err-survey_part-2-clause-steps : goal.survey_if_else-returns-in_err-survey_part-2-clause-steps
+survey_if_else-returns-in_err-survey_part-2-clause-steps t c = grind (arith, pop_all_last)
+
+pub survey_if_else-returns-clause-steps : goal.survey_if_else-returns-clause-steps
+survey_if_else-returns-clause-steps t c = grind (arith, pop_all_last)
+
+pub survey_part-returns-in_err-survey_code-clause-passes : goal.survey_part-returns-in_err-survey_code-clause-passes
+survey_part-returns-in_err-survey_code-clause-passes t c = grind (arith, begins_live)
+
+pub survey_part-returns-in_err-pop_block-clause-passes : goal.survey_part-returns-in_err-pop_block-clause-passes
+survey_part-returns-in_err-pop_block-clause-passes t c = grind (arith, begins_live)
+
+pub survey_part-returns-clause-passes : goal.survey_part-returns-clause-passes
+survey_part-returns-clause-passes t c = grind (arith, begins_live)

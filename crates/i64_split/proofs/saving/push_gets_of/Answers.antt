@@ -39,3 +39,15 @@ returns-clause-added c = grind (arith, common_steps)
 
 pub returns-clause-prefix : goal.returns-clause-prefix
 returns-clause-prefix c = grind (arith, common_steps)
+
+pub local-requires : goal.local-requires
+local-requires c = grind (arith, common_steps)
+
+pub overflow_add-ints : goal.overflow_add-ints
+overflow_add-ints c = grind (arith, common_steps)
+
+pub local-requires-in-I64 : goal.local-requires-in-I64
+local-requires-in-I64 c = grind (arith, common_steps)
+
+pub overflow_add-longs : goal.overflow_add-longs
+overflow_add-longs c = grind (arith, common_steps)

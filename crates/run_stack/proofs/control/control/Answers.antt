@@ -1,4 +1,5 @@
-use Rattle.std.proofs.Common.{◌≡◌, sym, subst, List}
+use Rattle.std.proofs.Common.{◌≡◌, sym, subst, List, arith}
+use Rattle.std.proofs.lemmas.Grind.{common_steps}
 use Rattle.wasm_sem.specs.Types.{FuncType, Instr}
 use Rattle.module_ast.specs.declared.code.Instr.TheVariants as instrs
 use Rattle.module_ast.specs.Structure.{code_of}
@@ -120,3 +121,9 @@ pub returns-else-pop_i32-ne0-2-clause-comes : goal.returns-else-pop_i32-ne0-2-cl
 returns-else-pop_i32-ne0-2-clause-comes c =
     for_instr c.args.module.now.types c.args.stack.now c.enter_block-else-pop_i32-ne0-2.new.stack c.args.place.now c.args.instr.now (instrs.IfElse c.in-IfElse.ty c.in-IfElse.body c.in-IfElse.other) c.in-IfElse.is
     (λ inst e fr below types m. else_comes c.args.stack.now (code_of c.args.place.now) inst e fr below c.args.module.now.types types c.pop_i32-in-IfElse.result c.pop_i32-in-IfElse.new.self c.pop_i32-in-IfElse.ensures c.in-IfElse.ty c.in-IfElse.body c.in-IfElse.other c.if-pop_i32-ne0-2.false m c.enter_block-else-pop_i32-ne0-2.new.stack c.enter_block-else-pop_i32-ne0-2.ensures.opens)
+
+pub labels_of_frame-outermost-requires-clause-own : goal.labels_of_frame-outermost-requires-clause-own
+labels_of_frame-outermost-requires-clause-own c = grind (arith, common_steps)
+
+pub overflow_sub-outermost : goal.overflow_sub-outermost
+overflow_sub-outermost c = grind (arith, common_steps)

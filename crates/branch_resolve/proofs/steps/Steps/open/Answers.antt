@@ -1,4 +1,5 @@
-use Rattle.std.proofs.Common.{◌≡◌, ◌+◌, ◌∙◌, ap, sym, reverse, refl, ◌∷◌, None}
+use Rattle.std.proofs.Common.{◌≡◌, ◌+◌, ◌∙◌, ap, sym, reverse, refl, ◌∷◌, None, arith}
+use Rattle.std.proofs.lemmas.Grind.{common_steps}
 use Rattle.module_ast.specs.Places.{at, opens, code_size}
 use Rattle.module_ast.specs.Structure.{code_of}
 use Rattle.branch_resolve.specs.Scopes.{blocks_around}
@@ -30,3 +31,24 @@ returns-clause-ok c =
       (signed_is part.begin p (code_size code) (ap (λ z. z.begin) e ∙ o.begin) c.requires.whole.fits, refl, (scope_of part, c.block.ensures, refl)),
       (refl, ap (λ z. blocks_around (level_scopes z)) pushed ∙ ap (λ b. b ∷ blocks_around (level_scopes ls)) (sym c.block.ensures)),
     )
+
+pub offset_bounds-self-self : goal.offset_bounds-self-self
+offset_bounds-self-self c = grind (arith, common_steps)
+
+pub bounds-self-self : goal.bounds-self-self
+bounds-self-self c = grind (arith, common_steps)
+
+pub part_of-part-requires : goal.part_of-part-requires
+part_of-part-requires c = grind (arith, common_steps)
+
+pub block-requires-clause-end : goal.block-requires-clause-end
+block-requires-clause-end c = grind (arith, common_steps)
+
+pub block-requires-clause-target : goal.block-requires-clause-target
+block-requires-clause-target c = grind (arith, common_steps)
+
+pub overflow_add-self-2 : goal.overflow_add-self-2
+overflow_add-self-2 c = grind (arith, common_steps)
+
+pub returns-clause-whole : goal.returns-clause-whole
+returns-clause-whole c = grind (arith, common_steps)

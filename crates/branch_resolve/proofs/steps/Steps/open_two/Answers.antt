@@ -1,4 +1,5 @@
-use Rattle.std.proofs.Common.{◌≡◌, ◌+◌, ◌∙◌, ap, ap₂, sym, reverse, refl, ◌∷◌, Some, drop, subst}
+use Rattle.std.proofs.Common.{◌≡◌, ◌+◌, ◌∙◌, ap, ap₂, sym, reverse, refl, ◌∷◌, Some, drop, subst, arith}
+use Rattle.std.proofs.lemmas.Grind.{common_steps}
 use Rattle.module_ast.specs.Places.{at, opens, then_scope, else_scope}
 use Rattle.module_ast.specs.Structure.{if_else, code_of}
 use Rattle.branch_resolve.specs.Scopes.{blocks_around}
@@ -35,3 +36,33 @@ returns-clause-ok c =
       (signed_is sides.0.begin p _ (ap (λ z. z.begin) e) w.fits, refl, (scope_of sides.0, c.block.ensures, refl)),
       (refl, ap (λ z. blocks_around (level_scopes z)) pushed ∙ ap (λ b. b ∷ blocks_around (level_scopes ls)) (sym c.block.ensures)),
     )
+
+pub offset_bounds-self-self : goal.offset_bounds-self-self
+offset_bounds-self-self c = grind (arith, common_steps)
+
+pub bounds-self-self : goal.bounds-self-self
+bounds-self-self c = grind (arith, common_steps)
+
+pub overflow_add-self : goal.overflow_add-self
+overflow_add-self c = grind (arith, common_steps)
+
+pub offset_bounds-self-self-2 : goal.offset_bounds-self-self-2
+offset_bounds-self-self-2 c = grind (arith, common_steps)
+
+pub bounds-self-self-2 : goal.bounds-self-self-2
+bounds-self-self-2 c = grind (arith, common_steps)
+
+pub sides_of-requires : goal.sides_of-requires
+sides_of-requires c = grind (arith, common_steps)
+
+pub block-requires-clause-end : goal.block-requires-clause-end
+block-requires-clause-end c = grind (arith, common_steps)
+
+pub block-requires-clause-target : goal.block-requires-clause-target
+block-requires-clause-target c = grind (arith, common_steps)
+
+pub overflow_add-self-3 : goal.overflow_add-self-3
+overflow_add-self-3 c = grind (arith, common_steps)
+
+pub returns-clause-whole : goal.returns-clause-whole
+returns-clause-whole c = grind (arith, common_steps)

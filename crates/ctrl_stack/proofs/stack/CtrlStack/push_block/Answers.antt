@@ -2,6 +2,7 @@ use Rattle.std.proofs.Common.{◌≡◌, ◌<◌, ◌++◌, ◌∷◌, [], List,
 use Rattle.std.specs.Prelude.{reverse}
 use Rattle.std.proofs.lemmas.List.{reverse-append, length-reverse}
 use Rattle.std.proofs.lemmas.Bool.{eqb-false}
+use Rattle.std.proofs.lemmas.Grind.{common_steps}
 use Rattle.wasm_num.specs.declared.ValType.{ValType}
 use Rattle.ctrl_stack.specs.declared.frame.Frame.{Frame}
 use Rattle.ctrl_stack.specs.Stack.{Stack, AreBasesOrdered}
@@ -40,3 +41,9 @@ returns-clause-ok c =
     with_block_some c.args.kind a c.args.results s c.in_ok-base.base some got.1
     ∙ ap (λ z. Some z) (opened_view c.args.kind a c.args.results c.in_ok-base.base s fs items new c.self.view_is got.0 got.1 put)
     ∙ ap (λ gs. Some (record { frames = gs; operands = reverse new })) (sym frames)
+
+pub returns-then-is_empty-clause-fault : goal.returns-then-is_empty-clause-fault
+returns-then-is_empty-clause-fault c = grind (arith, common_steps)
+
+pub put_above-requires : goal.put_above-requires
+put_above-requires c = grind (arith, common_steps)
