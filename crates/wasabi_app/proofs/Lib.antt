@@ -1,5 +1,6 @@
 pub mod KeptNames
 mod Examples
+mod Fresh
 pub mod WordLines
 pub mod Linked
 pub mod Hooking

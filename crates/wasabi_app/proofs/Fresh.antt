@@ -5,7 +5,7 @@ use Rattle.app_plan.specs.Ends.{Ends}
 use Rattle.app_plan.specs.Feeding.{fresh_tools}
 use Rattle.app_plan.specs.Printing.{ShelfState, PrintState}
 use Rattle.wasabi_app.specs.Modes.{plan_of}
-use Rattle.wasabi_cli.specs.Ended.{IsEnded}
+use Rattle.wasabi_app.specs.Ended.{IsEnded}
 
 pub ended : (words : List (List ℕ)) (old new : ShelfState) (was taken : List ToolState) (before after : PrintState) (status : ℕ) → was ≡ fresh_tools
     → Ends (plan_of words) old new was taken before after status → IsEnded words old new before after status

@@ -1,7 +1,7 @@
 -- The analyses are fresh.
 use Rattle.command_line.specs.Lines.{texts}
-use Rattle.wasabi_cli.proofs.Fresh.{ended}
-use Rattle.wasabi_cli.proofs.run_fresh.Goals as goal
+use Rattle.wasabi_app.proofs.Fresh.{ended}
+use Rattle.wasabi_app.proofs.fresh.run_fresh.Goals as goal
 
 pub returns : goal.returns
 returns g c = ended (texts c.args.words.now) _ _ _ _ _ _ _ c.requires.fresh c.run_app.ensures.ended

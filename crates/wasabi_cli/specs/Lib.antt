@@ -1,2 +1,0 @@
--- The definitions that the program's own contracts cite.
-pub mod Ended
