@@ -1,4 +1,4 @@
-use Rattle.std.proofs.Common.{◌+◌, drop, arith, ap, ◌∙◌}
+use Rattle.std.proofs.Common.{◌+◌, drop, arith, ap, ◌∙◌, rules}
 use Rattle.std.proofs.lemmas.Grind.{common_steps}
 use Rattle.module_ast.specs.Structure.{weight, before, code_of}
 use Rattle.module_ast.specs.Places.{code_size}
@@ -72,3 +72,9 @@ survey_part-returns-in_err-pop_block-clause-passes t c = grind (arith, begins_li
 
 pub survey_part-returns-clause-passes : goal.survey_part-returns-clause-passes
 survey_part-returns-clause-passes t c = grind (arith, begins_live)
+
+pub survey_block-returns-clause-steps : goal.survey_block-returns-clause-steps
+survey_block-returns-clause-steps t c = search rules
+
+pub survey_loop-returns-clause-steps : goal.survey_loop-returns-clause-steps
+survey_loop-returns-clause-steps t c = search rules
