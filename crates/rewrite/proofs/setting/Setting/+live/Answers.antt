@@ -1,5 +1,4 @@
 use Rattle.std.proofs.Common.{List, refl, ◌<◌, length, pos, ◌≡◌, ◌+◌, ap, ◌∙◌, sym, subst, drop, arith, true, false, ◌∷◌, ◌++◌, []}
-use Rattle.std.proofs.lemmas.Grind.{common_steps}
 use Rattle.wasm_num.specs.declared.BlockKind.TheVariants as kinds
 use Rattle.branch_resolve.specs.declared.Block.{Block}
 use Rattle.branch_resolve.specs.Levels.{block_sizes}
@@ -194,18 +193,3 @@ push_both-returns-clause-code t c ss e k =
     (c.in_ok-inside.ensures.code ss (then_scope p body other) e first)
     (c.in_ok-outside.ensures.code ss s (c.in_ok-inside.ensures.scopes ∙ e) second ∙ ap (λ z. plains (tell_begin w s.begin s.kind) (live_code w (s ∷ ss) (p + z + 1 + 1) other)) sized.0)
     c.in_ok-push_condition.ensures c.in_ok-push.ensures.items
-
-pub part-returns-clause-code : goal.part-returns-clause-code
-part-returns-clause-code t c = grind (arith, common_steps)
-
-pub push_both-returns-clause-sizes : goal.push_both-returns-clause-sizes
-push_both-returns-clause-sizes t c = grind (arith, common_steps)
-
-pub push_code-returns-clause-sizes : goal.push_code-returns-clause-sizes
-push_code-returns-clause-sizes t c = grind (arith, common_steps)
-
-pub push_code-returns-clause-live : goal.push_code-returns-clause-live
-push_code-returns-clause-live t c = grind (arith, common_steps)
-
-pub push_code-returns-clause-code : goal.push_code-returns-clause-code
-push_code-returns-clause-code t c = grind (arith, common_steps)
