@@ -1,6 +1,6 @@
 pub mod KeptNames
 mod Examples
-mod Fresh
+mod Ended
 pub mod WordLines
 pub mod Linked
 pub mod Hooking

@@ -1,6 +1,6 @@
 -- The analyses are fresh.
 use Rattle.command_line.specs.Lines.{texts}
-use Rattle.wasabi_app.proofs.Fresh.{ended}
+use Rattle.wasabi_app.proofs.Ended.{ended}
 use Rattle.wasabi_app.proofs.fresh.run_fresh.Goals as goal
 
 pub returns : goal.returns
