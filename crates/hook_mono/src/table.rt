@@ -12,9 +12,15 @@ use wasm_num::NoMemory;
 
 /// The hooks of a module: distinct keys, numbered from 0 in the order in which they came, which contracts see as their list.
 /// A key is looked up by its hash, in time that does not grow with the table.
-#[derive(Drop)]
 pub struct HookTable {
     keys: IndexSet<HookKey>,
+}
+
+// By a call of its own, so that a way out past it is one step in a proof.
+impl Drop for HookTable {
+    fn drop(self) {
+        let HookTable { keys: _keys } = self;
+    }
 }
 
 impl Model for HookTable {
@@ -94,6 +100,7 @@ impl HookTable {
     pub fn into_keys(self, alloc: Global) -> Result<Vec<HookKey>, NoMemory>
         ensures { IfOk result (λ keys. keys.items ≡ self) }
     {
-        self.keys.into_iter().collect(alloc)
+        let HookTable { keys } = self;
+        keys.into_iter().collect(alloc)
     }
 }

@@ -16,13 +16,25 @@ use wasm_encode::Outline;
 use wasm_num::NoMemory;
 
 /// Types and imports that go behind the original's, and exports, start and elements that stand in place of its own.
-#[derive(Drop)]
 pub(crate) struct Parts {
     pub(crate) types: HookTypes,
     pub(crate) imports: Seq<Import>,
     pub(crate) exports: Seq<Export>,
     pub(crate) start: Option<u32>,
     pub(crate) elements: Seq<Element>,
+}
+
+// By a call of its own, so that a way out past it is one step in a proof.
+impl Drop for Parts {
+    fn drop(self) {
+        let Parts {
+            types: _types,
+            imports: _imports,
+            exports: _exports,
+            start: _start,
+            elements: _elements,
+        } = self;
+    }
 }
 
 // The module that hooks are imported from, as a name.

@@ -63,7 +63,6 @@ impl Model for Held {
 }
 
 /// The machine's state, with a mark on each byte and value, as the items told so far rebuild it; and the warnings so far.
-#[derive(Drop)]
 pub struct Shadow<'m> {
     alloc: Global,
     valid: &'m ValidModule,
@@ -79,6 +78,28 @@ pub struct Shadow<'m> {
     held: Option<Held>,
     given: Option<Vec<Marked>>,
     warnings: Vec<Warning>,
+}
+
+// By a call of its own, so that a way out past it is one step in a proof.
+impl Drop for Shadow<'_> {
+    fn drop(self) {
+        let Shadow {
+            alloc: _alloc,
+            valid: _valid,
+            functions: _functions,
+            blocks: _blocks,
+            sources: _sources,
+            sinks: _sinks,
+            memory: _memory,
+            memory_marks: _memory_marks,
+            globals: _globals,
+            stack: _stack,
+            prepared: _prepared,
+            held: _held,
+            given: _given,
+            warnings: _warnings,
+        } = self;
+    }
 }
 
 impl<'m> Model for Shadow<'m> {

@@ -28,11 +28,21 @@ impl Model for Label {
 }
 
 /// A frame: its function, its locals, and how many labels stand below its own.
-#[derive(Drop)]
 pub(crate) struct Frame {
     func: u32,
     locals: Vec<Marked>,
     labels: usize,
+}
+
+// By a call of its own, so that a way out past it is one step in a proof.
+impl Drop for Frame {
+    fn drop(self) {
+        let Frame {
+            func: _func,
+            locals: _locals,
+            labels: _labels,
+        } = self;
+    }
 }
 
 impl Model for Frame {
@@ -44,11 +54,21 @@ impl Model for Frame {
 }
 
 /// The operands, labels and frames of a shadow, each in one vector. Contracts see the frames as they stand, and the marks.
-#[derive(Drop)]
 pub(crate) struct Stack {
     operands: Vec<Marked>,
     labels: Vec<Label>,
     frames: Vec<Frame>,
+}
+
+// By a call of its own, so that a way out past it is one step in a proof.
+impl Drop for Stack {
+    fn drop(self) {
+        let Stack {
+            operands: _operands,
+            labels: _labels,
+            frames: _frames,
+        } = self;
+    }
 }
 
 impl Model for Stack {

@@ -22,7 +22,6 @@ pub struct Entry {
 
 /// The call of a host function that is no hook: the import's index among the module's functions, what it took, what it gave,
 /// and the writes that were done, in order.
-#[derive(Drop)]
 pub struct HostNote {
     pub import: u32,
     pub args: Values,
@@ -30,20 +29,51 @@ pub struct HostNote {
     pub writes: Vec<HostWrite>,
 }
 
+// By a call of its own, so that a way out past it is one step in a proof.
+impl Drop for HostNote {
+    fn drop(self) {
+        let HostNote {
+            import: _import,
+            args: _args,
+            results: _results,
+            writes: _writes,
+        } = self;
+    }
+}
+
 /// What one step entered, and the host call that it made, if any.
-#[derive(Drop)]
 pub struct Note {
     pub entered: Option<Entry>,
     pub host: Option<HostNote>,
 }
 
+// By a call of its own, so that a way out past it is one step in a proof.
+impl Drop for Note {
+    fn drop(self) {
+        let Note {
+            entered: _entered,
+            host: _host,
+        } = self;
+    }
+}
+
 /// The note of the last step that had something to note, behind how many steps it stood, and a note of nothing, for all
 /// other steps: these need not touch it.
-#[derive(Drop)]
 pub(crate) struct Noted {
     pub last: Note,
     pub nothing: Note,
     pub made: u64,
+}
+
+// By a call of its own, so that a way out past it is one step in a proof.
+impl Drop for Noted {
+    fn drop(self) {
+        let Noted {
+            last: _last,
+            nothing: _nothing,
+            made: _made,
+        } = self;
+    }
 }
 
 impl Noted {

@@ -37,7 +37,6 @@ use wasm_valid::ValidModule;
 
 /// A run of a module under a script, after so many steps. Contracts see these three alone: all else is what stands behind
 /// the steps that were made.
-#[derive(Drop)]
 pub(crate) struct Running<'m> {
     module: &'m Module,
     script: &'m Script,
@@ -50,6 +49,25 @@ pub(crate) struct Running<'m> {
     table: Table,
     noted: Noted,
     alloc: Global,
+}
+
+// By a call of its own, so that a way out past it is one step in a proof.
+impl Drop for Running<'_> {
+    fn drop(self) {
+        let Running {
+            module: _module,
+            script: _script,
+            made: _made,
+            stack: _stack,
+            memory: _memory,
+            globals: _globals,
+            hosts: _hosts,
+            functions: _functions,
+            table: _table,
+            noted: _noted,
+            alloc: _alloc,
+        } = self;
+    }
 }
 
 impl<'m> Model for Running<'m> {

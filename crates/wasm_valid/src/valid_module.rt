@@ -10,12 +10,23 @@ use std::marker::Model;
 
 /// A module that is whole, complete and valid, with what the check of each body noted. Contracts see the module.
 /// (Standard, 3.4)
-#[derive(Drop)]
 pub struct ValidModule {
     module: Module,
     spaces: Spaces,
     marks: Seq<Marks>,
     sizes: Seq<Sizes>,
+}
+
+// By a call of its own, so that a way out past it is one step in a proof.
+impl Drop for ValidModule {
+    fn drop(self) {
+        let ValidModule {
+            module: _module,
+            spaces: _spaces,
+            marks: _marks,
+            sizes: _sizes,
+        } = self;
+    }
 }
 
 impl Model for ValidModule {

@@ -24,7 +24,7 @@ returns-in_err-module-clause-refused g c =
 pub kept_names-requires-clause-few : goal.kept_names-requires-clause-few
 kept_names-requires-clause-few g c =
     let count = (c.in_ok-module.ensures.ok.0.within Functions).0 in
-    omega (arith, count, ap (λ (m : Module). length (funcs_of m)) c.module-2.ensures.module)
+    omega (arith, count, ap (λ (m : Module). length (funcs_of m)) c.«module».ensures.module)
 
 pub returns-in-Ok-clause-ok : goal.returns-in-Ok-clause-ok
 returns-in-Ok-clause-ok g c =
@@ -33,7 +33,7 @@ returns-in-Ok-clause-ok g c =
     record {
       bytes = c.in_ok-bytes.bytes.items;
       read_well = c.in_ok-bytes.ensures.ok want;
-      spelled = (fit, c.in_ok-module.ensures.ok.1, rw (c.as_slice-2.ensures.value, c.module-2.ensures.module) at c.in-Ok.ensures);
+      spelled = (fit, c.in_ok-module.ensures.ok.1, rw (c.as_slice-2.ensures.value, c.«module».ensures.module) at c.in-Ok.ensures);
     }
 
 pub returns-clause-refused : goal.returns-clause-refused
