@@ -51,3 +51,6 @@ returns-in_default-kind c =
       );
       kept = tt;
     }
+
+pub returns-in_default-clause-kept : goal.returns-in_default-clause-kept
+returns-in_default-clause-kept c = search rules

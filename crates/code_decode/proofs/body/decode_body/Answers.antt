@@ -1,4 +1,5 @@
 use Rattle.std.proofs.Common.{◌≡◌, arith, ap, ◌∙◌, length, subst}
+use Rattle.std.proofs.lemmas.Grind.{common_steps}
 use Rattle.std.proofs.lemmas.List.{nil_from_length}
 use Rattle.module_ast.specs.Binary.{BodyExceeds}
 use Rattle.code_decode.proofs.Bodies.{no_locals, no_expr, no_end, answer_tree, float_groups, float_code, body_deep}
@@ -41,3 +42,6 @@ returns-in-Deep-clause-nesting c = λ found e.
     let n = nil_from_length c.read_expr.new.cursor.left (omega (arith, c.left.ensures, c.if-left-ne0.false)) in
     let g : c.in-Deep.found ≡ found = cc in
     subst (BodyExceeds c.args.nesting c.args.bytes.now) g (body_deep _ _ _ l.0 l.1 n _ t.0 _ _ l.2 t.1 t.2 t.3)
+
+pub returns-in-Built-clause-ok : goal.returns-in-Built-clause-ok
+returns-in-Built-clause-ok c = grind (arith, common_steps)

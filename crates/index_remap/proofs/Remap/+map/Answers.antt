@@ -1,4 +1,4 @@
-use Rattle.std.proofs.Common.{arith, ◌+◌, ap, sym, ◌∙◌, drop, subst}
+use Rattle.std.proofs.Common.{arith, ◌+◌, ap, sym, ◌∙◌, drop, subst, rules}
 use Rattle.module_ast.specs.Structure.{weight, code_of, onto, onto_push}
 use Rattle.index_remap.specs.Remap.{map_tree, Maps}
 use Rattle.module_ast.proofs.Plains.{next_instr, weight_before}
@@ -26,3 +26,6 @@ map_body-loop-instr-preserved t c =
       maps = (maps_parts c.args.self.now i rest (subst (Maps c.args.self.now) next c.loop-instr.invariant.maps)).1;
       lighter = omega (arith, ap weight next, weight_before i rest);
     }
+
+pub map_instr-returns-in-Call : goal.map_instr-returns-in-Call
+map_instr-returns-in-Call c = search rules

@@ -1,4 +1,4 @@
-use Rattle.std.proofs.Common.{ap, length, arith, w32, to_z, of_z}
+use Rattle.std.proofs.Common.{ap, length, arith, w32, to_z, of_z, rules}
 use Rattle.rewrite_needs.specs.declared.needs.Needs.{Needs}
 use Rattle.rewrite_needs.specs.Needing.{told_keys}
 use Rattle.rewrite_needs.proofs.Known.{few_each}
@@ -21,3 +21,6 @@ add_ends-requires c =
       ap length c.leave.ensures.rest,
       rest_few c.args.depth n.stack,
     )
+
+pub returns : goal.returns
+returns c = search rules

@@ -1,4 +1,4 @@
-use Rattle.std.proofs.Common.{◌+◌, refl, sym, ap, subst, ◌∙◌}
+use Rattle.std.proofs.Common.{◌+◌, refl, sym, ap, subst, ◌∙◌, rules}
 use Rattle.std.specs.Prelude.{option_map}
 use Rattle.module_ast.specs.Validation.{load_width}
 use Rattle.wasm_sem.specs.Types.{Event}
@@ -27,3 +27,6 @@ returns-in-Load-clause-ok c =
     subst (λ (e : Event). TakesItem (event e) c.args.self.now next) (sym u.is)
     (takes (event load) seen c.args.self.now next c.self.view_is
     (load_takes seen.module seen.limit seen.watch seen.shadow c.replace.new.self u.loc u.op u.offset u.address u.value c.read_mark-mark.result fit mark c.replace.ensures) refl refl refl)
+
+pub returns-in-Store-clause-ok : goal.returns-in-Store-clause-ok
+returns-in-Store-clause-ok c = search rules

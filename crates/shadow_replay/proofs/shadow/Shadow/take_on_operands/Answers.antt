@@ -1,4 +1,4 @@
-use Rattle.std.proofs.Common.{sym, subst, refl}
+use Rattle.std.proofs.Common.{sym, subst, refl, rules}
 use Rattle.wasm_sem.specs.Types.{Event}
 use Rattle.hook_select.specs.declared.Event.TheVariants as events
 use Rattle.wasm_sem.specs.Execution.{event}
@@ -17,3 +17,6 @@ returns-in-Binary-clause-ok c =
     let u = c.in-Binary in
     subst (λ (e : Event). TakesItem (event e) c.args.self.now c.take_number-in-Binary.new.self) (sym u.is)
     (number_takes u.op u.result (event (events.Binary u.loc u.op u.a u.b u.result)) c.args.self.now c.take_number-in-Binary.new.self (subst (λ (e : Event). IsFitEvent e c.args.self.now) u.is c.requires.fit) c.take_number-in-Binary.ensures refl)
+
+pub returns-after-cond-eq0-clause-ok : goal.returns-after-cond-eq0-clause-ok
+returns-after-cond-eq0-clause-ok c = search rules

@@ -1,0 +1,5 @@
+use Rattle.std.proofs.Common.{rules}
+use Rattle.hook_select.proofs.Hooks.with.Goals as goal
+
+pub returns-in-Nop : goal.returns-in-Nop
+returns-in-Nop c = search rules
