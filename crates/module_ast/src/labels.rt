@@ -7,9 +7,15 @@ use std::marker::Model;
 use std::mem::size_of;
 
 /// Labels in order, which contracts see as a list. It is as large as a pointer, so that an instruction stays small.
-#[derive(Drop)]
 pub struct Labels {
     items: Box<Vec<u32>>,
+}
+
+// By a call of its own, so that a way out past it is one step in a proof.
+impl Drop for Labels {
+    fn drop(self) {
+        let Labels { items: _items } = self;
+    }
 }
 
 const _: () = prove!(size_of::<Labels>() == 8);
@@ -35,7 +41,8 @@ impl Labels {
     pub fn into_vec(self) -> Vec<u32>
         ensures { result.items ≡ self }
     {
-        Box::into_inner(self.items)
+        let Labels { items } = self;
+        Box::into_inner(items)
     }
 
     /// The labels, in order.
