@@ -14,7 +14,7 @@ use Rattle.shadow_replay.specs.Stacked.{values_in, marks_in, Has, exchanged_in, 
 use Rattle.shadow_replay.specs.Taint.{Watch, each_marked, exchange, no_frames}
 use Rattle.shadow_replay.specs.Tainted.{PreparedMarks, TaintedShadow, move, calls_marks, calls_typed_marks, enters_marks, local_marks, prepared_marks, typed_marks, slot_marks, with_marks, tainted_effect}
 use Rattle.shadow_replay.specs.Resolved.{begun_with}
-use Rattle.shadow_replay.specs.Replayed.{Replay, PreparedLocals, with_standing, standing_in, marked_values, values_prepared, marks_prepared, Prepares}
+use Rattle.shadow_replay.specs.Replayed.{Replay, PreparedLocals, with_standing, standing_in, marked_values, values_prepared, marks_prepared, Prepares, called_through}
 use Rattle.shadow_replay.proofs.ShadowTakes.{some_if, popped, Swaps, swapped}
 use Rattle.shadow_replay.proofs.ShadowHosts.{marked_is, marked_so}
 use Rattle.shadow_replay.proofs.ZeroLocals.{begun_values, begun_marks}
@@ -86,13 +86,13 @@ call_is l sh c ms h r =
 -- ---- calls through a slot
 
 -- the type that is asked for is there, and so are the slot's number and the arguments
-pub slot_type : (m : Module) (f : Option ℕ) (ty : Option FuncType) (sh : Option Shadow) → IsSome (option_and_then (calls_typed m f ty) sh) → IsSome ty
+slot_type : (m : Module) (f : Option ℕ) (ty : Option FuncType) (sh : Option Shadow) → IsSome (option_and_then (calls_typed m f ty) sh) → IsSome ty
 slot_type m f (Some ty) sh h = refl
 slot_type m f None None h = absurd cc
 slot_type m f None (Some sh) h = absurd cc
 
 -- what is read at a place where there is something
-pub found_at : {A : Type 0} (xs : List A) (i : ℕ) (x : A) → IsSome (slice_get xs i) → x ≡ get_or xs i x → slice_get xs i ≡ Some x
+found_at : {A : Type 0} (xs : List A) (i : ℕ) (x : A) → IsSome (slice_get xs i) → x ≡ get_or xs i x → slice_get xs i ≡ Some x
 found_at {A} xs i x h e = go (slice_get xs i) refl h
   where
     go : (o : Option A) → slice_get xs i ≡ o → IsSome o → o ≡ Some x
@@ -129,7 +129,7 @@ module _ (m : Module) (f : Option ℕ) (ty : FuncType) (sh : Shadow) (h : IsSome
   second : Taken past past.frames ty.params (prepared_slot m ty f)
   second = taken past past.frames ty.params (prepared_slot m ty f) (subst (λ (o : Option Shadow). IsSome (option_and_then (calls_typed m f (Some ty)) o)) first.is h)
 
-  pub slot_has : Has (1 + n) sh.frames
+  slot_has : Has (1 + n) sh.frames
   slot_has = has_more n sh.frames first.has second.0
 
   slot_state : option_and_then (calls_typed m f (Some ty)) (swap (types.I32 ∷ []) [] sh)
@@ -138,6 +138,19 @@ module _ (m : Module) (f : Option ℕ) (ty : FuncType) (sh : Shadow) (h : IsSome
       ap (option_and_then (calls_typed m f (Some ty))) first.is ∙ (second.1
       ∙ (ap (λ fs. (let t : Option Shadow = Some (record sh { frames = fs; prepared = prepared_slot m ty f (reverse (take n (top_operands past.frames))) }) in t)) (exchanged_twice n sh.frames)
       ∙ ap (λ o. (let t : Option Shadow = Some (record sh { frames = exchanged_in (1 + n) [] sh.frames; prepared = prepared_slot m ty f (reverse (take n o)) }) in t)) (top_past 1 sh.frames)))
+
+-- a call through a slot that is fit finds the type that is asked for, the slot's number and the arguments
+pub record SlotRoom (r : Replay) (ty : ℕ) (f : Option ℕ) (asked : FuncType) : Type 0 where
+  pub type : slice_get r.module.types ty ≡ Some asked
+  pub fit : IsSome (option_and_then (calls_typed r.module f (Some asked)) (swap (types.I32 ∷ []) [] r.shadow.state))
+  pub has : Has (1 + length asked.params) r.shadow.state.frames
+
+pub slot_room : (r : Replay) (ty : ℕ) (f : Option ℕ) (asked : FuncType) → IsSome (called_through ty f r) → asked ≡ get_or r.module.types ty asked → SlotRoom r ty f asked
+slot_room r ty f asked there e =
+    let swapping = swap (types.I32 ∷ []) [] r.shadow.state in
+    let type = found_at r.module.types ty asked (slot_type r.module f (slice_get r.module.types ty) swapping there) e in
+    let fit = subst (λ t. IsSome (option_and_then (calls_typed r.module f t) swapping)) type there in
+    record { type = type; fit = fit; has = slot_has r.module f asked r.shadow.state fit }
 
 abbrev calling_slot : ℕ → Option PreparedLocals → TaintedShadow → TaintedShadow
 calling_slot n p sh = record {
@@ -161,23 +174,6 @@ slot_is m l f ty sh ms p h r e g =
     ∙ ap (with_prepared (values_prepared p) (marks_prepared p)) (drop-drop n 1 o)))
 
 -- ---- what a call through a slot prepares
-
-pub prepares_none : (loc : Loc) (asked : FuncType) (f : Option ℕ) (ms : List Marked) (r : Replay) → f ≡ None → Prepares loc asked f ms r None
-prepares_none loc asked f ms r e = rw e (record { values = refl; marks = refl })
-
--- there is no such function
-pub prepares_past : (loc : Loc) (asked : FuncType) (f : ℕ) (ms : List Marked) (r : Replay) → slice_get (callees_of r.module) f ≡ None → Prepares loc asked (Some f) ms r None
-prepares_past loc asked f ms r e = record {
-  values = sym (ap (λ c. prepared_typed asked c (values_in ms)) e);
-  marks = sym (ap (λ c. typed_marks loc asked c (marks_in ms)) e);
-}
-
--- it has another type
-pub prepares_other : (loc : Loc) (asked : FuncType) (f : ℕ) (ms : List Marked) (r : Replay) (c : Callee) → slice_get (callees_of r.module) f ≡ Some c → same_func_type (callee_type c) asked ≡ false → Prepares loc asked (Some f) ms r None
-prepares_other loc asked f ms r c e h = record {
-  values = sym (ap (λ c. prepared_typed asked c (values_in ms)) e ∙ ap (λ b. cond b (Some (prepared_locals c (values_in ms))) None) h);
-  marks = sym (ap (λ c. typed_marks loc asked c (marks_in ms)) e ∙ ap (λ b. cond b (prepared_marks (Some loc) (Some c) (marks_in ms)) None) h);
-}
 
 pub prepares_locals : (loc : Loc) (asked : FuncType) (f : ℕ) (ms ls : List Marked) (r : Replay) (c : Callee) → slice_get (callees_of r.module) f ≡ Some c → same_func_type (callee_type c) asked ≡ true → ls ≡ begun_with c ms
     → Prepares loc asked (Some f) ms r (Some (record { call = Some loc; locals = ls }))
