@@ -1,6 +1,6 @@
 -- Files that were written, or could not be.
-use Rattle.std.proofs.Common.{◌≡◌, ◌≢◌, ℕ, ◌≤◌, ◌⊎◌, inl, inr, List, [], ◌∷◌, refl, sym, ◌∙◌, arith, append-nil, ap₂, cond, fold, Option, Some, None}
-use Rattle.outside_io.specs.Outside.{Contents, Rose, Wrote, WrotePart}
+use Rattle.std.proofs.Common.{◌≡◌, ◌≢◌, ℕ, ◌≤◌, ◌⊎◌, inl, inr, List, [], ◌∷◌, refl, sym, ◌∙◌, arith, append-nil, ap₂, cond, fold, Option}
+use Rattle.outside_io.specs.Outside.{Contents, Rose, WrotePart}
 use Rattle.wasm_sem.specs.Types.{Event}
 use Rattle.analyses.specs.declared.Kind.{Kind}
 use Rattle.analyses.specs.declared.Kind.TheVariants.{Blocks, Branches, Calls, Memory}
@@ -15,13 +15,6 @@ use Rattle.app_plan.specs.Plans.{File}
 pub rose_before : (a b c : ℕ) → a ≤ b → Rose b c → Rose a c
 rose_before a b c p (inl r) = inl (omega (arith, p, r))
 rose_before a b c p (inr r) = inr r
-
--- a whole is a part
-wrote_part : (name bytes : List ℕ) (old new : Option Contents) → Wrote name bytes old new → WrotePart name bytes old new
-wrote_part name bytes None None w = tt
-wrote_part name bytes (Some a) (Some b) w = (inr (bytes, w.0, ([], append-nil bytes)), w.1)
-wrote_part name bytes None (Some b) w = absurd w
-wrote_part name bytes (Some a) None w = absurd w
 
 pub all_some : (fs : List File) (old new : Option Contents) → WroteAll fs old new → WroteSome fs old new
 all_some [] old new w = w

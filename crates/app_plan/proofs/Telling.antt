@@ -4,7 +4,6 @@ use Rattle.outside_io.specs.Outside.{Unchanged}
 use Rattle.analyses.specs.Tools.{ToolState}
 use Rattle.app_plan.specs.Feeding.{fed, AreFedPart}
 use Rattle.app_plan.specs.Printing.{ShelfState, PrintState, said, said_part, said_no_memory}
-use Rattle.app_plan.specs.Texts.{no_memory_text}
 use Rattle.app_plan.specs.Wants.{Read, ReadCause, missing, too_long, unread, refuted, unread_no_memory}
 use Rattle.app_plan.specs.Plans.{Reason, no_output, no_call, out_of_range, long_trace, no_import, few_groups, not_nested, reason_status, Finish, done, trapped, unfinished, finish_status, Effect, refuses, does, Plan, Leads, Comes}
 use Rattle.app_plan.specs.Ends as ends
@@ -25,10 +24,6 @@ cause_memory _ _ (refused reason text l u s) = (inl u, inl s)
 cause_memory {plan = plan} {old = old} {new = new} {was = was} {is = is} _ _ (unwritten e status text l f t) =
     (inr (e, l, files_some e.files old new status text f), inr (took_all plan old new was is e l t))
 cause_memory _ _ (memory_ended w t) = (w, t)
-
-pub memory_cause : {plan : Option Plan} {old new : ShelfState} {was is : List ToolState} (status : ℕ) (text : List ℕ) → Cause plan old new was is status text
-    → Cause plan old new was is 14 no_memory_text
-memory_cause status text c = let m = cause_memory status text c in memory_ended m.0 m.1
 
 -- a read that gave nothing
 read_tells : (plan : Option Plan) (old new : ShelfState) (was is : List ToolState) (before after : PrintState) (read : Read) (status : ℕ) (text : List ℕ)

@@ -79,10 +79,6 @@ turn_made Over is going = absurd (going refl)
 turn_made Ran is going = refl
 turn_made (Hook h) is going = refl
 
--- what a turn that is over adds
-pub over_adds : (info : Info) (turn : Turn) (old new : Run) → TakesTurn (Ok turn) old new → turn ≡ Over → turn_items info old ≡ []
-over_adds info turn old new t over = ap (λ x. unless_over x (step_items info old)) (sym t.0 ∙ over)
-
 step_made : (turn : Turn) (old : Run) → (turn ≡ Over → ⊥) → after_turn turn old ≡ one_more old
 step_made Over old going = absurd (going refl)
 step_made Ran old going = refl

@@ -1,5 +1,5 @@
 -- Items that a shadow takes, one list after another.
-use Rattle.std.proofs.Common.{◌≡◌, ℕ, suc, ◌+◌, ◌<◌, ◌≤◌, List, [], ◌∷◌, ◌++◌, length, map, take, drop, get_or, Option, Some, None, unwrap_or, refl, sym, ap, subst, ◌∙◌, append_assoc, append-nil, drop-cons, take-append-drop, take_all}
+use Rattle.std.proofs.Common.{◌≡◌, ℕ, suc, ◌+◌, ◌<◌, List, [], ◌∷◌, ◌++◌, length, map, take, drop, get_or, Option, Some, unwrap_or, refl, sym, ap, subst, ◌∙◌, append_assoc, append-nil, drop-cons, take-append-drop}
 use Rattle.std.proofs.lemmas.List.{map-append, take_more}
 use Rattle.wasm_sem.specs.Types.{Module, Event}
 use Rattle.index_remap.specs.Remap.{unmap_index}
@@ -113,14 +113,6 @@ entered_fit info o c func r is unmapped fit =
     ap (λ x. read info [] (entry_items x)) is ∙ ap (λ f. entry (record { func = f; args = c.args }) ∷ []) (sym unmapped) in
     fit_first (entry (record { func = func; args = c.args })) [] r (subst (AreFitFor r) at fit)
 
-pub entered_taken : (info : Info) (o : Option Entry) (c : Entry) (func : ℕ) (a b : Replay) → o ≡ Some c
-    → func ≡ unwrap_or (unmap_index (info_remap info) c.func) c.func → TakesItem (entry (record { func = func; args = c.args })) a b
-    → TakesAll (read info [] (entry_items o)) a b
-entered_taken info o c func a b is unmapped t =
-    let at : read info [] (entry_items o) ≡ entry (record { func = func; args = c.args }) ∷ [] =
-    ap (λ x. read info [] (entry_items x)) is ∙ ap (λ f. entry (record { func = f; args = c.args }) ∷ []) (sym unmapped) in
-    subst (λ l. TakesAll l a b) (sym at) (takes_one (entry (record { func = func; args = c.args })) a b t)
-
 -- what a host call took is what was prepared
 pub hosted_fit : (o : Option HostNote) (h : HostNote) (ws : List HostWrite) (r : Replay) → o ≡ Some h → ws ≡ h.writes.items → AreFitFor r (host_items o)
     → IsItemFit r.module r.limit r.shadow.state (answered h.import h.results ws r.shadow.state)
@@ -129,19 +121,6 @@ hosted_fit o h ws r is writes fit =
     ap host_items is ∙ ap (λ l. host_call h.import h.args h.results l ∷ []) (sym writes) in
     let one = fit_first (host_call h.import h.args h.results ws) [] r (subst (AreFitFor r) at fit) in
     record { place = tt; effect = one.effect }
-
-pub hosted_taken : (o : Option HostNote) (h : HostNote) (ws : List HostWrite) (a b : Replay) → o ≡ Some h → ws ≡ h.writes.items
-    → TakesItem (answered h.import h.results ws a.shadow.state) a b → TakesAll (host_items o) a b
-hosted_taken o h ws a b is writes t =
-    let at : host_items o ≡ host_call h.import h.args h.results ws ∷ [] =
-    ap host_items is ∙ ap (λ l. host_call h.import h.args h.results l ∷ []) (sym writes) in
-    subst (λ l. TakesAll l a b) (sym at) (takes_one (host_call h.import h.args h.results ws) a b (record { effect = t.effect; «module» = t.module; limit = t.limit; watch = t.watch }))
-
-pub none_entered : (info : Info) (o : Option Entry) (r : Replay) → o ≡ None → TakesAll (read info [] (entry_items o)) r r
-none_entered info o r is = subst (λ x. TakesAll (read info [] (entry_items x)) r r) (sym is) (takes_none r)
-
-pub none_hosted : (o : Option HostNote) (r : Replay) → o ≡ None → TakesAll (host_items o) r r
-none_hosted o r is = subst (λ x. TakesAll (host_items x) r r) (sym is) (takes_none r)
 
 -- ---- events, one after another
 
@@ -169,6 +148,3 @@ pub event_taken : (es : List Event) (k : ℕ) (e : Event) (a b c : Replay) → k
 event_taken es k e a b c within is t one =
     let more : take (k + 1) es ≡ take k es ++ e ∷ [] = take_more es k e within ∙ ap (λ x. take k es ++ x ∷ []) (sym is) in
     subst (λ l. TakesAll l a c) (sym (ap (map event) more ∙ map-append event (take k es) (e ∷ []))) (takes_next (map event (take k es)) (event e) a b c t one)
-
-pub all_events : (es : List Event) (k : ℕ) (a b : Replay) → length es ≤ k → TakesAll (map event (take k es)) a b → TakesAll (map event es) a b
-all_events es k a b all t = subst (λ l. TakesAll (map event l) a b) (take_all k es all) t

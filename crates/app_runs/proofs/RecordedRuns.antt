@@ -1,6 +1,6 @@
 -- The events of turns, and the trace that holds them.
 use Rattle.std.proofs.Common.{◌≡◌, ℕ, ◌+◌, ◌<◌, ◌≤◌, List, [], ◌∷◌, ◌++◌, length, get_or, take, drop, Option, refl, sym, ap, ◌∙◌, subst, append_assoc, append-nil}
-use Rattle.std.proofs.lemmas.List.{take_more, drop_more, take-append-drop}
+use Rattle.std.proofs.lemmas.List.{drop_more, take-append-drop}
 use Rattle.wasm_sem.specs.Types.{Event}
 use Rattle.wasm_sem.specs.declared.HookCall.{HookCall}
 use Rattle.wasm_sem.specs.declared.Turn.{Turn}
@@ -33,13 +33,6 @@ none_among max es xs i d w l is none =
     let joined : (front ++ e ∷ []) ++ rest ≡ es ++ xs = append_assoc front (e ∷ []) rest ∙ append_assoc es (take i xs) (e ∷ rest) ∙ ap (λ r. es ++ r) (sym parts) in
     let next : HasNoTrace max (front ++ e ∷ []) = subst (λ v. IsWithinBound v → ⊥) (ap (with_event e) is ∙ writes_on max front e) none in
     subst (HasNoTrace max) joined (none_longer max (front ++ e ∷ []) rest next)
-
--- one more of the first
-pub added_one : (max : ℕ) (es xs : List Event) (i : ℕ) (d : Event) (w v : Writing) → i < length xs → w ≡ writing_of max (es ++ take i xs)
-    → v ≡ with_event (get_or xs i d) w → v ≡ writing_of max (es ++ take (i + 1) xs)
-added_one max es xs i d w v l is put =
-    put ∙ ap (with_event (get_or xs i d)) is ∙ writes_on max (es ++ take i xs) (get_or xs i d)
-    ∙ ap (writing_of max) (append_assoc es (take i xs) (get_or xs i d ∷ []) ∙ ap (λ r. es ++ r) (sym (take_more xs i d l)))
 
 -- a turn that calls no hook tells nothing
 pub quiet_written : (info : Info) (slots : List (Option ℕ)) (turn : Turn) (max : ℕ) (w : Writing) → ((h : HookCall) → turn ≡ Hook h → ⊥)

@@ -1,9 +1,9 @@
 -- What is read of the hook calls of a run, step by step.
-use Rattle.std.proofs.Common.{◌≡◌, ℕ, ◌+◌, List, [], ◌∷◌, ◌++◌, map, Option, Some, None, Bool, true, false, refl, sym, ap, ◌∙◌, append-nil}
+use Rattle.std.proofs.Common.{◌≡◌, ℕ, ◌+◌, List, [], ◌∷◌, ◌++◌, map, Option, Some, None, Bool, true, false, refl, ap, ◌∙◌, append-nil}
 use Rattle.wasm_sem.specs.Types.{Value, Module, Event}
 use Rattle.wasm_sem.specs.declared.HookCall.{HookCall}
 use Rattle.wasm_sem.specs.declared.Script.{Script}
-use Rattle.wasm_sem.specs.Execution.{hook_in, TraceItem, entry, host_call, event, hook_call, events_in, shown_items, Callee, Instance, instance, Frame, Env, Next, Configuration, configuration, opening_configuration, run_of, told_items, items_by, items, trace_of}
+use Rattle.wasm_sem.specs.Execution.{hook_in, TraceItem, entry, host_call, event, hook_call, events_in, shown_items, Callee, Instance, instance, Frame, Env, Next, Configuration, opening_configuration, run_of, told_items, items_by, items, trace_of}
 use Rattle.wasm_sem.specs.Laws.{slots_in}
 use Rattle.wasm_sem.proofs.AllChosen.{HaveGroups, step_has}
 use Rattle.wasm_sem.proofs.Ended.{slots_stay}
@@ -107,13 +107,3 @@ events_next info slots m s n =
 -- the table is that of the opening
 pub slots_always : (m : Module) (s : Script) (n : ℕ) → slots_in (run_of m s n) ≡ slots_in (run_of m s 0)
 slots_always m s n = slots_stay (instance m s) n (opening_configuration m s)
-
--- what stands beside the frames
-abbrev pub env_there : Configuration → Env
-env_there (configuration e frames) = e
-
-pub slots_there : (c : Configuration) → slots_in c ≡ (env_there c).store.slots
-slots_there (configuration e frames) = refl
-
-pub slots_kept : (m : Module) (s : Script) (n : ℕ) → (env_there (run_of m s n)).store.slots ≡ (env_there (run_of m s 0)).store.slots
-slots_kept m s n = sym (slots_there (run_of m s n)) ∙ slots_always m s n ∙ slots_there (run_of m s 0)

@@ -24,16 +24,14 @@ use Rattle.static_info.specs.declared.Info.{Info}
 use Rattle.static_info.specs.Form.{IsWellFormed}
 use Rattle.static_info.specs.Items.{read_call, read_entry, read}
 use Rattle.static_info.proofs.Reading.{read_append}
-use Rattle.call_tree.specs.declared.Node.{Node}
 use Rattle.call_tree.specs.declared.tree.TreeFault.{TreeFault}
 use Rattle.call_tree.specs.declared.tree.TreeFault.TheVariants as faults
-use Rattle.call_tree.specs.Counts.{nodes_of}
 use Rattle.call_tree.specs.Paths.{open_after, open_after_all}
 use Rattle.call_tree.specs.State.{TreeState, entered, taken_by, tree_after, IsTreeRefusal, event_count, state_with, state_of, state_behind}
 use Rattle.call_tree.proofs.Following.{following}
 use Rattle.app_runs.specs.Feeding.{turn_events}
 use Rattle.app_runs.specs.Reporting.{items_told}
-use Rattle.app_runs.specs.Treeing.{first_unnested, IsUnnested, items_so_far, IsTreeOf, tree_nodes, tree_items}
+use Rattle.app_runs.specs.Treeing.{first_unnested, IsUnnested, items_so_far, IsTreeOf, tree_items}
 use Rattle.app_runs.proofs.FollowTurns.{next_items}
 use Rattle.app_runs.proofs.Nested.{nested_all, unnested_first, refused_place}
 use Rattle.app_runs.proofs.PlayedRuns.{told_fewer}
@@ -60,9 +58,6 @@ state_is is t e = with_by is (open_after_all (Some []) is) t e
 
 pub state_nested : (is : List TraceItem) (t : TreeState) → state_of is ≡ Some t → first_unnested is ≡ None
 state_nested is t e = nested_all is t.brackets (state_open is t e)
-
-pub state_nodes : (is : List TraceItem) (t : TreeState) (nodes : List Node) → state_of is ≡ Some t → nodes ≡ nodes_of t.counts → nodes ≡ tree_nodes is
-state_nodes is t nodes e n = n ∙ ap nodes_of (sym (ap (λ (s : TreeState). s.counts) (state_is is t e)))
 
 counted_events : (is : List TraceItem) → event_count is ≡ length (events_in is)
 counted_events [] = refl

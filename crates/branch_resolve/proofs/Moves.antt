@@ -10,7 +10,7 @@ use Rattle.module_ast.specs.Structure.{Tree, Plain, if_else, before, code_of, pl
 use Rattle.module_ast.specs.Places.Positions as positions
 use Rattle.module_ast.specs.Places.{Scope, code_size, code_places, ends_live, goes_on, at, acts, opens, alternates, closes, then_scope, else_scope}
 use Rattle.branch_resolve.specs.Scopes.{block_of, blocks_around}
-use Rattle.branch_resolve.specs.Levels.{places_from, outer_places, level_places, end_places, scope_of, level_scopes, block_sizes, other_sizes, outer_sizes, IsPartWithin, IsOtherWithin, AreSteps, AreLevelsWithin, IsOpening, kind_scope}
+use Rattle.branch_resolve.specs.Levels.{places_from, outer_places, level_places, end_places, scope_of, level_scopes, block_sizes, outer_sizes, IsPartWithin, IsOtherWithin, AreSteps, AreLevelsWithin, IsOpening, kind_scope}
 use Rattle.branch_resolve.specs.declared.steps.Other.{Other}
 use Rattle.branch_resolve.specs.declared.steps.Level.{Level}
 use Rattle.module_ast.proofs.Plains.{by_plain}
@@ -81,15 +81,6 @@ module _ (kind : BlockKind) (p : ℕ) (code body k : Tree) (ls : List Level) (xs
   opening_fits = omega (arith, w.fits, o.size)
 
   module _ (l : Level) (e : scope_of l.part ≡ kind_scope kind p (code_size body)) (one : l.other ≡ None) (behind : code_of l.behind.now ≡ k) where
-    pub open_steps : AreSteps body (p + 1) (l ∷ ls) (drop (u + 1) xs)
-    open_steps = record {
-      sized = size_of_opening.behind
-          ∙ ap (λ z. block_sizes body ++ (other_sizes z ++ (block_sizes k ++ outer_sizes ls))) (sym one)
-          ∙ ap (λ z. block_sizes body ++ (other_sizes l.other ++ (block_sizes z ++ outer_sizes ls))) (sym behind);
-      fits = omega (arith, opening_fits);
-      within = (subst (λ z. IsOtherWithin z l.part (code_of l.behind.now)) (sym one) (omega (arith, opening_fits, o.end, ap (λ (z : Scope). z.end) e, ap code_size behind), omega (arith, opening_fits, o.target, ap (λ (z : Scope). z.target) e)), w.within);
-    }
-
     pub open_places : (live : Bool) → l.live ≡ live → places_from ls live p code ≡ at p live (opens (scope_of l.part)) (level_scopes ls) ∷ places_from (l ∷ ls) live (p + 1) body
     open_places live same =
         let s = kind_scope kind p (code_size body) in
@@ -115,30 +106,8 @@ module _ (p : ℕ) (body other k : Tree) (ls : List Level) (xs : List ℕ) (u : 
   pub second_of_two : IsNextSize xs (u + 1) (code_size other) (block_sizes body ++ (block_sizes other ++ (block_sizes k ++ outer_sizes ls)))
   second_of_two = next_size xs (u + 1) (code_size other) _ sizes_of_two.behind
 
-  pub two_fit : p + code_size body + code_size other + 3 + code_size k ≤ 268435456
-  two_fit = omega (arith, w.fits)
-
   module _ (l : Level) (o : Other) (two : l.other ≡ Some o) (e : scope_of l.part ≡ then_scope p body other) (f : scope_of o.part ≡ else_scope p body other)
       (same : code_of o.code.now ≡ other) (behind : code_of l.behind.now ≡ k) where
-    pub two_steps : AreSteps body (p + 1) (l ∷ ls) (drop (u + 2) xs)
-    two_steps = record {
-      sized = ap (λ n. drop n xs) (next_two u) ∙ second_of_two.behind
-          ∙ ap (λ z. block_sizes body ++ (block_sizes z ++ (block_sizes k ++ outer_sizes ls))) (sym same)
-          ∙ ap (λ z. block_sizes body ++ (other_sizes z ++ (block_sizes k ++ outer_sizes ls))) (sym two)
-          ∙ ap (λ z. block_sizes body ++ (other_sizes l.other ++ (block_sizes z ++ outer_sizes ls))) (sym behind);
-      fits = omega (arith, two_fit);
-      within = (
-        subst (λ z. IsOtherWithin z l.part (code_of l.behind.now)) (sym two) (
-          (omega (arith, two_fit, ap (λ (z : Scope). z.end) e, ap code_size same), omega (arith, two_fit, ap (λ (z : Scope). z.target) e)),
-          (omega (arith, two_fit, ap (λ (z : Scope). z.end) f, ap code_size behind), omega (arith, two_fit, ap (λ (z : Scope). z.target) f)),
-        ),
-        w.within,
-      );
-    }
-      where
-        next_two : (n : ℕ) → n + 2 ≡ n + 1 + 1
-        next_two n = omega arith
-
     pub two_places : (live : Bool) → l.live ≡ live → places_from ls live p (if_else ty body other k) ≡ at p live (opens (scope_of l.part)) (level_scopes ls) ∷ places_from (l ∷ ls) live (p + 1) body
     two_places live alive =
         let sc = level_scopes ls in
@@ -167,9 +136,6 @@ module _ (old : List Level) (l : Level) (rest : List Instr) (p : ℕ) (xs : List
   within_of : AreLevelsWithin (l ∷ drop 1 old)
   within_of = subst AreLevelsWithin first w.within
 
-  sizes_left : xs ≡ outer_sizes (l ∷ drop 1 old)
-  sizes_left = w.sized ∙ ap (λ z. block_sizes (code_of z) ++ outer_sizes old) ended ∙ ap outer_sizes first
-
   ended_places : (live : Bool) → places_from old live p (code_of rest) ≡ outer_places (l ∷ drop 1 old) live
   ended_places live = ap (λ z. places_from old live p (code_of z)) ended ∙ ap (λ z. outer_places z live) first
 
@@ -179,13 +145,6 @@ module _ (old : List Level) (l : Level) (rest : List Instr) (p : ℕ) (xs : List
 
     pub close_fits : (l.part.end + 1 ≤ 268435456) × (l.part.target ≤ 268435456)
     close_fits = (omega (arith, part_within.0), part_within.1)
-
-    pub close_steps : AreSteps (code_of l.behind.now) (l.part.end + 1) new xs
-    close_steps = record {
-      sized = sizes_left ∙ ap (λ z. other_sizes z ++ (block_sizes (code_of l.behind.now) ++ outer_sizes (drop 1 old))) one ∙ ap (λ z. block_sizes (code_of l.behind.now) ++ outer_sizes z) (sym m);
-      fits = part_within.0;
-      within = subst AreLevelsWithin (sym m) within_of.1;
-    }
 
     pub close_places : (live : Bool) → places_from old live p (code_of rest) ≡ at l.part.end live (closes (scope_of l.part)) (level_scopes new) ∷ places_from new l.live (l.part.end + 1) (code_of l.behind.now)
     close_places live =
@@ -211,13 +170,6 @@ module _ (old : List Level) (l : Level) (rest : List Instr) (p : ℕ) (xs : List
     outer_scopes = ap (λ z. blocks_around (level_scopes z)) first
 
     module _ (new : List Level) (m : new ≡ else_level ∷ drop 1 old) where
-      pub alternate_steps : AreSteps (code_of o.code.now) (l.part.end + 1) new xs
-      alternate_steps = record {
-        sized = sizes_left ∙ ap (λ z. other_sizes z ++ (block_sizes (code_of l.behind.now) ++ outer_sizes (drop 1 old))) two ∙ ap (λ z. block_sizes (code_of o.code.now) ++ outer_sizes z) (sym m);
-        fits = parts_within.0.0;
-        within = subst AreLevelsWithin (sym m) (parts_within.1, within_of.1);
-      }
-
       pub alternate_places : (live : Bool) → places_from old live p (code_of rest) ≡ at l.part.end l.live (alternates (scope_of l.part) (scope_of o.part) live) (level_scopes (drop 1 old)) ∷ places_from new l.live (l.part.end + 1) (code_of o.code.now)
       alternate_places live =
           let behind = code_of l.behind.now in

@@ -1,7 +1,7 @@
 -- The sizes of the blocks of a sequence, from its instructions.
 use Rattle.std.proofs.Common.{◌≡◌, ℕ, ◌+◌, ◌<◌, ◌≤◌, List, [], ◌∷◌, ◌++◌, length, drop, get_or, refl, sym, ap, subst, zero, suc, ◌∙◌, arith, append_assoc}
 use Rattle.std.specs.Prelude.{reverse}
-use Rattle.std.proofs.lemmas.List.{reverse-append, append-nil, drop_all}
+use Rattle.std.proofs.lemmas.List.{append-nil, drop_all}
 use Rattle.module_ast.specs.declared.code.Instr.{Instr}
 use Rattle.module_ast.specs.declared.code.Instr.TheVariants.{Block, Loop, If, IfElse}
 use Rattle.module_ast.specs.Structure.{Tree, done, weight, before, code_of}
@@ -41,10 +41,6 @@ at_most_drop (suc k) (j ∷ is) i h = at_most_behind j i (code_of is) (at_most_d
 
 pub at_most_at : (is : List Instr) (k : ℕ) (i : Instr) → k < length is → i ≡ get_or is k i → IsAtMost i (code_of is)
 at_most_at is k i h e = at_most_drop k is i (subst (IsAtMost i) (sym (next_instr is k i h e)) (at_most_first i (code_of (drop (k + 1) is))))
-
--- one more size, seen from the last
-pub reverse_push : {X : Type 0} (xs : List X) (x : X) → reverse (xs ++ x ∷ []) ≡ x ∷ reverse xs
-reverse_push xs x = reverse-append xs (x ∷ [])
 
 -- ---- the instructions of a sequence, from its last to its first
 

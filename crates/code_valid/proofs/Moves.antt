@@ -64,11 +64,6 @@ refused e P h = subst (λ z. OnRefusal z P) (sym h.0) h.1
 pub no_memory : (e : BodyInvalid) (P : Type 0) → e ≡ NoMemory → OnRefusal e P
 no_memory e P h = subst (λ z. OnRefusal z P) (sym h) tt
 
--- a mismatch is invalid, and nothing else is
-pub by_fault : (f : StackFault) (P Q : Type 0) → (P → Q) → OnFault f P → OnRefusal (invalid_by f) Q
-by_fault Mismatch P Q g h = g h
-by_fault faults.NoMemory P Q g h = tt
-
 pub by_mismatch : (f : StackFault) → IsMismatch f → invalid_by f ≡ Invalid
 by_mismatch Mismatch h = refl
 by_mismatch faults.NoMemory h = absurd h

@@ -1,15 +1,12 @@
 -- What is read of what was found.
-use Rattle.std.proofs.Common.{◌≡◌, ◌≤◌, ◌∙◌, ℕ, refl, sym, subst, ap, codes, cond, List, Option, Some, None, Result, Ok, Err, true≢false, false}
+use Rattle.std.proofs.Common.{◌≡◌, ◌≤◌, ◌∙◌, ℕ, refl, sym, subst, ap, codes, cond, List, Option, Some, None, Result, Ok, Err, false}
 use Rattle.std.specs.Str.Parse.{ParsesUnsigned, digits_value, without_leading_plus}
-use Rattle.std.specs.Option.{IfSome, is_some}
+use Rattle.std.specs.Option.{IfSome}
 use Rattle.clap.specs.Words.{IsUnsignedIn, ReadsOne, Row, Text, first_of, one_of}
 use Rattle.clap.specs.declared.builder.value_parser.ValueParser.TheVariants as parser
 use Rattle.clap.proofs.ValueTestLemmas.{Accepts-accepts}
 use Rattle.command_line.specs.Lines.{Line, line_in, number_in}
 use Rattle.command_line.specs.Reading.{IsPassed}
-
-some_is_not_none : {X : Type 0} (x : X) (o : Option X) → o ≡ Some x → o ≡ None → ⊥
-some_is_not_none x o some none = true≢false (ap is_some (sym some ∙ none))
 
 -- the number of a text that was let pass
 pub passed_number : (most : ℕ) (text : Text) → IsUnsignedIn 1 most text → number_in most (Some text) ≡ Some (digits_value 10 (without_leading_plus text))

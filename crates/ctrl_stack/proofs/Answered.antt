@@ -52,22 +52,11 @@ pops_some s h e t n (Some r) p k = subst (λ (q : Option ValType × ℕ). (q.1 �
 abbrev pub PopsAll : Stack → List ValType → Option ℕ → Type 0
 PopsAll s ts o = MatchOption o (pop_all ts s ≡ None) (λ n. (n ≤ length s.operands) × (pop_all ts s ≡ Some (lowest_operands n s)))
 
-pub pops_all_none : (s : Stack) (ts : List ValType) (o : Option ℕ) → o ≡ None → PopsAll s ts o → pop_all ts s ≡ None
-pops_all_none s ts None p k = k
-pops_all_none s ts (Some n) p k = absurd (none-some n (sym p))
-
 pub pops_all_some : (s : Stack) (ts : List ValType) (o : Option ℕ) (n : ℕ) → o ≡ Some n → PopsAll s ts o → (n ≤ length s.operands) × (pop_all ts s ≡ Some (lowest_operands n s))
 pops_all_some s ts None n p k = absurd (none-some n p)
 pops_all_some s ts (Some m) n p k = subst (λ i. (i ≤ length s.operands) × (pop_all ts s ≡ Some (lowest_operands i s))) (same_Some m n p) k
 
 -- ---- a block opened
-
-pub with_block_none : (kind : BlockKind) (a r : List ValType) (s : Stack) → pop_all a s ≡ None → with_block kind a r s ≡ None
-with_block_none kind a r s e = ap (λ o. where_open s.frames (option_map (with_frame kind a r) o)) e ∙ go s.frames
-  where
-    go : (fs : List Frame) → where_open {A = Stack} fs None ≡ None
-    go [] = refl
-    go (f ∷ fs) = refl
 
 module _ (kind : BlockKind) (a r : List ValType) (base : ℕ) (s : Stack) (fs : List Frame) (items new : List (Option ValType)) (view : stack (reverse fs) (reverse items) ≡ s) (enough : base ≤ length s.operands) (found : pop_all a s ≡ Some (lowest_operands base s)) (put : new ≡ take base items ++ map Some a) where
   abbrev frame : Frame

@@ -11,11 +11,6 @@ adds_front old new front rest more e f = (front, rest, e, sym f)
 pub adds_first : {A : Type 0} (old new front rest : List A) → AddsPrefix old new front → AddsPrefix old new (front ++ rest)
 adds_first old new front rest (part, more, e, f) = (part, more ++ rest, e, ap (λ l. l ++ rest) f ∙ append_assoc part more rest)
 
--- all of the first part, and some of the second
-pub adds_second : {A : Type 0} (old mid new front rest : List A) → mid ≡ old ++ front → AddsPrefix mid new rest → AddsPrefix old new (front ++ rest)
-adds_second old mid new front rest e (part, more, f, h) =
-    (front ++ part, more, f ∙ ap (λ l. l ++ part) e ∙ append_assoc old front part, ap (λ l. front ++ l) h ∙ sym (append_assoc front part more))
-
 -- what was added so far, with what is left, is the whole
 abbrev pub IsOn : {A : Type 0} (old new rest whole : List A) → Type 0
 IsOn {A} old new rest whole = (front : List A) × (new ≡ old ++ front) × (front ++ rest ≡ whole)
@@ -26,12 +21,6 @@ on_start old whole = ([], sym (append-nil old), refl)
 pub on_next : {A : Type 0} (old new next : List A) (i : A) (now rest whole : List A) → IsOn old new now whole → now ≡ i ∷ rest → next ≡ new ++ i ∷ [] → IsOn old next rest whole
 on_next old new next i now rest whole (front, e, f) n p =
     (front ++ i ∷ [], p ∙ ap (λ l. l ++ i ∷ []) e ∙ append_assoc old front (i ∷ []), append_assoc front (i ∷ []) rest ∙ ap (λ l. front ++ l) (sym n) ∙ f)
-
-pub on_done : {A : Type 0} (old new rest whole : List A) → IsOn old new rest whole → rest ≡ [] → new ≡ old ++ whole
-on_done old new rest whole (front, e, f) n = e ∙ ap (λ l. old ++ l) (sym (append-nil front) ∙ ap (λ l. front ++ l) (sym n) ∙ f)
-
-pub on_stopped : {A : Type 0} (old new next rest whole : List A) → IsOn old new rest whole → next ≡ new → AddsPrefix old next whole
-on_stopped old new next rest whole (front, e, f) s = adds_front old next front rest whole (s ∙ e) f
 
 -- several at once, some or all of them
 pub on_some : {A : Type 0} (old mid new now part rest whole : List A) → IsOn old mid now whole → now ≡ part ++ rest → AddsPrefix mid new part → AddsPrefix old new whole

@@ -1,11 +1,11 @@
 -- Valid modules within the narrow limits have what the rewriting of bodies and the remapping ask.
-use Rattle.std.proofs.Common.{◌≡◌, ℕ, ◌+◌, ◌^◌, ◌<◌, ◌≤◌, List, [], ◌∷◌, length, Option, Some, None, All, IfSome, sym, ap, ◌∙◌, subst, arith, slice_get, length-append, option_map}
+use Rattle.std.proofs.Common.{◌≡◌, ℕ, ◌+◌, ◌^◌, ◌<◌, ◌≤◌, List, [], ◌∷◌, length, Option, Some, All, IfSome, sym, subst, arith, slice_get, length-append}
 use Rattle.std.proofs.lemmas.List.Elements.{All-weaker, recursion_from_All}
 use Rattle.std.proofs.lemmas.Option.{slice_get_within}
-use Rattle.wasm_sem.specs.Types.{ValType, ExportKind, Export, Element, Body, Import, Module, Hooks, HookKey}
+use Rattle.wasm_sem.specs.Types.{ValType, ExportKind, Export, Element, Body, Module, Hooks, HookKey}
 use Rattle.module_ast.specs.declared.module.ExportKind.TheVariants.{Func, Table, Memory, Global}
 use Rattle.module_ast.specs.declared.module.Which.TheVariants.{Functions, Types, Locals}
-use Rattle.module_ast.specs.Binary.{body_bytes, locals_of, IsWithin}
+use Rattle.module_ast.specs.Binary.{locals_of, IsWithin}
 use Rattle.module_ast.specs.Validation.{narrow, Context, push, TypesPlain, TypesCode, function_types, export_indices, start_index, element_funcs, declared_locals, count_of, body_context, IsValid}
 use Rattle.module_ast.specs.Places.{func_type_or}
 use Rattle.module_ast.specs.Structure.{imported_funcs, funcs_of, Tree, done, plain, block, loop, if_then, if_else, Plain, call}
@@ -15,11 +15,9 @@ use Rattle.module_ast.proofs.Sizes.{within_all}
 use Rattle.hook_mono.specs.Needed.{Site, import_count, site_of, needed_keys}
 use Rattle.index_remap.specs.declared.Remap.{Remap}
 use Rattle.index_remap.specs.Remap.{MapsIndex, MapsPlain, Maps, MapsReference, MapsModule}
-use Rattle.wasm_sem.proofs.Straight.{none_some, some_is}
 use Rattle.wasm_sem.proofs.Variables.{get_within}
 use Rattle.rewrite.specs.Conditions.{HasNumbers, CanRewrite}
-use Rattle.rewrite.specs.Rewrite.{setting_of, rewritten_body}
-use Rattle.rewrite_size.specs.Sizes.{size_of}
+use Rattle.rewrite.specs.Rewrite.{setting_of}
 use Rattle.rewrite.proofs.TypedPlains.{labelled}
 use Rattle.instrument.specs.Output.{hook_remap}
 use Rattle.instrument.proofs.OutputBodies.{site_is}
@@ -59,10 +57,6 @@ module _ (m : Module) (hooks : Hooks) (limits : IsWithin narrow m) where
   -- with all functions of the module
   pub funcs_few : length (needed_keys m hooks) + length (funcs_of m) ≤ 500260
   funcs_few = omega (arith, keys_few, (limits Functions).0)
-
-  -- with those that it imports
-  pub hooks_few : length (needed_keys m hooks) + import_count m < 2 ^ 32
-  hooks_few = omega (arith, funcs_few, length-append (imported_funcs m.imports) m.funcs)
 
 -- ---- functions that are named outside bodies
 
@@ -121,17 +115,3 @@ module _ (m : Module) (hooks : Hooks) (valid : IsValid m) (limits : IsWithin nar
 -- with all hooks that the module needs
 pub can_rewrite : (m : Module) (hooks : Hooks) → IsValid m → IsWithin narrow m → (defined : ℕ) → CanRewrite m defined hooks (needed_keys m hooks) (import_count m)
 can_rewrite m hooks valid limits = can_rewrite_with m hooks valid limits (needed_keys m hooks) (omega (arith, funcs_few m hooks limits))
-
--- of a module that imports nothing
-pub can_rewrite_alone : (m : Module) (hooks : Hooks) (keys : List HookKey) (defined : ℕ) → IsValid m → IsWithin narrow m → m.imports ≡ [] → length keys ≤ 1000 → CanRewrite m defined hooks keys 0
-can_rewrite_alone m hooks keys defined valid limits none few =
-    let count : import_count m ≡ 0 = ap (λ (is : List Import). length (imported_funcs is)) none in
-    subst (λ n. CanRewrite m defined hooks keys n) count (can_rewrite_with m hooks valid limits keys (omega (arith, few, (limits Functions).0)) defined)
-
--- ---- sizes
-
--- the size that was counted is that of the body that was made
-pub size_is : (o : Option Site) (hooks : Hooks) (keys : List HookKey) (imports : ℕ) (made : Body) (n : ℕ) → option_map (λ s. rewritten_body (setting_of hooks keys imports s)) o ≡ Some made
-    → option_map (λ s. size_of (setting_of hooks keys imports s)) o ≡ Some n → n ≡ length (body_bytes made)
-size_is None hooks keys imports made n e f = absurd (none_some e)
-size_is (Some s) hooks keys imports made n e f = sym (some_is f) ∙ ap (λ b. length (body_bytes b)) (some_is e)

@@ -5,14 +5,12 @@ use Rattle.leb_binary.specs.Shortest.{unsigned_bytes}
 use Rattle.wasm_sem.specs.Types.{Module, HookKey}
 use Rattle.module_ast.specs.Binary.{module_bytes}
 use Rattle.module_ast.specs.declared.module.Which.TheVariants.{Types}
-use Rattle.code_valid.proofs.Few.{entries_few}
 use Rattle.index_remap.specs.declared.Remap.{Remap}
 use Rattle.wasm_encode.specs.Outline.{front_bytes, back_bytes, entries_bytes, code_head}
 use Rattle.wasm_encode.proofs.Outlines.{in_three}
 use Rattle.leb_binary.proofs.Lengths.{unsigned_ten}
-use Rattle.instrument.specs.Output.{hook_types, hook_import, hook_imports, output, output_bytes}
-use Rattle.instrument.specs.Plan.{Plan, plan_keys, IsPlanned, new_bodies, new_outline, body_length}
-use Rattle.instrument.proofs.CanRewrites.{keys_few}
+use Rattle.instrument.specs.Output.{output, output_bytes}
+use Rattle.instrument.specs.Plan.{Plan, IsPlanned, new_bodies, new_outline, body_length}
 use Rattle.instrument.proofs.OutputWithin.{output_is_within}
 
 -- what stands behind the code is no more than its module
@@ -74,17 +72,6 @@ module _ (p : Plan) (o : Module) (each : List ℕ) (together : ℕ) (is : o ≡ 
 module _ (p : Plan) (keys : List HookKey) (remap : Remap) (planned : IsPlanned p keys remap) where
   pub planned_types : length (new_outline p).types ≤ 600000
   planned_types = (output_is_within p.module p.hooks planned.valid planned.limits Types).0
-
-  pub planned_imports : length (new_outline p).imports ≤ 2 ^ 25
-  planned_imports =
-      omega (
-        arith,
-        length-append p.module.imports (hook_imports p.module (plan_keys p)),
-        length-map (plan_keys p) (hook_import p.module (hook_types (plan_keys p))),
-        keys_few p.module p.hooks planned.limits,
-        entries_few p.module,
-        planned.short,
-      )
 
 -- what stands before the entries is short
 pub head_short : (count size : ℕ) → count < 2 ^ 64 → size < 2 ^ 63 → length (code_head count size) ≤ 21

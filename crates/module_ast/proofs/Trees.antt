@@ -20,7 +20,7 @@ use Rattle.module_ast.specs.declared.module.Group.{Group}
 use Rattle.module_ast.specs.declared.module.Body.{Body}
 use Rattle.module_ast.specs.Structure.{Tree, done, plain, block, loop, if_then, if_else}
 use Rattle.module_ast.specs.Binary.Grammar as grammar
-use Rattle.module_ast.specs.Binary.{block_type_node, code_node, func_type_node, global_type_node, item_node, import_node, global_node, export_node, element_node, segment_node, group_node, body_node, is_floating, some_in, block_floats, code_floats, item_floats, body_floats}
+use Rattle.module_ast.specs.Binary.{block_type_node, code_node, func_type_node, global_type_node, item_node, import_node, global_node, element_node, segment_node, group_node, body_node, is_floating, some_in, block_floats, code_floats, item_floats, body_floats}
 
 -- A view of the program's values as parts of the grammar: none of them floats, each part that does not float is the
 -- view of one, and of one alone.
@@ -53,15 +53,6 @@ list_view view back floats v = record {
   alone = list_alone view back v.alone;
   whole = list_whole view back floats v.whole;
 }
-
--- items without a floating one are views
-pub from_each : {A G : Type 0} (view : A → G) (floats : G → Bool) → ((g : G) → floats g ≡ false → (x : A) × (view x ≡ g)) → (gs : List G) → some_in floats gs ≡ false → (xs : List A) × (map view xs ≡ gs)
-from_each view floats h [] p = ([], refl)
-from_each view floats h (g ∷ gs) p =
-    let parts = or_parts (floats g) (some_in floats gs) p in
-    let first = h g parts.0 in
-    let others = from_each view floats h gs parts.1 in
-    (first.0 ∷ others.0, ap₂ (λ y ys. y ∷ ys) first.1 others.1)
 
 -- 5.3.1 types of values
 abbrev pub number_back : grammar.NumberType → ValType
@@ -165,10 +156,6 @@ code_whole (grammar.if_else ty b c k) p =
 pub code_view : IsView code_node code_back code_floats
 code_view = record { plain = code_plain; alone = code_alone; whole = code_whole }
 
--- code of the grammar without a floating node is code of the program
-pub code_from : (g : grammar.CodeNode) → code_floats g ≡ false → (t : Tree) × (code_node t ≡ g)
-code_from g p = (code_back g, code_whole g p)
-
 -- 5.3.3 types of functions
 abbrev pub func_type_back : grammar.FuncTypeNode → FuncType
 func_type_back t = record { params = map number_back t.params; results = map number_back t.results }
@@ -266,14 +253,6 @@ global_view = record {
 -- 5.5.10 exports, which have nothing that floats
 abbrev pub export_back : grammar.ExportNode → Export
 export_back e = record { name = e.name; kind = e.kind; index = e.index }
-
--- no export floats
-abbrev pub export_floats : grammar.ExportNode → Bool
-export_floats e = false
-
--- exports of the program are those of the grammar
-pub export_view : IsView export_node export_back export_floats
-export_view = record { plain = λ e. refl; alone = λ e. refl; whole = λ e p. refl }
 
 -- 5.5.12 element segments
 abbrev pub element_back : grammar.ElementNode → Element

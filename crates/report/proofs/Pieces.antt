@@ -1,14 +1,9 @@
 -- What was printed piece by piece.
-use Rattle.std.proofs.Common.{◌≡◌, ℕ, ◌+◌, ◌<◌, List, [], ◌∷◌, ◌++◌, length, drop, get_or, flat_map, Option, Some, None, Result, Ok, Err, OnErr, pos, refl, sym, ap, ◌∙◌, add-one, drop-cons, append_assoc, append-nil}
+use Rattle.std.proofs.Common.{◌≡◌, ℕ, ◌+◌, ◌<◌, List, ◌∷◌, ◌++◌, length, drop, get_or, flat_map, Option, Some, None, Result, Ok, Err, OnErr, pos, refl, sym, ap, ◌∙◌, add-one, drop-cons, append_assoc}
 use Rattle.analyses.specs.declared.Kind.{Kind}
 use Rattle.analyses.specs.declared.Row.{Row}
 use Rattle.report.specs.Text.{head_line, report_text, row_line}
 use Rattle.outside_io.specs.Outside.{Printed, PrintedPart}
-
--- nothing was printed
-pub printed_nothing : (w : Option (List ℕ)) → Printed [] w w
-printed_nothing None = tt
-printed_nothing (Some bytes) = sym (append-nil bytes)
 
 -- one piece, and then another
 pub printed_then : (first second third : Option (List ℕ)) (a b : List ℕ) → Printed a first second → Printed b second third → Printed (a ++ b) first third
@@ -42,10 +37,6 @@ part_of_longer first second a rest whole e one =
 -- all but the lines of these rows was printed
 abbrev pub PrintedBefore : Kind → (whole : List ℕ) → (left : List Row) → (old new : Option (List ℕ)) → Type 0
 PrintedBefore kind whole left old new = (front : List ℕ) × (front ++ flat_map (row_line kind) left ≡ whole) × Printed front old new
-
--- the lines of no rows
-pub printed_all : (kind : Kind) (whole : List ℕ) (old new : Option (List ℕ)) → PrintedBefore kind whole [] old new → Printed whole old new
-printed_all kind whole old new before = rw (sym (before.1) ∙ append-nil before.0) before.2
 
 -- the head was printed, or a part of it
 pub printed_head : (kind : Kind) (rows : List Row) (old new : Option (List ℕ)) → Printed (head_line kind (length rows)) old new

@@ -5,7 +5,6 @@ use Rattle.std.specs.List.{AllByRecursion}
 use Rattle.module_ast.specs.Binary.{items_bytes, code_bytes, expr_bytes, vec_bytes, group_bytes, body_bytes}
 use Rattle.module_ast.proofs.Sizes.{code_counts}
 use Rattle.module_ast.proofs.Writers.{counted_some}
-use Rattle.module_ast.specs.Lists.{first_or}
 use Rattle.module_ast.specs.Places.{Scope, Place, places}
 use Rattle.branch_resolve.specs.declared.Block.{Block}
 use Rattle.branch_resolve.specs.declared.place.Place.{Place as Read}
@@ -21,7 +20,6 @@ use Rattle.rewrite_size.proofs.SizedCode.{size_by_places, types_few}
 use Rattle.rewrite_needs.proofs.Chained.{body_count}
 use Rattle.rewrite_size.proofs.SizedPlaces.{body_most, body_fits}
 use Rattle.rewrite_size.proofs.Linked.{places_linked}
-use Rattle.rewrite_size.proofs.EndSums.{below_first}
 use Rattle.rewrite.proofs.Joined.{room_append}
 
 -- `total` bytes were counted, these sums are those of the blocks around the place that was read last, and these places are left
@@ -65,10 +63,6 @@ counting_first w n can groups bound =
     }
 
 module _ (w : Setting) (total : ℕ) (sums : List ℕ) (x : Place) (left : List Place) (counting : IsCounting w total sums (x ∷ left)) where
-  -- the next place can be followed
-  pub can_follow : first_or sums 0 + 64 ≤ ends_most
-  can_follow = omega (arith, below_first (64 * length (x ∷ left)) sums counting.few counting.below, counting.few)
-
   -- and counted
   pub can_count : (y : Read) (blocks : List Block) (new : List ℕ) → IsPlaceOf x y → blocks ≡ blocks_around x.scopes → new ≡ end_sums w x.scopes → CanCount w y blocks new
   can_count y blocks new place inside ends = record {
@@ -92,10 +86,3 @@ module _ (w : Setting) (total : ℕ) (sums : List ℕ) (x : Place) (left : List 
     bounded = omega (arith, counting.bounded, bound);
     grown = omega (arith, counting.grown, bound);
   }
-
--- at the end
-pub counting_last : (w : Setting) (total : ℕ) (sums : List ℕ) → IsCounting w total sums [] → total ≡ size_of w
-counting_last w total sums counting = omega (arith, counting.whole)
-
-pub grown_last : (w : Setting) (total : ℕ) (sums : List ℕ) → IsCounting w total sums [] → total ≤ 2 ^ 36 * length (body_bytes w.site.body)
-grown_last w total sums counting = omega (arith, counting.grown)

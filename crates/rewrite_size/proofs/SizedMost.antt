@@ -1,8 +1,7 @@
 -- How many bytes templates have at most.
-use Rattle.std.proofs.Common.{◌≡◌, ℕ, ◌+◌, ◌*◌, ◌≤◌, ℤ, pos, negsuc, List, [], ◌∷◌, ◌++◌, length, Option, Some, None, Bool, true, false, cond, refl, slice_get, arith}
-use Rattle.wasm_sem.specs.Types.{ValType, BlockKind, NumOp, FuncType, HookKey}
+use Rattle.std.proofs.Common.{◌≡◌, ℕ, ◌+◌, ◌*◌, ◌≤◌, ℤ, pos, List, [], ◌∷◌, ◌++◌, length, Option, Some, None, Bool, true, false, cond, refl, slice_get, arith}
+use Rattle.wasm_sem.specs.Types.{ValType, NumOp, FuncType, HookKey}
 use Rattle.wasm_num.specs.declared.ValType.TheVariants as types
-use Rattle.wasm_num.specs.declared.BlockKind.TheVariants as kinds
 use Rattle.wasm_num.specs.Shapes.{num_operands, num_result}
 use Rattle.wasm_num.specs.declared.NumOp.TheVariants.{I32Eqz}
 use Rattle.module_ast.specs.Lists.{when}
@@ -17,13 +16,12 @@ use Rattle.i64_split.specs.declared.Temp.{Temp}
 use Rattle.i64_split.specs.Split.{temps, words_by, word_code, words_code, sets, gets, save_code}
 use Rattle.index_remap.specs.Remap.{map_index}
 use Rattle.wasm_encode.specs.Lengths.{most_bytes}
-use Rattle.rewrite.specs.Setting.{Setting, remap, wants, constant, low_word, high_word, hook_index, tell, tells, tell_end}
-use Rattle.rewrite.specs.Templates.{num_code, result_code, store_code, drop_code, select_code, tee_code, watch_code, tell_before, tell_values, tell_results, tell_begin, end_code, post_code, call_code, indirect_code, template}
+use Rattle.rewrite.specs.Setting.{Setting, remap, wants, constant, low_word, high_word, hook_index, tell, tells}
+use Rattle.rewrite.specs.Templates.{num_code, result_code, store_code, drop_code, select_code, tee_code, watch_code, tell_before, tell_values, tell_results, post_code, call_code, indirect_code, template}
 use Rattle.branch_resolve.specs.declared.EndOf.{EndOf}
 use Rattle.rewrite.specs.Emitted.{block_end_code as block_end}
 use Rattle.rewrite_size.specs.Sizing.{br_if_told}
-use Rattle.rewrite.specs.Rewrite.{entry_code}
-use Rattle.rewrite_size.specs.Sizes.{plains_most, before_opening, IsStraight, IsNarrow}
+use Rattle.rewrite_size.specs.Sizes.{plains_most, IsStraight, IsNarrow}
 use Rattle.rewrite.proofs.TemplateLengths.{temps_length}
 
 pub most_append : (is js : List Plain) → plains_most (is ++ js) ≡ plains_most is + plains_most js
@@ -41,12 +39,6 @@ most_tell w p key args = omega (arith, most_append args (call (hook_index w key)
 
 pub most_tells : (w : Setting) (p : ℤ) (key : HookKey) (args : List Plain) → plains_most (tells w p key args) ≤ plains_most args + 48
 most_tells w p key args = omega (arith, most_when (wants w key) (tell w p key args), most_tell w p key args)
-
-pub most_begin : (w : Setting) (p : ℤ) (kind : BlockKind) → plains_most (tell_begin w p kind) ≤ 48
-most_begin w p kind = most_tells w p (keys.Begin kind) []
-
-pub most_end : (w : Setting) (s : Scope) → plains_most (tell_end w s) ≤ 64
-most_end w s = most_tells w (pos s.end) (keys.End s.kind) (i32_const s.begin ∷ [])
 
 -- words
 most_local_word : (t : ValType) (x : ℕ) → plains_most (word_code t x) ≤ 96
@@ -92,31 +84,10 @@ most_before w p key =
     let ts = temps w.pool (types.I32 ∷ []) in
     omega (arith, most_when (wants w key) (tee_code ts ++ tell w (pos p) key (words_code ts)))
 
-pub most_opening : (w : Setting) (p : ℕ) (kind : BlockKind) → plains_most (before_opening w p kind) ≤ 80
-most_opening w p kinds.If = most_before w p (keys.Plain groups.If)
-most_opening w p kind = omega arith
-
--- the entry, the results, and an end
-pub most_entry : (w : Setting) → plains_most (entry_code w) ≤ 96
-most_entry w =
-    let start = tells w (negsuc 0) (keys.Plain groups.Start) [] in
-    omega (
-      arith,
-      most_append (when w.site.starts start) (tell_begin w (negsuc 0) kinds.Function),
-      most_when w.site.starts start,
-      most_tells w (negsuc 0) (keys.Plain groups.Start) [],
-      most_begin w (negsuc 0) kinds.Function,
-    )
-
 pub most_results : (w : Setting) (p : ℤ) → plains_most (tell_results w p) ≤ 128 * length w.site.context.results + 48
 most_results w p =
     let ts = w.site.context.results in
     omega (arith, most_when (wants w (keys.Return ts)) (tell_values w p (keys.Return ts) [] (temps w.pool ts)), most_values w p (keys.Return ts) [] ts)
-
-pub most_closing : (w : Setting) (ss : List Scope) → plains_most (end_code w ss) ≤ 128 * length w.site.context.results + 112
-most_closing w [] = omega arith
-most_closing w (f ∷ []) = omega (arith, most_append (tell_results w (pos f.end)) (tell_end w f), most_results w (pos f.end), most_end w f)
-most_closing w (b ∷ (outer ∷ more)) = omega (arith, most_end w b)
 
 -- what ends a block in the program's words
 pub most_closed : (w : Setting) (outermost : Bool) (p : ℤ) (e : EndOf) → plains_most (when outermost (tell_results w p) ++ block_end w e) ≤ 128 * length w.site.context.results + 112

@@ -1,13 +1,13 @@
 -- Instructions that branch, on what the machine keeps.
-use Rattle.std.proofs.Common.{◌≡◌, ◌≢◌, ℕ, zero, suc, ◌+◌, ◌-◌, List, [], ◌∷◌, ◌++◌, length, refl, sym, ap, subst, ◌∙◌, arith, append_assoc, length-append}
-use Rattle.std.specs.Prelude.{slice_index_or, reverse}
+use Rattle.std.proofs.Common.{◌≡◌, ◌≢◌, ℕ, zero, suc, ◌+◌, ◌-◌, List, [], ◌∷◌, ◌++◌, length, refl, sym, ap, subst, ◌∙◌, arith, length-append}
+use Rattle.std.specs.Prelude.{slice_index_or}
 use Rattle.wasm_sem.specs.Types.{Value, Instr}
 use Rattle.wasm_num.specs.declared.Value.TheVariants.{I32, I64}
 use Rattle.module_ast.specs.declared.code.Instr.TheVariants as instrs
 use Rattle.module_ast.specs.Structure.{Tree, Plain, br_if, br_table}
 use Rattle.wasm_sem.specs.Execution.{Instance, Label, Frame, Env, Next, branch, exit_label, reduce_plain, frame_behind}
-use Rattle.run_stack.specs.Flat.{Flat, first_base, other_spots, closed, CanBranch, Branches}
-use Rattle.run_stack.specs.Kept.{ops_of, all_values, under, low_of, spots_of, all_spots, Lies}
+use Rattle.run_stack.specs.Flat.{Flat, first_base, CanBranch, Branches}
+use Rattle.run_stack.specs.Kept.{under, low_of, spots_of, all_spots, Lies}
 use Rattle.run_stack.specs.Comes.{IsUnstuck, Comes, IsMoving, next_of}
 use Rattle.run_stack.proofs.Lying.{with_values, labels_are}
 use Rattle.run_stack.proofs.Straights.{pushed, popped, popped_is}
@@ -148,19 +148,3 @@ module _ (s : Flat) (inst : Instance) (e : Env) (fr : Frame) (below : List Frame
       go : (outer : List Label) → fr.outer ≡ outer → IsUnstuck (exit_label inst e fr below outer) → Comes inst e (exit_label inst e fr below outer) u
       go [] k r = land_comes s inst e fr below fr.top.ops [] [] fr.top [] (subst (IsAtLabel s inst e fr below fr.top.ops [] [] fr.top) k start) u r b
       go (l ∷ ls) k r = absurd (omega (arith, h, own_are, ap length k))
-
-  -- of a block
-  pub close_comes : own_labels ≢ 1 → (u : Flat) → u ≡ closed s → Comes inst e (exit_label inst e fr below fr.outer) u
-  close_comes h u k = go fr.outer refl
-    where
-      go : (outer : List Label) → fr.outer ≡ outer → Comes inst e (exit_label inst e fr below outer) u
-      go [] q = absurd (h (omega (arith, own_are, ap length q)))
-      go (l ∷ ls) q = (
-        refl,
-        record {
-          values = ap (λ (u : Flat). u.values) k ∙ lies.values ∙ ap (λ ls. fr.top.ops ++ (ops_of ls ++ (reverse fr.locals ++ all_values below))) q
-              ∙ ap (λ xs. fr.top.ops ++ xs) (append_assoc l.ops (ops_of ls) (reverse fr.locals ++ all_values below)) ∙ sym (append_assoc fr.top.ops l.ops (ops_of ls ++ (reverse fr.locals ++ all_values below)));
-          spots = ap (λ (u : Flat). u.spots) k ∙ ap other_spots lies.spots ∙ ap (λ ls. spots_of (low_of fr below) ls ++ all_spots below) q;
-          bases = ap (λ (u : Flat). u.bases) k ∙ lies.bases;
-        },
-      )

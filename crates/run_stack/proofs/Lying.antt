@@ -1,12 +1,11 @@
 -- How frames lie after a change of the innermost one.
-use Rattle.std.proofs.Common.{◌≡◌, ℕ, suc, ◌+◌, ◌-◌, ◌<◌, List, [], ◌∷◌, ◌++◌, length, set, Some, refl, sym, ap, ◌∙◌, arith, append_assoc, length-append}
-use Rattle.std.specs.Prelude.{reverse, slice_get, slice_set}
+use Rattle.std.proofs.Common.{◌≡◌, ℕ, suc, ◌+◌, ◌-◌, ◌<◌, List, [], ◌∷◌, ◌++◌, length, set, refl, sym, ap, ◌∙◌, arith, append_assoc, length-append}
+use Rattle.std.specs.Prelude.{reverse, slice_set}
 use Rattle.std.proofs.lemmas.List.{reverse-reverse, reverse-append, length-reverse, length-set, set-append_left}
 use Rattle.wasm_sem.specs.Types.{Value}
 use Rattle.module_ast.specs.Structure.{Tree}
-use Rattle.module_ast.proofs.Indexed.{get_first}
 use Rattle.wasm_sem.specs.Execution.{Label, Frame}
-use Rattle.run_stack.specs.Flat.{Flat, first_base, moved_spots, local_place, from_below, set_from_below}
+use Rattle.run_stack.specs.Flat.{Flat, first_base, moved_spots, local_place, set_from_below}
 use Rattle.run_stack.specs.Kept.{ops_of, spots_of, all_values, under, low_of, all_spots, Lies}
 
 abbrev pub with_values : Flat → List Value → Flat
@@ -35,12 +34,6 @@ labels_are f fr below lies =
 
 -- ---- locals
 
-get_middle : {A : Type 0} (xs ys zs : List A) (n i : ℕ) (x : A) → n ≡ length xs → slice_get ys i ≡ Some x → slice_get (xs ++ (ys ++ zs)) (n + i) ≡ Some x
-get_middle [] ys zs n i x e h = let k : n + i ≡ i = omega (arith, e) in ap (slice_get (ys ++ zs)) k ∙ get_first ys zs i x h
-get_middle (a ∷ xs) ys zs n i x e h =
-    let k : n + i ≡ suc (length xs + i) = omega (arith, e) in
-    ap (slice_get (a ∷ (xs ++ (ys ++ zs)))) k ∙ get_middle xs ys zs (length xs) i x refl h
-
 set_middle : {A : Type 0} (xs ys zs : List A) (n i : ℕ) (x : A) → n ≡ length xs → i < length ys → set (xs ++ (ys ++ zs)) (n + i) x ≡ xs ++ (set ys i x ++ zs)
 set_middle [] ys zs n i x e h = let k : n + i ≡ i = omega (arith, e) in ap (λ j. set (ys ++ zs) j x) k ∙ set-append_left ys zs i x h
 set_middle (a ∷ xs) ys zs n i x e h =
@@ -64,18 +57,6 @@ module _ (f : Flat) (fr : Frame) (below : List Frame) (lies : Lies f (fr ∷ bel
 
   values_are : reverse f.values ≡ reverse low ++ (fr.locals ++ (reverse (ops_of fr.outer) ++ reverse fr.top.ops))
   values_are = ap reverse lies.values ∙ from_low fr.top.ops (ops_of fr.outer) fr.locals low
-
-  -- a local is found
-  pub local_found : (x : ℕ) (v : Value) → slice_get fr.locals x ≡ Some v → from_below f (local_place f x) ≡ Some v
-  local_found x v h =
-      ap (λ xs. slice_get xs (local_place f x)) values_are
-      ∙ ap (slice_get (reverse low ++ (fr.locals ++ (reverse (ops_of fr.outer) ++ reverse fr.top.ops)))) (place_is x)
-      ∙ get_middle (reverse low) fr.locals (reverse (ops_of fr.outer) ++ reverse fr.top.ops) (length low) x v (sym (length-reverse low)) h
-
-  pub local_within : (x : ℕ) → x < length fr.locals → local_place f x < length f.values
-  local_within x h =
-      let size : length f.values ≡ length (fr.top.ops ++ under fr below) = ap length lies.values in
-      omega (arith, place_is x, size, length-append fr.top.ops (under fr below), length-append (ops_of fr.outer) (reverse fr.locals ++ low), length-append (reverse fr.locals) low, length-reverse fr.locals)
 
   -- a local is set
   pub lies_with_local : (x : ℕ) (v : Value) → x < length fr.locals → Lies (set_from_below f (local_place f x) v) (record fr { locals = slice_set fr.locals x v } ∷ below)

@@ -82,14 +82,6 @@ held_below_is a n sh ms has h e g =
     (e ∙ (ap (λ k. reverse (take k (drop a (top_operands fs)))) arity ∙ ap (λ os. reverse (take (arity_in n fs2) os)) (sym (top_below a fs has))))
     (g ∙ ap (λ k. reverse (take k (drop a sh.marks.taint.operands))) arity)
 
--- where none are above
-pub none_above : (fs : List ShadowFrame) → exchanged_in 0 [] fs ≡ fs
-none_above [] = refl
-none_above (fr ∷ below) = refl
-
-pub below_none : (n : ℕ) (sh : Shadow) → held_below 0 n sh ≡ holds n sh.frames sh
-below_none n sh = ap (λ fs. holds n fs (record sh { frames = fs })) (none_above sh.frames)
-
 -- ---- a return
 
 some_results : (sh : Shadow) (n : ℕ) (vs : List Value) (r : Option (List Value × List Value)) → IsSome (with_results sh n vs r) → with_results sh n vs r ≡ with_held sh n r

@@ -1,19 +1,18 @@
 -- What a host call makes of a state that it is fit for.
 use Rattle.std.proofs.Common.{◌≡◌, ℕ, suc, replicate, ◌+◌, ◌-◌, ◌<◌, ◌≤◌, List, [], ◌∷◌, ◌++◌, Option, Some, None, IsSome, Bool, true, false, length, take, drop, get_or, slice_get, refl, sym, ap, ◌∙◌, arith, append_assoc, ◌&&◌}
 use Rattle.std.specs.Prelude.{reverse}
-use Rattle.std.proofs.lemmas.List.{map-append, take_more, drop_more, reverse-append, length-take-le, length-drop, drop-drop}
+use Rattle.std.proofs.lemmas.List.{map-append, take_more, reverse-append, length-take-le, length-drop, drop-drop}
 use Rattle.std.proofs.lemmas.Option.{slice_get-get_or}
-use Rattle.wasm_sem.specs.Types.{Value, Loc, Module}
-use Rattle.module_ast.specs.Lists.{when}
+use Rattle.wasm_sem.specs.Types.{Value, Module}
 use Rattle.module_ast.specs.Memory.{overlay}
 use Rattle.wasm_sem.specs.declared.HostWrite.{HostWrite}
-use Rattle.wasm_sem.specs.Execution.{is_within, written_memory, Callee, host, hook, own, callees_of}
+use Rattle.wasm_sem.specs.Execution.{written_memory, Callee, host, hook, own, callees_of}
 use Rattle.wasm_sem.proofs.Straight.{some_is}
 use Rattle.shadow_replay.specs.declared.Warning.{Warning}
 use Rattle.shadow_replay.specs.declared.marked.Marked.{Marked}
 use Rattle.shadow_replay.specs.Shadow.{Shadow, have_types, if_true, lie_within, answers, effect}
 use Rattle.shadow_replay.specs.Stacked.{values_in, marks_in, Standing}
-use Rattle.shadow_replay.specs.Taint.{Watch, is_watched, each_marked, unmarked_by, argument_warnings}
+use Rattle.shadow_replay.specs.Taint.{Watch, is_watched, each_marked, unmarked_by}
 use Rattle.shadow_replay.specs.Tainted.{TaintedShadow, answers_marks, with_marks, tainted_effect}
 use Rattle.shadow_replay.specs.Replayed.{PreparedLocals, HeldOperands, shadow_seen, marked_values, marks_prepared, call_warnings, answered}
 
@@ -43,20 +42,7 @@ each_reversed k (x ∷ xs) = reverse-append (k ∷ []) (each_marked k xs) ∙ (a
 
 -- ---- warnings
 
-pub warnings_more : (p : Loc) (f i : ℕ) (ms : List Marked) (d : Marked) → i < length ms
-    → argument_warnings p f i (marks_in (drop i ms)) ≡ when (get_or ms i d).mark (record { loc = p; «import» = f; argument = i } ∷ []) ++ argument_warnings p f (i + 1) (marks_in (drop (i + 1) ms))
-warnings_more p f i ms d h =
-    let next : i + 1 ≡ suc i = omega arith in
-    ap (λ ms. argument_warnings p f i (marks_in ms)) (drop_more ms i d h) ∙ ap (λ n. when (get_or ms i d).mark (record { loc = p; «import» = f; argument = i } ∷ []) ++ argument_warnings p f n (marks_in (drop (i + 1) ms))) (sym next)
-
 -- ---- writes
-
-pub first_within : (size : ℕ) (w : HostWrite) (ws : List HostWrite) → lie_within size (w ∷ ws) ≡ true → (is_within size w ≡ true) × (lie_within size ws ≡ true)
-first_within size w ws h = both (is_within size w) (lie_within size ws) h
-  where
-    both : (a b : Bool) → a && b ≡ true → (a ≡ true) × (b ≡ true)
-    both true b h = (refl, h)
-    both false b h = absurd cc
 
 pub each_length : {A : Type 0} (k : Bool) (xs : List A) → length (each_marked k xs) ≡ length xs
 each_length k [] = refl
@@ -131,8 +117,3 @@ pub host_is : (m : Module) (limit : ℕ) (w : Watch) (memory : List ℕ) (ks : L
 host_is m limit w memory ks gs st (Some p) h g told f vs ws fit = prepared_is m limit w memory ks gs st p h g told f vs ws fit
 host_is m limit w memory ks gs st None h g told f vs ws fit =
     absurd (no_values (answer_prepared (shadow_seen memory ks gs st None h g told).state (slice_get (callees_of m) f) None vs ws fit))
-
--- the writes lie within the memory
-pub host_within : (sh : Shadow) (c : Option Callee) (args : Option (List Value)) (vs : List Value) (ws : List HostWrite) → IsSome (answers sh c args vs ws) → lie_within (length sh.memory) ws ≡ true
-host_within sh c (Some args) vs ws h = (answer_is sh c args vs ws h).within
-host_within sh c None vs ws h = absurd (no_values (answer_prepared sh c None vs ws h))

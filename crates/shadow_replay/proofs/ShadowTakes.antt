@@ -13,7 +13,6 @@ use Rattle.hook_mono.specs.Words.{type_of}
 use Rattle.shadow_replay.specs.declared.Warning.{Warning}
 use Rattle.shadow_replay.specs.declared.marked.Marked.{Marked}
 use Rattle.wasm_sem.specs.Execution.{pop_values, TraceItem, event}
-use Rattle.wasm_sem.proofs.SoundNumbers.{IsNumSound, num_sound}
 use Rattle.wasm_sem.proofs.Straight.{some_is}
 use Rattle.shadow_replay.specs.Shadow.{ShadowFrame, Shadow, have_types, have_type, if_true, if_alike, if_there, writes_global, event_effect, with_operands, with_swapped, swap_in, swap}
 use Rattle.shadow_replay.specs.Taint.{Watch, join, nth_mark, read_mark}
@@ -81,16 +80,6 @@ takes i seen old new e h m l w = record {
   limit = l ∙ ap (λ (r : Replay). r.limit) e;
   watch = w ∙ ap (λ (r : Replay). r.watch) e;
 }
-
--- a number instruction takes one operand or two
-pub few_operands : (op : NumOp) → (1 ≤ length (num_operands op)) × (length (num_operands op) ≤ 2)
-few_operands op = few (num_operands op) (num_sound op)
-  where
-    few : (ts : List ValType) → IsNumSound ts op → (1 ≤ length ts) × (length ts ≤ 2)
-    few [] h = absurd h
-    few (t ∷ []) h = (omega arith, omega arith)
-    few (t ∷ u ∷ []) h = (omega arith, omega arith)
-    few (t ∷ u ∷ x ∷ ts) h = absurd h
 
 pub number_is : (op : NumOp) (r : Value) (sh : Shadow) → IsSome (number_effect op r sh) → Swaps (num_operands op) (r ∷ []) sh
 number_is op r sh h = swapped (num_operands op) (r ∷ []) sh (some_if (have_type (num_result op) r) (swap (num_operands op) (r ∷ []) sh) h).1

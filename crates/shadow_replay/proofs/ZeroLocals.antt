@@ -1,5 +1,5 @@
 -- Locals of a function before they are set.
-use Rattle.std.proofs.Common.{◌≡◌, ℕ, zero, suc, ◌+◌, ◌-◌, ◌<◌, List, [], ◌∷◌, ◌++◌, false, length, take, drop, replicate, get_or, refl, sym, ap, ◌∙◌, arith, append_assoc}
+use Rattle.std.proofs.Common.{◌≡◌, ℕ, zero, suc, ◌+◌, ◌-◌, ◌<◌, List, [], ◌∷◌, ◌++◌, false, length, take, drop, replicate, get_or, refl, sym, ap, ◌∙◌, arith}
 use Rattle.std.proofs.lemmas.List.{map-append, take_all, drop_more}
 use Rattle.wasm_sem.specs.Types.{ValType, Value, Group}
 use Rattle.module_ast.specs.Validation.{declared_locals}
@@ -32,13 +32,6 @@ pub zeros_group : (gs : List Group) (i : ℕ) (d : Group) → i < length gs
     → zero_locals (declared_locals (drop i gs)) ≡ zero_locals (replicate (get_or gs i d).count (get_or gs i d).ty) ++ zero_locals (declared_locals (drop (i + 1) gs))
 zeros_group gs i d h =
     let g = get_or gs i d in ap (λ gs. zero_locals (declared_locals gs)) (drop_more gs i d h) ∙ map-append zero_local (replicate g.count g.ty) (declared_locals (drop (i + 1) gs))
-
-pub zeros_step : (old before after : List Marked) (gs : List Group) (i : ℕ) (d : Group) → i < length gs → after ≡ before ++ zero_locals (replicate (get_or gs i d).count (get_or gs i d).ty)
-    → before ++ zero_locals (declared_locals (drop i gs)) ≡ old ++ zero_locals (declared_locals gs) → after ++ zero_locals (declared_locals (drop (i + 1) gs)) ≡ old ++ zero_locals (declared_locals gs)
-zeros_step old before after gs i d h e g =
-    let more = zero_locals (replicate (get_or gs i d).count (get_or gs i d).ty) in
-    let rest = zero_locals (declared_locals (drop (i + 1) gs)) in
-    ap (λ vs. vs ++ rest) e ∙ append_assoc before more rest ∙ ap (λ vs. before ++ vs) (sym (zeros_group gs i d h)) ∙ g
 
 -- what is kept is what the definitions say
 zero_values : (ts : List ValType) → values_in (zero_locals ts) ≡ zeros ts

@@ -142,10 +142,6 @@ distinct_told keys found n m is len count same =
     let all : length (distinct_keys keys) ≡ length keys = ap length (sym is) ∙ sym len ∙ same ∙ count in
     let_through _ _ keys all ∙ ap Some (sym (is ∙ distinct_passed keys all))
 
-pub distinct_refused : (keys found : List HookKey) (n m : ℕ) → found ≡ distinct_keys keys → n ≡ length found → m ≡ length keys → n ≢ m → distinct_form keys ≡ None
-distinct_refused keys found n m is len count other =
-    ap (λ b. given_if b keys) (is_there (length (distinct_keys keys) == length keys) (λ e. other (len ∙ ap length is ∙ eqb-true _ _ e ∙ sym count)))
-
 -- ---- groups
 
 group_tag : (g : GroupName) → tag_of the_type g ≡ group_number g

@@ -99,11 +99,6 @@ pub wrote_both : (target output info name : List ℕ) (given : Option (List ℕ)
 wrote_both target output info name given old mid new e first second =
     subst (λ (o : Option (List ℕ)). WroteAll (file target output ∷ info_files o info) old new) (sym e) (mid, first, (new, second, unchanged_same new))
 
-pub wrote_one : (target output info : List ℕ) (given : Option (List ℕ)) (old new : Option Contents) → given ≡ None
-    → Wrote target output old new → WroteAll (file target output ∷ info_files given info) old new
-wrote_one target output info given old new e first =
-    subst (λ (o : Option (List ℕ)). WroteAll (file target output ∷ info_files o info) old new) (sym e) (new, first, unchanged_same new)
-
 -- the second could not be written
 pub second_unwritten : (target output info name : List ℕ) (given : Option (List ℕ)) (old mid new : ShelfState) (status : ℕ) (text : List ℕ)
     → given ≡ Some name → Wrote target output old.contents mid.contents → old.writes ≤ mid.writes → PutCause name info mid new status text

@@ -68,11 +68,6 @@ module _ {bytes : List ℕ} {pick : Kinds} {first : List ToolState} {r : Reading
     counted = more ∙ ap (tallied (e ∷ [])) is.counted ∙ sym (tally_then is.events (e ∷ []));
   }
 
-  -- the last one was read
-  pub all_replayed : ((es : List Event) → HasRead es r → IsTrace r.bytes es)
-      → (es : List Event) × IsTrace bytes es × (tally ≡ tally_of es) × (now ≡ fed pick es first)
-  all_replayed ends = (is.events, subst (λ b. IsTrace b is.events) is.whole (ends is.events is.read), is.counted, is.taken)
-
   -- some were read
   pub some_replayed : (es : List Event) → IsTrace bytes es → AreFedPart pick es first now
   some_replayed es t =

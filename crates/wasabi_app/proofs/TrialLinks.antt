@@ -25,9 +25,6 @@ module _ (number : ℕ) where
   last_func : slice_get (funcs_of (made number)) (functions number + 1) ≡ Some 1
   last_func = let e : functions number + 1 ≡ suc (functions number) = omega arith in ap (slice_get (0 ∷ type_indices (functions number))) e ∙ index_last (functions number)
 
-  main_name : exported_func (codes "main") (exports (functions number)) ≡ Some (functions number + 1)
-  main_name = refl
-
   called : call_refusal 0 (pos (number % 2 ^ 32) ∷ []) (func_at (callees_of (made number)) (exported_func (codes "main") (exports (functions number)))) ≡ None
   called =
       let fits : nat_lt (number % 2 ^ 32) (2 ^ 32) ≡ true = grind (arith, nat_tests) in

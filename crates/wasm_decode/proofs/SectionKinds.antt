@@ -3,7 +3,7 @@ use Rattle.std.proofs.Common.{◌≡◌, ℕ, ◌<◌, ◌≤◌, ◌⊎◌, inl
 use Rattle.std.specs.Prelude.{max}
 use Rattle.leb_binary.specs.Leb.{IsFront}
 use Rattle.leb_binary.specs.Reading.{IsByte}
-use Rattle.module_ast.specs.Binary.{Kind, Content, Section, ModuleNode, IsContent, IsSized, IsSection, HasNext, AreOrdered, id_of, with_section, with_sections, module_of, empty_module, custom_section}
+use Rattle.module_ast.specs.Binary.{Kind, Content, Section, ModuleNode, IsContent, IsSized, IsSection, HasNext, AreOrdered, id_of, with_section, with_sections, module_of, empty_module}
 use Rattle.code_decode.proofs.Items.{same_kind}
 use Rattle.wasm_decode.specs.Files.{last_of}
 
@@ -11,11 +11,6 @@ use Rattle.wasm_decode.specs.Files.{last_of}
 pub wrong_content : (k : Kind) (content : List ℕ) (id : ℕ) → ((x : Content k) → IsContent k content x → ⊥) → id ≡ id_of k → (s : Section) → id ≡ id_of s.0 → IsContent s.0 content s.1 → ⊥
 wrong_content k content id h e s i p =
     subst (λ j. (x : Content j) → IsContent j content x → ⊥) (same_kind k s.0 (sym e ∙ i)) h s.1 p
-
--- ids are below 12
-pub id_below : (k : Kind) → id_of k < 12
-id_below custom_section = omega arith
-id_below k = omega arith
 
 -- ---- one section more
 

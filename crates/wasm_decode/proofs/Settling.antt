@@ -12,7 +12,7 @@ use Rattle.module_ast.specs.declared.module.Segment.{Segment}
 use Rattle.module_ast.specs.declared.module.Which.TheVariants.{Nesting}
 use Rattle.module_ast.specs.declared.module.Range.{Range}
 use Rattle.module_ast.specs.Binary.Grammar as grammar
-use Rattle.module_ast.specs.Binary.{Kind, local_count, custom_section, type_section, import_section, function_section, table_section, memory_section, global_section, export_section, start_section, element_section, code_section, data_section, tree_of, locals_of, limited_counts, AreWithin, IsFirstAbove}
+use Rattle.module_ast.specs.Binary.{local_count, custom_section, type_section, import_section, function_section, table_section, memory_section, global_section, export_section, start_section, element_section, code_section, data_section, tree_of, locals_of, limited_counts, AreWithin, IsFirstAbove}
 use Rattle.module_ast.specs.Binary.Profile as profile
 use Rattle.wasm_decode.specs.declared.draft.Draft.{Draft}
 use Rattle.wasm_decode.specs.Forms.{Form, draft_items, first_above, ItemsStandFor}
@@ -23,10 +23,6 @@ use Rattle.wasm_decode.specs.Settled.{FloatsNowhere, module_in, without_deep, or
 use Rattle.wasm_decode.proofs.Flat.{all_items, plain_items, map_same}
 
 -- ---- the first number above a bound
-
-or_else_assoc : (a b c : Option ℕ) → or_else (or_else a b) c ≡ or_else a (or_else b c)
-or_else_assoc None b c = refl
-or_else_assoc (Some x) b c = refl
 
 choice : (b : Bool) (n : ℕ) (r s t : Option ℕ) → r ≡ or_else s t → cond b (Some n) r ≡ or_else (cond b (Some n) s) t
 choice true n r s t h = refl

@@ -1,5 +1,5 @@
 -- Types: what stands at the front of bytes.
-use Rattle.std.proofs.Common.{◌≡◌, ◌≢◌, ℕ, List, ◌∷◌, ◌++◌, refl, sym, ap, ◌∙◌, subst, arith}
+use Rattle.std.proofs.Common.{◌≡◌, ℕ, List, ◌∷◌, ◌++◌, refl, sym, ap, ◌∙◌, subst, arith}
 use Rattle.std.specs.Prelude.{Option, Some, None, true, false}
 use Rattle.leb_binary.specs.Leb.{IsFront, HasNoFront}
 use Rattle.leb_binary.specs.Reading.{IsByte}
@@ -7,7 +7,7 @@ use Rattle.leb_binary.proofs.Fronts.{one_unsigned, front_one}
 use Rattle.module_ast.specs.declared.module.Range.{Range}
 use Rattle.module_ast.specs.Binary.{IsU32, Both, AreLimits, IsMemoryType, IsMutability}
 use Rattle.module_ast.proofs.Compose.{both_some, both_parts, op_end}
-use Rattle.code_decode.proofs.TypeBytes.{one_byte, no_byte}
+use Rattle.code_decode.proofs.TypeBytes.{no_byte}
 use Rattle.wasm_decode.proofs.Ops.{op_parts}
 
 -- ---- limits: with no maximum, or with one
@@ -18,13 +18,6 @@ limits_end bytes h after r p = go r.min r.max p
     go : (m : ℕ) (x : Option ℕ) → (front : List ℕ) × (bytes ≡ front ++ after) × AreLimits front m x → ⊥
     go m None p = op_end IsU32 0 bytes (omega arith) h after m p
     go m (Some n) p = op_end (λ l (q : ℕ × ℕ). Both IsU32 IsU32 l q.0 q.1) 1 bytes (omega arith) h after (m, n) p
-
-pub limits_other : (bytes mid : List ℕ) (b : ℕ) → IsFront IsByte bytes mid b → b ≢ 0 → b ≢ 1 → HasNoFront IsMemoryType bytes
-limits_other bytes mid b f h0 h1 after r p = go r.min r.max p
-  where
-    go : (m : ℕ) (x : Option ℕ) → (front : List ℕ) × (bytes ≡ front ++ after) × AreLimits front m x → ⊥
-    go m None (front, e, i) = h0 (op_parts 0 (λ rest. IsU32 rest m) bytes mid after front b f e i).opcode
-    go m (Some n) (front, e, i) = h1 (op_parts 1 (λ rest. Both IsU32 IsU32 rest m n) bytes mid after front b f e i).opcode
 
 pub limits_no_min : (bytes mid : List ℕ) (b : ℕ) → IsFront IsByte bytes mid b → HasNoFront IsU32 mid → HasNoFront IsMemoryType bytes
 limits_no_min bytes mid b f h after r p = go r.min r.max p
@@ -68,7 +61,3 @@ limits_with bytes mid more rest b m n (f, e, (p, q)) h g j =
 pub mutability_end : (bytes : List ℕ) → HasNoFront IsByte bytes → HasNoFront IsMutability bytes
 mutability_end bytes h after false (front, e, i) = no_byte bytes after 0 front h (omega arith) e i
 mutability_end bytes h after true (front, e, i) = no_byte bytes after 1 front h (omega arith) e i
-
-pub mutability_none : (bytes rest : List ℕ) (b : ℕ) → IsFront IsByte bytes rest b → b ≢ 0 → b ≢ 1 → HasNoFront IsMutability bytes
-mutability_none bytes rest b f h0 h1 after false (front, e, i) = h0 (one_byte bytes rest after b 0 front f e i)
-mutability_none bytes rest b f h0 h1 after true (front, e, i) = h1 (one_byte bytes rest after b 1 front f e i)

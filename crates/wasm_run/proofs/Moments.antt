@@ -1,7 +1,7 @@
 -- A step of the machine is a step of the run.
-use Rattle.std.proofs.Common.{◌≡◌, ℕ, ◌+◌, ◌<◌, ◌≤◌, List, [], ◌∷◌, inl, inr, Option, Some, None, Result, Ok, Err, refl, sym, ap, subst, ◌∙◌, ne_eqb, arith}
+use Rattle.std.proofs.Common.{◌≡◌, ℕ, ◌+◌, ◌<◌, ◌≤◌, List, [], ◌∷◌, inl, inr, Option, Some, None, Result, Ok, Err, refl, sym, ap, subst, ◌∙◌, arith}
 use Rattle.std.specs.declared.alloc.AllocError.{AllocError}
-use Rattle.std.specs.Prelude.{IsErr, not, ◌==◌, length}
+use Rattle.std.specs.Prelude.{IsErr, length}
 use Rattle.wasm_sem.specs.Types.{Value, Module}
 use Rattle.module_ast.specs.Memory.{pages}
 use Rattle.run_store.specs.Held.{Held}
@@ -21,7 +21,7 @@ use Rattle.run_stack.specs.Calls.{NextIsNoCall}
 use Rattle.run_stack.specs.Leaving.{HasNumber, LeavesFrom, LeavesLast}
 use Rattle.wasm_run.specs.Moves.{RunsOn, EndsWith, MovesBy, CallsOrGrows, MayWant, MakesStep}
 use Rattle.module_ast.specs.Structure.{Tree}
-use Rattle.wasm_run.specs.Running.{HoldsIf, Run, configuration_of, KeepsConfiguration, IsRunning, IsInside, Innermost}
+use Rattle.wasm_run.specs.Running.{Run, configuration_of, KeepsConfiguration, IsRunning, IsInside, Innermost}
 use Rattle.wasm_run.proofs.Beside.{NextGoesOn, step_goes_on}
 use Rattle.run_stack.proofs.Lying.{labels_are}
 use Rattle.wasm_run.proofs.Ending.{same_values}
@@ -223,13 +223,6 @@ left_few m s made c (configuration e (fr ∷ below)) f g memory globals running 
 pub trap_ends : (inst : Instance) (c : Configuration) (t : Trap) → step inst c ≡ traps t → EndsWith inst (Trapped t) c (after_step inst c (step inst c))
 trap_ends inst (configuration e fs) t h =
     subst (λ n. EndsWith inst (Trapped t) (configuration e fs) (after_step inst (configuration e fs) n)) (sym h) (record { outside = λ h. h; told = record { phase = refl; started = refl; answers = refl } })
-
--- whether a frame is there
-pub inside_by : (m : Module) (s : Script) (c : Configuration) (f : Flat) (memory : Held) (globals : List Value) (n : ℕ) → KeepsConfiguration m s c f memory globals → n ≡ length f.bases → HoldsIf (not (n == 0)) (IsInside c)
-inside_by m s (configuration e []) f memory globals n (none, keeps) h = subst (λ n. HoldsIf (not (n == 0)) ⊥) (sym (h ∙ ap length none)) (λ x. x)
-inside_by m s (configuration e (fr ∷ below)) f memory globals n (lies, keeps, room) h =
-    let more = ap length lies.bases in
-    subst (λ b. HoldsIf (not b) (Unit {0})) (sym (ne_eqb n 0 (λ e. omega (arith, e, h, more)))) tt
 
 -- the pages that are kept
 pub kept_pages : (m : Module) (s : Script) (c : Configuration) (f : Flat) (memory : Held) (globals : List Value) → KeepsConfiguration m s c f memory globals → pages memory.bytes ≡ pages_in c

@@ -1,5 +1,5 @@
 -- Exported functions by their names.
-use Rattle.std.proofs.Common.{◌≡◌, ℕ, List, [], ◌∷◌, ◌++◌, true, false, cond, ◌&&◌, Some, sym, ap, ◌∙◌, append_assoc}
+use Rattle.std.proofs.Common.{◌≡◌, ℕ, List, [], ◌∷◌, ◌++◌, true, cond, ◌&&◌, Some, sym, ap, ◌∙◌, append_assoc}
 use Rattle.std.specs.Str.{bytes_eq}
 use Rattle.std.specs.Ordering.{nat_cmp}
 use Rattle.std.specs.Cmp.Lexicographic.{slice_cmp}
@@ -19,10 +19,6 @@ pub record IsNamedBehind (t : BTreeMap (Bor (List ℕ)) ℕ) (left whole : List 
 -- one export less is left
 pub moved : (left before whole behind : List Export) (e : Export) → left ≡ before ++ (e ∷ []) → whole ≡ left ++ behind → whole ≡ before ++ (e ∷ behind)
 moved left before whole behind e split joined = joined ∙ ap (λ l. l ++ behind) split ∙ append_assoc before (e ∷ []) behind
-
--- it is no function
-pub named_other : (t : BTreeMap (Bor (List ℕ)) ℕ) (behind : List Export) (e : Export) → is_func e.kind ≡ false → HasExports t behind → HasExports t (e ∷ behind)
-named_other t behind e other had = λ name. had name ∙ ap (λ b. cond (b && bytes_eq e.name.bytes name) (Some e.index) (exported_func name behind)) (sym other)
 
 -- it is one
 pub named_more : (old new : BTreeMap (Bor (List ℕ)) ℕ) (behind : List Export) (e : Export) (key : List ℕ) → key ≡ e.name.bytes → is_func e.kind ≡ true

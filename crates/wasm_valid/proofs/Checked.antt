@@ -23,13 +23,6 @@ slice_get-push (z ∷ xs) y zero x e = inl e
 slice_get-push (z ∷ xs) y (suc k) x e =
     elim (slice_get-push xs y k x e) [ inl in_front ↦ inl in_front | inr (at, same) ↦ inr (ap suc at, same) ]
 
-pub checked_none : (m : Module) → AreChecked m 0 []
-checked_none m = record {
-  count = refl;
-  typed = λ k h. absurd (omega arith);
-  marks_of = λ k found e. absurd (cc);
-}
-
 pub checked_more : (m : Module) (done : ℕ) (marks : List Marks) (found : Marks) → AreChecked m done marks → TypesBody m done → HasBodyMarks m done found.types found.height → AreChecked m (done + 1) (marks ++ found ∷ [])
 checked_more m done marks found before typed mark = record {
   count = omega (arith, length-append marks (found ∷ []), before.count);
