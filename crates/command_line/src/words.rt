@@ -96,16 +96,16 @@ fn line_in<'w>(found: &ArgMatches<'w>) -> Option<Line<'w>>
     Some(Line {
         mode: text_in(found, "mode")?,
         subject: text_in(found, "subject")?,
-        out: text_in(found, "out"),
-        info: text_in(found, "info"),
-        script: text_in(found, "script"),
-        sources: text_in(found, "sources"),
-        sinks: text_in(found, "sinks"),
         hooks: text_in(found, "hooks")?,
         reports: text_in(found, "reports")?,
         names: text_in(found, "names")?,
         jobs: number_in(found, "jobs", MOST_JOBS)? as u32,
         max_output: number_in(found, "max-output", LONGEST_OUTPUT)?,
+        out: text_in(found, "out"),
+        info: text_in(found, "info"),
+        script: text_in(found, "script"),
+        sources: text_in(found, "sources"),
+        sinks: text_in(found, "sinks"),
     })
 }
 

@@ -10,7 +10,7 @@ ghost use Rattle.run_session.specs.Linking.{ChecksRefusal, exported_type, type_r
 
 use module_ast::module::{Element, FuncType, Module, Segment};
 use module_ast::spaces::Spaces;
-use run_opening::{least_pages, least_slots, offset_of, open_globals};
+use run_store::{least_pages, least_slots, offset_of, open_globals};
 use std::alloc::{AllocError, Global};
 use std::collections::BTreeMap;
 use wasm_num::{ValType, Value};

@@ -13,7 +13,7 @@ use crate::stack::Stack;
 use module_ast::code::{BlockType, Code, Instr};
 use module_ast::labels::Labels;
 use module_ast::module::Module;
-use run_opening::block_counts;
+use run_store::block_counts;
 
 // A block or a part of an `if` is entered: what it takes stays on top.
 fn enter_block<'m>(stack: &mut Stack<'m>, module: &Module, ty: BlockType, body: &'m Code)

@@ -12,7 +12,7 @@ ghost use Rattle.run_stack.specs.Below.{IsBelow, IsAnswerOf};
 
 use module_ast::code::Instr;
 use module_ast::module::{Body, Group};
-use run_opening::zero;
+use run_store::zero;
 use std::alloc::{AllocError, Global};
 use std::marker::Model;
 use wasm_num::{NoMemory, Value, Values};

@@ -1,0 +1,3 @@
+pub mod Resolving
+mod Alone
+pub mod Ranges

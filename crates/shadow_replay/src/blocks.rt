@@ -4,13 +4,13 @@ ghost use Rattle.std.specs.Prelude.{◌≡◌, ◌++◌, ◌∷◌, [], None, So
 ghost use Rattle.wasm_sem.specs.Types.{Module as valid_module, FuncType as func_type};
 ghost use Rattle.module_ast.specs.Structure.{before, Tree};
 ghost use Rattle.module_ast.specs.Validation.{block_type};
-ghost use Rattle.run_opening.specs.Resolved.{callee_for};
+ghost use Rattle.run_store.specs.Resolved.{callee_for};
 ghost use Rattle.shadow_replay.specs.BlockRows.{code_row, callee_row, block_rows, row_block};
 ghost use Rattle.shadow_replay.specs.Blocks.{of_kind, block_at, label_arity};
 
 use module_ast::code::{BlockType, Code, Instr};
 use module_ast::module::{Loc, Module};
-use run_opening::{Function, block_counts};
+use run_store::{Function, block_counts};
 use std::alloc::Global;
 use std::marker::Model;
 use std::mem::size_of;

@@ -2,12 +2,12 @@
 
 ghost use Rattle.std.specs.Prelude.{◌≡◌, ◌++◌, replicate, IfOk, OnOk};
 ghost use Rattle.module_ast.specs.Validation.{declared_locals};
-ghost use Rattle.run_opening.specs.Resolved.{callee_for};
+ghost use Rattle.run_store.specs.Resolved.{callee_for};
 ghost use Rattle.shadow_replay.specs.Resolved.{zero_locals, begun_with};
 
 use crate::marked::Marked;
 use module_ast::module::Group;
-use run_opening::{Function, zero};
+use run_store::{Function, zero};
 use std::alloc::AllocError;
 use wasm_num::NoMemory;
 

@@ -6,7 +6,7 @@ ghost use Rattle.wasm_num.specs.Shapes.{num_operands};
 ghost use Rattle.shadow_replay.specs.Stacked.{Has, exchanged};
 ghost use Rattle.shadow_replay.specs.Taint.{nth_mark, read_mark};
 ghost use Rattle.wasm_sem.specs.Execution.{event, entry, callees_of, IsScriptInRange, Links};
-ghost use Rattle.run_opening.specs.Resolved.{callee_for};
+ghost use Rattle.run_store.specs.Resolved.{callee_for};
 ghost use Rattle.shadow_replay.specs.Fit.{IsItemFit};
 ghost use Rattle.shadow_replay.specs.Opened.{opening_replay, replay_with};
 ghost use Rattle.shadow_replay.specs.Replayed.{TakesItem, MovesStanding, joined, number_effect, IsFitEvent, IsOnOperands, IsOnLocal, IsOnGlobal, IsOnMemory, IsBranch, IsReturn, IsCallEvent, BeginsFunction, BeginsBlock, CallsFunction, CallsSlot, Prepares, function_begun, block_begun, called, called_through, call_warnings, answered, StoresBytes, Grows, HoldsValues, EndsLabel, TakesGiven, held_below, ended, stored_memory};
@@ -24,8 +24,8 @@ use crate::stack::Stack;
 use hook_select::Event;
 use module_ast::module::{FuncType, Loc};
 use module_ast::ops::{LoadOp, StoreOp, VarOp};
-use run_opening::{Function, functions_of, open_globals, open_memory, same_func_type};
 use run_store::memory::{Memory, PAGE_SIZE};
+use run_store::{Function, functions_of, open_globals, open_memory, same_func_type};
 use std::alloc::{AllocError, Global};
 use std::marker::Model;
 use wasm_num::{BlockKind, NoMemory, NumOp, Value, Values};
@@ -123,7 +123,7 @@ impl<'m> Model for Shadow<'m> {
 
     ghost use Rattle.std.specs.Prelude.{map};
     ghost use Rattle.wasm_sem.specs.Execution.{callees_of};
-    ghost use Rattle.run_opening.specs.Resolved.{callee_for};
+    ghost use Rattle.run_store.specs.Resolved.{callee_for};
     ghost use Rattle.shadow_replay.specs.BlockRows.{block_rows};
 
     ghost invariant = { λ a. (length a.memory_marks.items ≡ length a.memory.bytes) × (map callee_for a.functions.items ≡ callees_of a.valid.now) × (a.blocks ≡ block_rows a.valid.now) };

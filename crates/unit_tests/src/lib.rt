@@ -1,6 +1,19 @@
-// Tests of small crates. Nothing but tests stands here, so no crate is proved twice for them.
+// Tests of small crates, and of reading, writing and validating modules and the names that they carry. Nothing but tests stands
+// here, so no crate is proved twice for them.
 #![tactic(auto)]
 
+#[cfg(test)]
+mod bodies;
+#[cfg(test)]
+mod checking;
+#[cfg(test)]
+mod encoding;
+#[cfg(test)]
+mod files;
+#[cfg(test)]
+mod making;
+#[cfg(test)]
+mod names;
 #[cfg(test)]
 mod numbers;
 #[cfg(test)]

@@ -131,29 +131,3 @@ fn follows_the_rules(rt: HostRuntime) -> Result<(), Fail> {
     }
     Ok(())
 }
-
-// A loop that takes one operand, in a function with two results.
-fn loop_in_function(alloc: Global) -> Result<CtrlStack, StackFault> {
-    let mut stack = CtrlStack::new(alloc, types(alloc, Two)?)?;
-    stack.push(INT)?;
-    stack.push_block(BlockKind::Loop, types(alloc, One)?, types(alloc, No)?)?;
-    Ok(stack)
-}
-
-// Whether a label names a frame of this kind, to which a branch takes so many operands.
-fn names(stack: &CtrlStack, label: u32, kind: BlockKind, takes: usize) -> bool {
-    match stack.label(label) {
-        Some(frame) => frame.kind == kind && frame.label_types().len() == takes,
-        None => false,
-    }
-}
-
-// Labels count from the innermost frame.
-#[test]
-fn names_frames(rt: HostRuntime) -> Result<(), Fail> {
-    let stack = loop_in_function(rt.alloc())?;
-    assert!(rt; names(&stack, 0, BlockKind::Loop, 1));
-    assert!(rt; names(&stack, 1, BlockKind::Function, 2));
-    assert!(rt; stack.label(2).is_none());
-    Ok(())
-}

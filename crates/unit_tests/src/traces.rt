@@ -103,35 +103,3 @@ fn an_event_of_each_kind_is_read(rt: HostRuntime) -> Result<(), Fail> {
     );
     Ok(())
 }
-
-// Whether bytes are refused.
-fn is_refused(alloc: Global, bytes: &[u8]) -> bool {
-    matches!(read_trace(alloc, bytes), Err(ReadTraceFault::NotTrace))
-}
-
-// Cut short; another header; a padded number, a padded count, another count; a tag, a kind, a type and an opcode that is none; a hook
-// of 2^32; fewer values than are told; and a byte behind the end.
-#[test]
-fn other_bytes_are_refused(rt: HostRuntime) {
-    for length in 0..NOP.len() {
-        assert!(rt; is_refused(rt.alloc(), &NOP[..length]));
-    }
-    let rows: [&[u8]; 13] = [
-        b"WTR2\x02\x00\x00\x00\x01",
-        b"WTR1\x02\x00\x80\x00\x00\x01",
-        b"WTR1\x0A\x00\x00\x7E\xFE\x7F\x00\x01",
-        b"WTR1\x0A\x00\x00\x7E\x7E\x00\x81\x00",
-        b"WTR1\x02\x00\x00\x00\x02",
-        b"WTR1\x02\x00\x00\x00\x00",
-        b"WTR1\x1A\x00\x00\x00\x01",
-        b"WTR1\x08\x00\x00\x05\x00\x01",
-        b"WTR1\x0A\x00\x00\x7D\x00\x00\x01",
-        b"WTR1\x11\x00\x00\x2A\x00\x00\x7F\x00\x00\x01",
-        b"WTR1\x19\x80\x80\x80\x80\x10\x00\x01",
-        b"WTR1\x17\x00\x00\x02\x7F\x00\x00\x01",
-        b"WTR1\x02\x00\x00\x00\x01\x00",
-    ];
-    for bytes in rows {
-        assert!(rt; is_refused(rt.alloc(), bytes));
-    }
-}

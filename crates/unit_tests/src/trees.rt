@@ -1,4 +1,4 @@
-// Trees of calls: of small runs, of ends that close nothing, of deep and of wide ones.
+// Trees of calls: of small runs, of deep and of wide ones.
 
 use call_tree::{Node, Tree, TreeFault};
 use hook_select::Event;
@@ -7,31 +7,32 @@ use std::alloc::Global;
 use std::test::Fail;
 use wasm_num::BlockKind;
 
-// An entry, the begin or the end of a function, or those of a block with its function, its position and its kind.
+// An entry, or the begin or the end of a function.
 #[derive(Clone, Copy)]
 enum Step {
     Enter,
     Begin(u32),
     End(u32),
-    BeginBlock(u32, i32, BlockKind),
-    EndBlock(u32, i32, BlockKind),
 }
 
-use Step::{Begin, BeginBlock, End, EndBlock, Enter};
+use Step::{Begin, End, Enter};
 
-fn take_begin(tree: &mut Tree, func: u32, instr: i32, kind: BlockKind) -> Result<(), TreeFault> {
+fn take_begin(tree: &mut Tree, func: u32) -> Result<(), TreeFault> {
     if tree.taken() >= 1_000_000 {
         return Err(TreeFault::NoMemory);
     }
-    let loc = Loc { func, instr };
+    let loc = Loc { func, instr: -1 };
+    let kind = BlockKind::Function;
     tree.take(&Event::Begin { loc, kind })
 }
 
-fn take_end(tree: &mut Tree, func: u32, begin: i32, kind: BlockKind) -> Result<(), TreeFault> {
+fn take_end(tree: &mut Tree, func: u32) -> Result<(), TreeFault> {
     if tree.taken() >= 1_000_000 {
         return Err(TreeFault::NoMemory);
     }
     let loc = Loc { func, instr: 5 };
+    let kind = BlockKind::Function;
+    let begin = -1;
     tree.take(&Event::End { loc, kind, begin })
 }
 
@@ -42,10 +43,8 @@ fn take(tree: &mut Tree, step: Step) -> Result<(), TreeFault> {
             tree.enter();
             Ok(())
         }
-        Begin(func) => take_begin(tree, func, -1, BlockKind::Function),
-        End(func) => take_end(tree, func, -1, BlockKind::Function),
-        BeginBlock(func, instr, kind) => take_begin(tree, func, instr, kind),
-        EndBlock(func, begin, kind) => take_end(tree, func, begin, kind),
+        Begin(func) => take_begin(tree, func),
+        End(func) => take_end(tree, func),
     }
 }
 
@@ -127,40 +126,6 @@ fn paths_of_calls(rt: HostRuntime) -> Result<(), Fail> {
     for &(steps, nodes) in &ROWS {
         assert!(rt; grows(rt.alloc(), steps, nodes)?);
     }
-    Ok(())
-}
-
-// Whether an end of a function is refused at its own location.
-fn refuses(tree: &mut Tree, step: Step, func: u32) -> bool {
-    let loc = Loc { func, instr: 5 };
-    take(tree, step) == Err(TreeFault::NotNested { loc })
-}
-
-// Whether an end of another function, kind or begin than the latest is refused, and one that is not the latest.
-fn refuses_others(tree: &mut Tree) -> bool {
-    refuses(tree, End(1), 1)
-        && refuses(tree, EndBlock(1, 2, BlockKind::Loop), 1)
-        && refuses(tree, EndBlock(1, 3, BlockKind::Block), 1)
-        && refuses(tree, EndBlock(2, 2, BlockKind::Block), 2)
-}
-
-// Whether an end with no begin is refused, others than the latest are, and one behind an entry, and nothing changes.
-fn refuses_all(tree: &mut Tree) -> Result<bool, TreeFault> {
-    let none_begun = refuses(tree, End(1), 1);
-    take(tree, Begin(1))?;
-    take(tree, BeginBlock(1, 2, BlockKind::Block))?;
-    let others = refuses_others(tree);
-    take(tree, EndBlock(1, 2, BlockKind::Block))?;
-    let taken = tree.taken();
-    take(tree, Enter)?;
-    Ok(none_begun && others && taken == 3 && refuses(tree, End(1), 1))
-}
-
-#[test]
-fn refuses_ends(rt: HostRuntime) -> Result<(), Fail> {
-    let mut tree = Tree::new(rt.alloc());
-    assert!(rt; refuses_all(&mut tree)?);
-    assert!(rt; has(&tree, &[(0, 1, 1)])?);
     Ok(())
 }
 

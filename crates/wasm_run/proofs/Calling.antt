@@ -13,7 +13,7 @@ use Rattle.run_stack.specs.Flat.{Flat, Enters}
 use Rattle.wasm_run.specs.Entering.{IsCalling, entered_next, HasEntered}
 use Rattle.wasm_run.specs.Moves.{RunsOn, EndsWith}
 use Rattle.run_stack.specs.Slots.{behind_call}
-use Rattle.run_opening.specs.Resolved.{IsSizeOf}
+use Rattle.run_store.specs.Resolved.{IsSizeOf}
 use Rattle.wasm_run.specs.Running.{KeepsConfiguration, IsLinked, IsRunning}
 use Rattle.run_stack.specs.Standing.{KeepsStore}
 use Rattle.wasm_run.proofs.Invoking.{Invoker, behind, lies_behind, room_behind}

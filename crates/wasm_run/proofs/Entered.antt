@@ -20,7 +20,7 @@ use Rattle.wasm_run.specs.Entries.{EntersWith, EntersNext}
 use Rattle.run_stack.specs.Flat.{Flat}
 use Rattle.wasm_run.specs.Moves.{HasSameAnswers, RunsOn, EndsWith}
 use Rattle.wasm_run.specs.Rooms.{HaveRoom}
-use Rattle.run_opening.specs.Resolved.{IsSizeOf}
+use Rattle.run_store.specs.Resolved.{IsSizeOf}
 use Rattle.wasm_run.specs.Running.{KeepsConfiguration, IsRunning}
 use Rattle.run_stack.specs.Standing.{KeepsStore}
 use Rattle.wasm_run.proofs.Answered.{written_store}

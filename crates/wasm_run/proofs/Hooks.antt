@@ -21,9 +21,9 @@ use Rattle.run_stack.specs.Kept.{under}
 use Rattle.wasm_run.specs.Moves.{env_beside}
 use Rattle.run_stack.specs.Slots.{index_count, with_index}
 use Rattle.wasm_run.specs.Reaching.{Reaches}
-use Rattle.run_opening.specs.Resolved.{callee_for}
-use Rattle.run_opening.specs.declared.functions.Function.{Function}
-use Rattle.run_opening.specs.declared.functions.Function.TheVariants as functions
+use Rattle.run_store.specs.Resolved.{callee_for}
+use Rattle.run_store.specs.declared.functions.Function.{Function}
+use Rattle.run_store.specs.declared.functions.Function.TheVariants as functions
 use Rattle.wasm_run.specs.Running.{Innermost, IsRunning}
 use Rattle.run_stack.proofs.Popped.{parts, pop_over}
 use Rattle.wasm_run.proofs.Invoking.{index_dropped, index_there, Invoker, invoker}

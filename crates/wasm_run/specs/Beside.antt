@@ -7,8 +7,8 @@ use Rattle.wasm_sem.specs.declared.Script.{Script}
 use Rattle.wasm_sem.specs.Execution.{opening_store, Env, Configuration, configuration, run_of}
 use Rattle.wasm_sem.specs.Rules.{HasSameRest}
 use Rattle.run_store.specs.Held.{Held}
-use Rattle.run_opening.specs.declared.functions.Function.{Function}
-use Rattle.run_opening.specs.Resolved.{AreFunctionsOf}
+use Rattle.run_store.specs.declared.functions.Function.{Function}
+use Rattle.run_store.specs.Resolved.{AreFunctionsOf}
 use Rattle.wasm_run.specs.declared.note.Noted.{Noted}
 use Rattle.run_stack.specs.Flat.{Flat}
 use Rattle.wasm_run.specs.Noting.{KeepsNote}

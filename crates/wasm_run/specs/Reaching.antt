@@ -10,7 +10,7 @@ use Rattle.wasm_run.specs.declared.functions.Target.TheVariants as targets
 use Rattle.run_stack.specs.Advances.{IsAtCall}
 use Rattle.run_stack.specs.Calls.{NextIsNoCall}
 use Rattle.run_stack.specs.Slots.{with_index}
-use Rattle.run_opening.specs.Resolved.{callee_for, HasSize}
+use Rattle.run_store.specs.Resolved.{callee_for, HasSize}
 use Rattle.wasm_run.specs.Running.{Run, configuration_of, Innermost}
 
 -- a frame stands before a call of this function, with this code behind

@@ -4,7 +4,7 @@ ghost use Rattle.std.specs.Prelude.{◌≡◌};
 ghost use Rattle.run_stack.specs.Slots.{index_count};
 
 use module_ast::code::Instr;
-use run_opening::Function;
+use run_store::Function;
 use wasm_sem::Trap;
 
 /// A call of a function by its index: the code behind the call and, where it goes through a slot of the table, the slot,

@@ -6,9 +6,9 @@ ghost use Rattle.wasm_sem.specs.Execution.{IsWriteInRange, values_of, answer_at,
 ghost use Rattle.wasm_run.specs.Answering.{returned_with, answer_given};
 
 use module_ast::module::FuncType;
-use run_opening::value_of;
 use run_stack::Stack;
 use run_store::memory::Memory;
+use run_store::value_of;
 use std::alloc::Global;
 use wasm_num::{NoMemory, ValType, Value, Values};
 use wasm_sem::{HostAnswer, HostWrite, Script};

@@ -12,7 +12,7 @@ ghost use Rattle.wasm_run.specs.Entries.{EntersNext};
 ghost use Rattle.run_stack.specs.Leaving.{LeavesLast};
 ghost use Rattle.wasm_run.specs.Moves.{MayWant, MakesStep};
 ghost use Rattle.wasm_run.specs.Reaching.{IsAtSlot, Reaches, IsInvocation, IsTarget};
-ghost use Rattle.run_opening.specs.Resolved.{callee_for, HasSize, IsSizeOf};
+ghost use Rattle.run_store.specs.Resolved.{callee_for, HasSize, IsSizeOf};
 ghost use Rattle.wasm_run.specs.Answering.{answer_given};
 ghost use Rattle.wasm_run.specs.Noting.{host_items, last_outside, IsNoteOf};
 
@@ -22,13 +22,13 @@ use crate::host::{answer, answer_entry, next_answer, return_numbers, values_of};
 use crate::note::{HostNote, Note, Noted, host_note, noted_entry};
 use module_ast::code::Instr;
 use module_ast::module::{Body, FuncType, Module};
-use run_opening::{
-    Function, Size, functions_of, open_globals, open_memory, open_table, same_func_type,
-};
 use run_stack::{Did, Stack, above_many, advance};
 use run_store::globals::Globals;
 use run_store::memory::Memory;
 use run_store::table::Table;
+use run_store::{
+    Function, Size, functions_of, open_globals, open_memory, open_table, same_func_type,
+};
 use std::alloc::{AllocError, Global};
 use std::marker::Model;
 use wasm_num::NoMemory;

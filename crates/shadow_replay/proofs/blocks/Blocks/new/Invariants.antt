@@ -1,5 +1,5 @@
 use Rattle.std.proofs.Common.{◌≡◌, ◌++◌, drop, map}
-use Rattle.run_opening.specs.Resolved.{callee_for}
+use Rattle.run_store.specs.Resolved.{callee_for}
 use Rattle.shadow_replay.specs.BlockRows.{callee_row}
 use Rattle.shadow_replay.proofs.blocks.Blocks.new.Given as goal
 

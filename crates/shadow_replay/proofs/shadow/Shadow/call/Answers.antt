@@ -6,7 +6,7 @@ use Rattle.shadow_replay.specs.declared.marked.Marked.{Marked}
 use Rattle.shadow_replay.specs.Shadow.{calls_callee}
 use Rattle.shadow_replay.specs.Stacked.{Standing, Has, exchanged, AreOperandsBelow}
 use Rattle.shadow_replay.specs.Tainted.{TaintedShadow, calls_marks, with_marks}
-use Rattle.run_opening.specs.Resolved.{callee_for}
+use Rattle.run_store.specs.Resolved.{callee_for}
 use Rattle.shadow_replay.specs.Resolved.{begun_with}
 use Rattle.shadow_replay.specs.Replayed.{Replay, shadow_seen}
 use Rattle.shadow_replay.proofs.ShadowEnters.{call_has, call_is}

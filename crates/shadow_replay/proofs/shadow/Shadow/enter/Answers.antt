@@ -5,7 +5,7 @@ use Rattle.shadow_replay.specs.declared.marked.Marked.{Marked}
 use Rattle.shadow_replay.specs.Shadow.{effect}
 use Rattle.shadow_replay.specs.Stacked.{Standing}
 use Rattle.shadow_replay.specs.Tainted.{TaintedShadow}
-use Rattle.run_opening.specs.Resolved.{callee_for}
+use Rattle.run_store.specs.Resolved.{callee_for}
 use Rattle.shadow_replay.specs.Resolved.{begun_with}
 use Rattle.shadow_replay.specs.Replayed.{Replay, shadow_seen, marked_values}
 use Rattle.shadow_replay.proofs.ShadowTakes.{takes}

@@ -3,7 +3,7 @@ use Rattle.std.proofs.lemmas.Result.{IfOk-weaker}
 use Rattle.wasm_sem.specs.Types.{Module}
 use Rattle.module_ast.specs.Structure.{memories_of}
 use Rattle.wasm_sem.specs.Execution.{least_size, page_limit}
-use Rattle.run_opening.proofs.Ranges.{begins_within}
+use Rattle.run_store.proofs.Ranges.{begins_within}
 use Rattle.shadow_replay.specs.Opened.{opening_replay, replay_with}
 use Rattle.shadow_replay.specs.Replayed.{marked_values}
 use Rattle.shadow_replay.specs.Taint.{Watch}

@@ -4,7 +4,7 @@ use Rattle.std.proofs.lemmas.Option.{slice_get-map, slice_get_read}
 use Rattle.std.proofs.lemmas.Bool.{leb-true}
 use Rattle.wasm_sem.specs.Types.{FuncType}
 use Rattle.wasm_sem.specs.Execution.{callee_type, callees_of, same_func_type}
-use Rattle.run_opening.specs.Resolved.{callee_for}
+use Rattle.run_store.specs.Resolved.{callee_for}
 use Rattle.shadow_replay.specs.Replayed.{Replay, Prepares}
 use Rattle.shadow_replay.proofs.ShadowEnters.{prepares_locals}
 use Rattle.shadow_replay.proofs.shadow.Shadow.prepare.Goals as goal

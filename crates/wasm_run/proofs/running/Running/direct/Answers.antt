@@ -3,9 +3,9 @@ use Rattle.std.proofs.lemmas.List.{length-map}
 use Rattle.module_ast.specs.Structure.{code_of, plain, call}
 use Rattle.wasm_sem.specs.Execution.{instance, Frame}
 use Rattle.wasm_run.specs.Reaching.{Reaches}
-use Rattle.run_opening.specs.Resolved.{callee_for, HasSize}
+use Rattle.run_store.specs.Resolved.{callee_for, HasSize}
 use Rattle.wasm_run.specs.Running.{Run, configuration_of, Innermost}
-use Rattle.run_opening.proofs.Resolving.{function_at, function_size}
+use Rattle.run_store.proofs.Resolving.{function_at, function_size}
 use Rattle.wasm_run.proofs.Targets.{direct_there, direct_reaches}
 use Rattle.wasm_run.proofs.running.Running.direct.Goals as goal
 

@@ -3,7 +3,7 @@ use Rattle.wasm_sem.specs.Execution.{own, instance}
 use Rattle.module_ast.specs.Validation.{declared_locals}
 use Rattle.wasm_run.specs.Entries.{EntersNext}
 use Rattle.wasm_run.specs.Moves.{RunsOn}
-use Rattle.run_opening.specs.Resolved.{IsSizeOf}
+use Rattle.run_store.specs.Resolved.{IsSizeOf}
 use Rattle.wasm_run.specs.Running.{Run, one_more, configuration_of}
 use Rattle.wasm_run.proofs.Noting.{step_note, own_noted}
 use Rattle.wasm_run.proofs.Entered.{first_on, first_counted, first_running, unentered}

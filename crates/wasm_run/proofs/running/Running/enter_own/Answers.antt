@@ -6,7 +6,7 @@ use Rattle.wasm_sem.specs.Execution.{own, instance}
 use Rattle.run_stack.specs.Flat.{Flat}
 use Rattle.wasm_run.specs.Moves.{RunsOn, EndsWith, MayWant}
 use Rattle.wasm_run.specs.Reaching.{Reaches}
-use Rattle.run_opening.specs.Resolved.{IsSizeOf}
+use Rattle.run_store.specs.Resolved.{IsSizeOf}
 use Rattle.wasm_run.specs.Running.{Run, one_more, configuration_of}
 use Rattle.wasm_run.proofs.Answered.{called_index, called_label}
 use Rattle.wasm_run.proofs.Calling.{made_call}

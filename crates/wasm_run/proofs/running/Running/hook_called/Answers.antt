@@ -1,6 +1,6 @@
 use Rattle.module_ast.specs.Structure.{code_of}
 use Rattle.wasm_sem.specs.Execution.{instance}
-use Rattle.run_opening.specs.Resolved.{callee_for}
+use Rattle.run_store.specs.Resolved.{callee_for}
 use Rattle.wasm_run.specs.Running.{configuration_of}
 use Rattle.wasm_run.proofs.Hooks.{nothing_told, none_told, on_err}
 use Rattle.wasm_run.proofs.Targets.{reaches_wants}

@@ -6,7 +6,7 @@ use Rattle.wasm_run.specs.Entries.{EntersNext}
 use Rattle.wasm_run.specs.Running.{Run, configuration_of}
 use Rattle.wasm_run.proofs.Entered.{hook_entered_told, other_entered}
 use Rattle.wasm_run.proofs.Hooks.{other_function}
-use Rattle.run_opening.specs.Resolved.{callee_for}
+use Rattle.run_store.specs.Resolved.{callee_for}
 use Rattle.wasm_run.proofs.running.Running.hook_entered.Goals as goal
 
 pub returns : goal.returns

@@ -4,7 +4,7 @@ use Rattle.wasm_sem.specs.Types.{ValType}
 use Rattle.wasm_sem.specs.Execution.{hook_in, hook, instance, items}
 use Rattle.run_stack.specs.Below.{IsBelow}
 use Rattle.wasm_run.specs.Reaching.{Reaches}
-use Rattle.run_opening.specs.Resolved.{callee_for}
+use Rattle.run_store.specs.Resolved.{callee_for}
 use Rattle.wasm_run.specs.Running.{Run, configuration_of}
 use Rattle.wasm_run.proofs.Hooks.{other_called, other_function, words_there, words_are}
 use Rattle.wasm_run.proofs.running.Running.hook_of.Goals as goal

@@ -7,7 +7,7 @@ use Rattle.wasm_sem.specs.declared.Trap.TheVariants.{WrongType}
 use Rattle.wasm_sem.specs.Laws.{slots_in}
 use Rattle.wasm_sem.specs.Execution.{callee_type, callees_of, instance, same_func_type, step, traps, told_items}
 use Rattle.wasm_run.specs.Reaching.{Reaches, IsAtSlot}
-use Rattle.run_opening.specs.Resolved.{callee_for}
+use Rattle.run_store.specs.Resolved.{callee_for}
 use Rattle.wasm_run.specs.Running.{Run, configuration_of, Innermost}
 use Rattle.wasm_run.proofs.Targets.{type_there, slot_there, slot_reaches, slot_wrong}
 use Rattle.wasm_run.proofs.running.Running.in_slot.Goals as goal

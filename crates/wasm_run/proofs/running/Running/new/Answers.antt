@@ -2,7 +2,7 @@ use Rattle.std.proofs.Common.{◌≤◌, sym, subst}
 use Rattle.wasm_sem.specs.Types.{Module}
 use Rattle.module_ast.specs.Structure.{memories_of}
 use Rattle.wasm_sem.specs.Execution.{least_size, page_limit}
-use Rattle.run_opening.proofs.Ranges.{begins_within}
+use Rattle.run_store.proofs.Ranges.{begins_within}
 use Rattle.wasm_run.proofs.running.Running.new.Goals as goal
 
 pub open_memory-requires-clause-least : goal.open_memory-requires-clause-least

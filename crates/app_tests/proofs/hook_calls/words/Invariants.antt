@@ -1,0 +1,5 @@
+use Rattle.hook_events.specs.Words.{AreWords}
+use Rattle.app_tests.proofs.hook_calls.words.Given as goal
+
+abbrev pub invariant-loop-word : goal.invariant-loop-word
+invariant-loop-word l = AreWords l.values

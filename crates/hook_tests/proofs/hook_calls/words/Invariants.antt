@@ -1,5 +1,0 @@
-use Rattle.hook_events.specs.Words.{AreWords}
-use Rattle.hook_tests.proofs.hook_calls.words.Given as goal
-
-abbrev pub invariant-loop-word : goal.invariant-loop-word
-invariant-loop-word l = AreWords l.values

@@ -1,3 +1,0 @@
-pub mod Resolving
-mod Alone
-pub mod Ranges

@@ -1,5 +1,0 @@
-use Rattle.std.proofs.Common.{rules}
-use Rattle.run_opening.proofs.blocks.block_counts.Goals as goal
-
-pub returns-in-Value : goal.returns-in-Value
-returns-in-Value c = search rules
