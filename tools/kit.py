@@ -1,0 +1,108 @@
+"""The kit's own scripts as a library: which crates there are, how one is checked and built, and what its text has."""
+import functools
+import importlib.machinery
+import importlib.util
+import os
+import re
+import shutil
+import sys
+import threading
+
+TOP = os.path.dirname(os.path.dirname(os.path.realpath(__file__)))
+BIN = os.path.dirname(os.path.realpath(shutil.which("rt") or "/opt/rattle/bin/rt"))
+
+
+def load(name):
+    """Loads a script of the kit, from the folder of its command rt."""
+    loader = importlib.machinery.SourceFileLoader(re.sub(r"\W", "_", name.removesuffix(".py")), f"{BIN}/{name}")
+    spec = importlib.util.spec_from_loader(loader.name, loader)
+    made = importlib.util.module_from_spec(spec)
+    sys.modules[loader.name] = made
+    try:
+        loader.exec_module(made)
+    except FileNotFoundError:
+        stop()
+    return made
+
+
+def stop():
+    """Ends with status 3, if the kit's scripts are others than those that are known here."""
+    print("tools: this kit's scripts are others than those of the kits that README names", file=sys.stderr)
+    sys.exit(3)
+
+
+rtlib, bodies = load("rtlib.py"), load("rt-plant-bodies")
+with open(f"{os.path.dirname(BIN)}/KIT-ID", encoding="utf-8") as it:
+    KIT_ID = it.read().strip()
+# What is used of them, here and in what stands on this file.
+USED = {
+    rtlib: "crates_below guarded lock number_in text_of PARTS RATTLE Crate",
+    rtlib.Crate: "below build_and_run build_rlib count is_built makes_rlib stamp words",
+    bodies: "Source named",
+}
+if not all(hasattr(it, name) for it, names in USED.items() for name in names.split()):
+    stop()
+_sums, _sum = threading.local(), rtlib.Crate.stamp
+
+
+def _sum_once(crate):
+    """The kit's sum of what a crate is made from. The kit takes it once for each path to a crate below; this takes it once a call."""
+    if getattr(_sums, "known", None) is None:
+        _sums.known = {}
+        try:
+            return _sum_once(crate)
+        finally:
+            _sums.known = None
+    if crate not in _sums.known:
+        _sums.known[crate] = _sum(crate)
+    return _sums.known[crate]
+
+
+rtlib.Crate.stamp = _sum_once
+
+
+def crates(folder=f"{TOP}/crates"):
+    """Returns the crates at or below a folder, and those below them, lowest first."""
+    return rtlib.crates_below(folder)
+
+
+def files_in(folder, parts=rtlib.PARTS):
+    """Returns the files of a crate's parts, in order."""
+    found = []
+    for part in parts:
+        for at, folders, names in os.walk(f"{folder}/{part}"):
+            found += [f"{at}/{it}" for it in names]
+    return sorted(found)
+
+
+def source_at(folder):
+    """Reads the functions and types of the crate in a folder."""
+    source = bodies.Source(folder)
+    source.read("src/main.rt" if os.path.isfile(f"{folder}/src/main.rt") else "src/lib.rt")
+    return source
+
+
+@functools.lru_cache(maxsize=None)
+def stated_by(folder):
+    """Returns what a crate states to those above it: its definitions, and its code without the functions' bodies."""
+    found = []
+    for file in files_in(folder, ("specs",)):
+        found.append((os.path.relpath(file, folder), rtlib.text_of(file)))
+    source = source_at(folder)
+    for file, data in sorted(source.data.items()):
+        kept, at = b"", 0
+        for f in sorted((it for it in source.functions if it.file == file and it.has_body), key=lambda it: it.opens):
+            if f.opens >= at:
+                kept, at = kept + data[at : f.opens], f.end
+        found.append((file, kept + data[at:]))
+    return found
+
+
+def is_made(crate):
+    """Returns whether a library stands as its sources are: by the kit's sum or, behind the gate, which keeps none, by the time."""
+    if crate.is_built():
+        return True
+    if not os.path.isdir(crate.rlib) or os.path.exists(f"{crate.folder}/out/rlib/stamp"):
+        return False
+    files = [file for it in [crate, *crate.below()] for file in files_in(it.folder)]
+    return max(map(os.path.getmtime, files)) < os.path.getmtime(f"{crate.rlib}/format")
