@@ -2,7 +2,7 @@
 use Rattle.std.proofs.Common.{◌≡◌, ℕ, ◌+◌, ◌<◌, List, [], ◌∷◌, ◌++◌, length, Bool, true, false, refl, sym, ap, ◌∙◌, subst, arith, append_assoc}
 use Rattle.std.proofs.lemmas.List.{map-append}
 use Rattle.wasm_sem.specs.Types.{ValType, BlockType, Instr, Hooks}
-use Rattle.module_ast.specs.declared.code.Instr.TheVariants.{Block, Loop, If, IfElse, BrIf}
+use Rattle.module_ast.specs.declared.code.Instr.TheVariants.{Block, Loop, If, IfElse, Br, BrIf, Return}
 use Rattle.wasm_num.specs.declared.BlockKind.TheVariants as kinds
 use Rattle.module_ast.specs.Structure.Trees as tree
 use Rattle.hook_select.specs.declared.GroupName.TheVariants as groups
@@ -11,26 +11,25 @@ use Rattle.rewrite_needs.specs.Temporaries.{plain_temps, open_temps, code_temps}
 use Rattle.index_remap.specs.Remap.{map_tree}
 use Rattle.index_remap.specs.declared.Remap.{Remap}
 use Rattle.module_ast.specs.Lists.{when}
-use Rattle.module_ast.specs.Structure.{Tree, done, plain, block, loop, if_then, if_else, Plain, before, onto, onto_push, code_of, plains, instr_of, goes_on_by, IsPlainInstr}
+use Rattle.module_ast.specs.Structure.{Tree, done, plain, block, loop, if_then, if_else, Plain, before, onto, plains, instr_of, goes_on_by, IsPlainInstr}
 use Rattle.module_ast.specs.Places.{Scope, code_size, ends_live, goes_on, block_scope, loop_scope, if_scope, then_scope, else_scope, left_by}
 use Rattle.std.proofs.Common.{Ok, Err, pos}
 use Rattle.std.specs.Prelude.{Result, OnOk}
 use Rattle.branch_resolve.specs.declared.Block.{Block as Kept}
 use Rattle.wasm_num.specs.declared.ValType.TheVariants.{I32}
-use Rattle.module_ast.specs.declared.code.BlockType.TheVariants.{Empty}
 use Rattle.hook_select.specs.Groups.{has}
 use Rattle.i64_split.specs.declared.Temp.{Temp}
-use Rattle.i64_split.specs.Split.{gets, temps, words_code}
-use Rattle.branch_resolve.specs.Scopes.{block_of, blocks_around, end_of}
+use Rattle.i64_split.specs.Split.{temps, words_code}
+use Rattle.branch_resolve.specs.Scopes.{block_of, end_of}
 use Rattle.hook_mono.specs.Needed.{Site}
 use Rattle.i64_split.specs.Pushing.{instrs}
 use Rattle.i64_split.specs.declared.Pool.{Pool}
-use Rattle.rewrite.specs.Setting.{Setting, remap, constant, tells, tell_end, tell_ends}
+use Rattle.rewrite.specs.Setting.{Setting, remap, constant, tells, tell_end}
 use Rattle.rewrite.specs.Templates.{end_code, tell_results, tell_begin, tell_before, tee_code, target_code}
 use Rattle.rewrite.specs.Rewrite.{live_code, if_taken, br_if_before}
 use Rattle.rewrite.specs.Live.{rest_code}
 use Rattle.rewrite.specs.Emitted as emitted
-use Rattle.rewrite.specs.Emitted.{HasRoom, template_of, IsNoBranchIf}
+use Rattle.rewrite.specs.Emitted.{HasRoom, template_of, PassesNone}
 use Rattle.module_ast.proofs.Plains.{the_plain, before_plain, onto_append}
 
 instrs_onto : (is : List Plain) (t : Tree) → onto (instrs is) t ≡ plains is t
@@ -119,40 +118,38 @@ module _ (pool : Pool) (hooks : Hooks) (s : Site) (p : ℕ) where
 
 -- ---- blocks
 
-module _ (w : Setting) (ss : List Scope) (p : ℕ) (ty : BlockType) (body c : Tree) (old new : List Instr) (i : Instr) (next : ℕ) (t : Tree) where
-  pub block_added : i ≡ Block ty body → next ≡ p + code_size body + 1 + 1 → c ≡ plains (tell_begin w (block_scope p body).begin (block_scope p body).kind) (live_code w (block_scope p body ∷ ss) (p + 1) body)
-      → new ≡ old ++ Block ty c ∷ [] → onto new (rest_code w ss (goes_on_by i) next t) ≡ onto old (live_code w ss p (before i t))
-  block_added is n e f =
-      subst (λ i. onto new (rest_code w ss (goes_on_by i) next t) ≡ onto old (live_code w ss p (before i t))) (sym is)
-      (ap (λ l. onto l (live_code w ss next t)) f ∙ onto_push old (Block ty c) (live_code w ss next t)
-      ∙ ap (λ q. onto old (block ty c (live_code w ss q t))) n ∙ ap (λ b. onto old (block ty b (live_code w ss (p + code_size body + 1 + 1) t))) e)
+-- a part of a body, with its begin before it
+abbrev pub part_code : Setting → List Scope → Scope → (p : ℕ) → Tree → Tree
+part_code w ss s p code = plains (tell_begin w s.begin s.kind) (live_code w (s ∷ ss) p code)
 
-  pub loop_added : i ≡ Loop ty body → next ≡ p + code_size body + 1 + 1 → c ≡ plains (tell_begin w (loop_scope p body).begin (loop_scope p body).kind) (live_code w (loop_scope p body ∷ ss) (p + 1) body)
-      → new ≡ old ++ Loop ty c ∷ [] → onto new (rest_code w ss (goes_on_by i) next t) ≡ onto old (live_code w ss p (before i t))
-  loop_added is n e f =
-      subst (λ i. onto new (rest_code w ss (goes_on_by i) next t) ≡ onto old (live_code w ss p (before i t))) (sym is)
-      (ap (λ l. onto l (live_code w ss next t)) f ∙ onto_push old (Loop ty c) (live_code w ss next t)
-      ∙ ap (λ q. onto old (loop ty c (live_code w ss q t))) n ∙ ap (λ b. onto old (loop ty b (live_code w ss (p + code_size body + 1 + 1) t))) e)
+-- What is made of a sequence behind what was taken: F before a step, G after it.
+module _ {X : Type 0} (F G : Tree → X) (w : Setting) (ss : List Scope) (p : ℕ) (ty : BlockType) (body : Tree) (i : Instr) (next : ℕ) (t : Tree) where
+  pub block_added : i ≡ Block ty body → next ≡ p + code_size body + 1 + 1 → ((t : Tree) → G t ≡ F (block ty (part_code w ss (block_scope p body) (p + 1) body) t))
+      → G (rest_code w ss (goes_on_by i) next t) ≡ F (live_code w ss p (before i t))
+  block_added is n put =
+      subst (λ i. G (rest_code w ss (goes_on_by i) next t) ≡ F (live_code w ss p (before i t))) (sym is)
+      (put (live_code w ss next t) ∙ ap (λ q. F (block ty (part_code w ss (block_scope p body) (p + 1) body) (live_code w ss q t))) n)
 
-module _ (w : Setting) (ss : List Scope) (p : ℕ) (ty : BlockType) (body c : Tree) (old mid new : List Instr) (next : ℕ) (t : Tree) where
-  pub then_added : next ≡ p + code_size body + 1 + 1 → c ≡ plains (tell_begin w (if_scope p body).begin (if_scope p body).kind) (live_code w (if_scope p body ∷ ss) (p + 1) body)
-      → mid ≡ old ++ instrs (tell_before w p (keys.Plain groups.If)) → new ≡ mid ++ If ty c ∷ [] → onto new (live_code w ss next t) ≡ onto old (live_code w ss p (if_then ty body t))
-  then_added n e m f =
-      ap (λ l. onto l (live_code w ss next t)) f ∙ onto_push mid (If ty c) (live_code w ss next t)
-      ∙ ap (λ q. onto mid (if_then ty c (live_code w ss q t))) n ∙ ap (λ b. onto mid (if_then ty b (live_code w ss (p + code_size body + 1 + 1) t))) e
-      ∙ onto_added old mid (tell_before w p (keys.Plain groups.If)) _ m
+  pub loop_added : i ≡ Loop ty body → next ≡ p + code_size body + 1 + 1 → ((t : Tree) → G t ≡ F (loop ty (part_code w ss (loop_scope p body) (p + 1) body) t))
+      → G (rest_code w ss (goes_on_by i) next t) ≡ F (live_code w ss p (before i t))
+  loop_added is n put =
+      subst (λ i. G (rest_code w ss (goes_on_by i) next t) ≡ F (live_code w ss p (before i t))) (sym is)
+      (put (live_code w ss next t) ∙ ap (λ q. F (loop ty (part_code w ss (loop_scope p body) (p + 1) body) (live_code w ss q t))) n)
 
-module _ (w : Setting) (ss : List Scope) (p : ℕ) (ty : BlockType) (body other c d : Tree) (old mid new : List Instr) (next : ℕ) (t : Tree) where
+module _ {X : Type 0} (F M G : Tree → X) (w : Setting) (ss : List Scope) (p : ℕ) (ty : BlockType) (body other : Tree) (next : ℕ) (t : Tree)
+    (told : (t : Tree) → M t ≡ F (plains (tell_before w p (keys.Plain groups.If)) t)) where
+  pub then_added : next ≡ p + code_size body + 1 + 1 → ((t : Tree) → G t ≡ M (if_then ty (part_code w ss (if_scope p body) (p + 1) body) t))
+      → G (live_code w ss next t) ≡ F (live_code w ss p (if_then ty body t))
+  then_added n put =
+      put (live_code w ss next t) ∙ ap (λ q. M (if_then ty (part_code w ss (if_scope p body) (p + 1) body) (live_code w ss q t))) n ∙ told _
+
   pub both_added : next ≡ p + code_size body + 1 + code_size other + 1 + 1
-      → c ≡ plains (tell_begin w (then_scope p body other).begin (then_scope p body other).kind) (live_code w (then_scope p body other ∷ ss) (p + 1) body)
-      → d ≡ plains (tell_begin w (else_scope p body other).begin (else_scope p body other).kind) (live_code w (else_scope p body other ∷ ss) (p + code_size body + 1 + 1) other)
-      → mid ≡ old ++ instrs (tell_before w p (keys.Plain groups.If)) → new ≡ mid ++ IfElse ty c d ∷ [] → onto new (live_code w ss next t) ≡ onto old (live_code w ss p (if_else ty body other t))
-  both_added n e h m f =
-      ap (λ l. onto l (live_code w ss next t)) f ∙ onto_push mid (IfElse ty c d) (live_code w ss next t)
-      ∙ ap (λ q. onto mid (if_else ty c d (live_code w ss q t))) n
-      ∙ ap (λ b. onto mid (if_else ty b d (live_code w ss (p + code_size body + 1 + code_size other + 1 + 1) t))) e
-      ∙ ap (λ b. onto mid (if_else ty (plains (tell_begin w (then_scope p body other).begin (then_scope p body other).kind) (live_code w (then_scope p body other ∷ ss) (p + 1) body)) b (live_code w ss (p + code_size body + 1 + code_size other + 1 + 1) t))) h
-      ∙ onto_added old mid (tell_before w p (keys.Plain groups.If)) _ m
+      → ((t : Tree) → G t ≡ M (if_else ty (part_code w ss (then_scope p body other) (p + 1) body) (part_code w ss (else_scope p body other) (p + code_size body + 1 + 1) other) t))
+      → G (live_code w ss next t) ≡ F (live_code w ss p (if_else ty body other t))
+  both_added n put =
+      put (live_code w ss next t)
+      ∙ ap (λ q. M (if_else ty (part_code w ss (then_scope p body other) (p + 1) body) (part_code w ss (else_scope p body other) (p + code_size body + 1 + 1) other) (live_code w ss q t))) n
+      ∙ told _
 
 pub both_room : (pool : Pool) (xs ys zs : List (List ValType)) → HasRoom pool (xs ++ (ys ++ (zs ++ []))) → HasRoom pool ys × HasRoom pool zs
 both_room pool xs ys zs h =
@@ -161,54 +158,54 @@ both_room pool xs ys zs h =
 
 -- ---- an instruction with no sequence in it
 
-pub plain_added : (w : Setting) (ss : List Scope) (p : ℕ) (i : Instr) (old new : List Instr) (t : Tree) → IsPlainInstr i → IsNoBranchIf i → new ≡ old ++ instrs (template_of w ss p i)
-    → onto new (rest_code w ss (goes_on_by i) (p + 1) t) ≡ onto old (live_code w ss p (before i t))
-plain_added w ss p (Block b a) old new t h n e = absurd h
-plain_added w ss p (Loop b a) old new t h n e = absurd h
-plain_added w ss p (If b a) old new t h n e = absurd h
-plain_added w ss p (IfElse b a o) old new t h n e = absurd h
-plain_added w ss p (BrIf l) old new t h n e = absurd n
-plain_added w ss p i old new t h n e = onto_added old new (template_of w ss p i) (rest_code w ss (goes_on_by i) (p + 1) t) e
+pub plain_added : {X : Type 0} (F G : Tree → X) (w : Setting) (ss : List Scope) (p : ℕ) (i : Instr) (t : Tree) → IsPlainInstr i → PassesNone i → ((t : Tree) → G t ≡ F (plains (template_of w ss p i) t))
+    → G (rest_code w ss (goes_on_by i) (p + 1) t) ≡ F (live_code w ss p (before i t))
+plain_added F G w ss p (Block b a) t h n put = absurd h
+plain_added F G w ss p (Loop b a) t h n put = absurd h
+plain_added F G w ss p (If b a) t h n put = absurd h
+plain_added F G w ss p (IfElse b a o) t h n put = absurd h
+plain_added F G w ss p (Br l) t h n put = absurd n
+plain_added F G w ss p (BrIf l) t h n put = absurd n
+plain_added F G w ss p Return t h n put = absurd n
+plain_added F G w ss p i t h n put = put (rest_code w ss (goes_on_by i) (p + 1) t)
+
+-- one that passes ends, and the hook calls before it
+plains_joined : (is js : List Plain) (t : Tree) → plains (is ++ js) t ≡ plains is (plains js t)
+plains_joined [] js t = refl
+plains_joined (i ∷ is) js t = ap (plain i) (plains_joined is js t)
+
+pub passed_added : {X : Type 0} (F M N G : Tree → X) (told passed : List Plain) (i : Plain) (t : Tree)
+    → ((t : Tree) → M t ≡ F (plains told t)) → ((t : Tree) → N t ≡ M (plains passed t)) → ((t : Tree) → G t ≡ N (plain i t)) → G t ≡ F (plains (told ++ (passed ++ i ∷ [])) t)
+passed_added F M N G told passed i t first second third =
+    third t ∙ second (plain i t) ∙ first (plains passed (plain i t)) ∙ ap F (sym (plains_joined told (passed ++ i ∷ []) t ∙ ap (plains told) (plains_joined passed (i ∷ []) t)))
 
 -- its template, whatever the blocks around it
-pub arm : {E : Type 0} (r : Result (Unit {0}) E) (w : Setting) (p : ℕ) (i j : Instr) (bs : List Kept) (old new : List Instr) → i ≡ j
-    → ((ss : List Scope) → OnOk r (new ≡ old ++ instrs (template_of w ss p j))) → OnOk r ((ss : List Scope) → bs ≡ blocks_around ss → new ≡ old ++ instrs (template_of w ss p i))
-arm (Ok v) w p i j bs old new is h = λ ss e. subst (λ k. new ≡ old ++ instrs (template_of w ss p k)) (sym is) (h ss)
-arm (Err e) w p i j bs old new is h = tt
+pub arm : {E : Type 0} (r : Result (Unit {0}) E) (w : Setting) (p : ℕ) (i j : Instr) (old new : List Instr) → i ≡ j
+    → ((ss : List Scope) → OnOk r (new ≡ old ++ instrs (template_of w ss p j))) → OnOk r ((ss : List Scope) → new ≡ old ++ instrs (template_of w ss p i))
+arm (Ok v) w p i j old new is h = λ ss. subst (λ k. new ≡ old ++ instrs (template_of w ss p k)) (sym is) (h ss)
+arm (Err e) w p i j old new is h = tt
 
 -- a br_if, and what stands before it
-pub taken_added : (w : Setting) (left : List Scope) (old mid new : List Instr) (inside : List Instr) (ts : List Temp) (k : Tree)
-    → mid ≡ old ++ instrs (gets ts) → inside ≡ [] ++ instrs (tell_ends w left) → new ≡ mid ++ If Empty (code_of inside) ∷ [] → onto new k ≡ onto old (if_taken true w left ts k)
-taken_added w left old mid new inside ts k m n f =
-    ap (λ l. onto l k) f ∙ onto_push mid (If Empty (code_of inside)) k
-    ∙ ap (λ b. onto mid (if_then Empty b k)) (onto_added [] inside (tell_ends w left) done n)
-    ∙ onto_added old mid (gets ts) (if_then Empty (plains (tell_ends w left) done) k) m
-
-module _ (w : Setting) (ss : List Scope) (p l : ℕ) (old one two three new : List Instr) (ts : List Temp) (k : Tree) where
-  pub branch_added : one ≡ old ++ instrs (tee_code ts)
-      → two ≡ one ++ instrs (tells w (pos p) (keys.Plain groups.BrIf) (constant l ∷ target_code ss l ∷ words_code ts))
-      → ((q : Tree) → onto three q ≡ onto two (if_taken (has w.hooks groups.End) w (left_by ss l) ts q)) → new ≡ three ++ BrIf l ∷ [] → ts ≡ temps w.pool (I32 ∷ []) → onto new k ≡ onto old (br_if_before true w ss p l k)
-  branch_added e f g h is =
-      ap (λ x. onto x k) h ∙ onto_push three (BrIf l) k ∙ g (plain (tree.br_if l) k)
-      ∙ onto_added one two _ _ f ∙ onto_added old one _ _ e
-      ∙ ap (λ ts. onto old (plains (tee_code ts) (plains (tells w (pos p) (keys.Plain groups.BrIf) (constant l ∷ target_code ss l ∷ words_code ts)) (if_taken (has w.hooks groups.End) w (left_by ss l) ts (plain (tree.br_if l) k))))) is
+module _ {X : Type 0} (F M N G : Tree → X) (w : Setting) (ss : List Scope) (p l : ℕ) (ts : List Temp) (k : Tree) where
+  pub branch_added : ((t : Tree) → M t ≡ F (plains (tee_code ts) (plains (tells w (pos p) (keys.Plain groups.BrIf) (constant l ∷ target_code ss l ∷ words_code ts)) t)))
+      → ((t : Tree) → N t ≡ M (if_taken (has w.hooks groups.End) w (left_by ss l) ts t)) → ((t : Tree) → G t ≡ N (plain (tree.br_if l) t)) → ts ≡ temps w.pool (I32 ∷ []) → G k ≡ F (br_if_before true w ss p l k)
+  branch_added first second third is =
+      third k ∙ second (plain (tree.br_if l) k) ∙ first (if_taken (has w.hooks groups.End) w (left_by ss l) ts (plain (tree.br_if l) k))
+      ∙ ap (λ ts. F (plains (tee_code ts) (plains (tells w (pos p) (keys.Plain groups.BrIf) (constant l ∷ target_code ss l ∷ words_code ts)) (if_taken (has w.hooks groups.End) w (left_by ss l) ts (plain (tree.br_if l) k))))) is
 
 -- ---- a sequence
 
-module _ (w : Setting) (init mid new : List Instr) (ss : List Scope) (p at : ℕ) (live : Bool) (i : Instr) (now rest whole : Tree) (n : now ≡ before i rest) where
-  pub so_far_live : (next : ℕ) (go : Bool) → live ≡ true → go ≡ goes_on_by i
-      → ((t : Tree) → onto new (rest_code w ss (goes_on_by i) next t) ≡ onto mid (live_code w ss at (before i t)))
-      → onto mid (rest_code w ss live at now) ≡ onto init (live_code w ss p whole) → onto new (rest_code w ss go next rest) ≡ onto init (live_code w ss p whole)
+module _ {X : Type 0} (F M G : Tree → X) (w : Setting) (ss : List Scope) (p at : ℕ) (live : Bool) (i : Instr) (now rest all : Tree) (n : now ≡ before i rest) where
+  pub so_far_live : (next : ℕ) (go : Bool) → live ≡ true → go ≡ goes_on_by i → ((t : Tree) → G (rest_code w ss (goes_on_by i) next t) ≡ M (live_code w ss at (before i t)))
+      → M (rest_code w ss live at now) ≡ F (live_code w ss p all) → G (rest_code w ss go next rest) ≡ F (live_code w ss p all)
   so_far_live next go l g step so_far =
-      ap (λ b. onto new (rest_code w ss b next rest)) g ∙ step rest
-      ∙ ap (onto mid) (ap (live_code w ss at) (sym n) ∙ ap (λ b. rest_code w ss b at now) (sym l)) ∙ so_far
+      ap (λ b. G (rest_code w ss b next rest)) g ∙ step rest ∙ ap M (ap (live_code w ss at) (sym n) ∙ ap (λ b. rest_code w ss b at now) (sym l)) ∙ so_far
 
-  pub so_far_dead : (copy : Instr) → live ≡ false → new ≡ mid ++ copy ∷ [] → ((t : Tree) → before copy (map_tree (remap w) t) ≡ map_tree (remap w) (before i t))
-      → onto mid (rest_code w ss live at now) ≡ onto init (live_code w ss p whole) → onto new (rest_code w ss live at rest) ≡ onto init (live_code w ss p whole)
-  so_far_dead copy l e step so_far =
-      ap (λ b. onto new (rest_code w ss b at rest)) l
-      ∙ ap (λ x. onto x (map_tree (remap w) rest)) e ∙ onto_push mid copy (map_tree (remap w) rest)
-      ∙ ap (onto mid) (step rest ∙ ap (map_tree (remap w)) (sym n) ∙ ap (λ b. rest_code w ss b at now) (sym l)) ∙ so_far
+  pub so_far_dead : (copy : Instr) → live ≡ false → ((t : Tree) → G t ≡ M (before copy t)) → ((t : Tree) → before copy (map_tree (remap w) t) ≡ map_tree (remap w) (before i t))
+      → M (rest_code w ss live at now) ≡ F (live_code w ss p all) → G (rest_code w ss live at rest) ≡ F (live_code w ss p all)
+  so_far_dead copy l put step so_far =
+      ap (λ b. G (rest_code w ss b at rest)) l
+      ∙ put (map_tree (remap w) rest) ∙ ap M (step rest ∙ ap (map_tree (remap w)) (sym n) ∙ ap (λ b. rest_code w ss b at now) (sym l)) ∙ so_far
 
 pub remap_is : (r : Remap) (w : Setting) (n : ℕ) → record { imports = r.imports; added = n } ≡ remap w → r.added ≡ n → remap w ≡ r
 remap_is r w n v e = sym v ∙ ap (λ m. let x : Remap = record { imports = r.imports; added = m } in x) (sym e)

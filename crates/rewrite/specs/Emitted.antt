@@ -1,23 +1,25 @@
 -- The templates, over what the program keeps.
-use Rattle.std.specs.Prelude.{ℕ, cond, pos, unwrap_or, List, [], ◌∷◌, ◌++◌, Option, Some, None}
+use Rattle.std.specs.Prelude.{ℕ, cond, pos, unwrap_or, List, [], ◌∷◌, ◌++◌, map, Option, Some, None}
 use Rattle.wasm_sem.specs.Types.{ValType, FuncType, Instr}
 use Rattle.wasm_num.specs.declared.ValType.TheVariants.{I32, I64}
 use Rattle.module_ast.specs.Places.{Scope}
-use Rattle.module_ast.specs.declared.code.Instr.TheVariants.{BrIf}
-use Rattle.module_ast.specs.Structure.{plain_of, Plain, i32_const, call_indirect, br}
+use Rattle.module_ast.specs.declared.code.Instr.TheVariants.{Br, BrIf, Return}
+use Rattle.module_ast.specs.declared.code.BlockType.{BlockType}
+use Rattle.module_ast.specs.Structure.{Tree, block, loop, if_then, plain_of, Plain, i32_const, call_indirect}
 use Rattle.i64_split.specs.declared.Pool.{Pool}
 use Rattle.i64_split.specs.declared.Temp.{Temp}
 use Rattle.i64_split.specs.Split.{HasTemps, temps}
 use Rattle.rewrite.specs.declared.watching.Keeping.{Keeping}
 use Rattle.rewrite.specs.declared.watching.Keeping.TheVariants.{Around, Result, Store, Drop, Select}
+use Rattle.rewrite.specs.declared.sink.Opening.{Opening}
+use Rattle.rewrite.specs.declared.sink.Opening.TheVariants as openings
 use Rattle.rewrite.specs.Templates.{num_code, result_code, store_code, drop_code, select_code, template, indirect_code}
 use Rattle.hook_mono.specs.declared.HookKey.TheVariants as keys
-use Rattle.hook_select.specs.declared.GroupName.TheVariants as groups
 use Rattle.std.specs.Int.{w32, cast_unsigned}
 use Rattle.branch_resolve.specs.declared.Block.{Block}
-use Rattle.branch_resolve.specs.Scopes.{target}
+use Rattle.branch_resolve.specs.Scopes.{target, end_of}
 use Rattle.branch_resolve.specs.declared.EndOf.{EndOf}
-use Rattle.rewrite.specs.Setting.{Setting, tells, wants, constant}
+use Rattle.rewrite.specs.Setting.{Setting, tells, wants}
 
 -- the end of a block
 abbrev pub block_end_code : Setting → EndOf → List Plain
@@ -26,6 +28,15 @@ block_end_code w b = tells w b.end (keys.End b.kind) (i32_const b.begin ∷ [])
 abbrev pub block_ends_code : Setting → List EndOf → List Plain
 block_ends_code w [] = []
 block_ends_code w (b ∷ bs) = block_end_code w b ++ block_ends_code w bs
+
+abbrev pub all_ends_code : Setting → List Block → List Plain
+all_ends_code w blocks = block_ends_code w (map end_of blocks)
+
+-- a block with one sequence in it, before what follows it
+abbrev pub opened : Opening → BlockType → (inside t : Tree) → Tree
+opened openings.Block ty a t = block ty a t
+opened openings.Loop ty a t = loop ty a t
+opened openings.If ty a t = if_then ty a t
 
 -- how an instruction leaves its operands and its result in temporaries
 abbrev pub kept_code : Keeping → Plain → List Temp → List Plain
@@ -62,10 +73,9 @@ indirect_template w p ty t = cond (wants w (keys.IndirectPre t.params)) (indirec
 abbrev pub target_word : List Block → (label : ℕ) → ℕ
 target_word blocks label = cast_unsigned w32 (unwrap_or (target blocks label) (pos 0))
 
--- a branch that leads there and passes these ends
-abbrev pub br_code : Setting → (p label to : ℕ) → List EndOf → List Plain
-br_code w p label to passed = tells w (pos p) (keys.Plain groups.Br) (constant label ∷ constant to ∷ []) ++ (block_ends_code w passed ++ br label ∷ [])
-
-abbrev pub IsNoBranchIf : Instr → Type 0
-IsNoBranchIf (BrIf l) = ⊥
-IsNoBranchIf _ = Unit {0}
+-- an instruction of the program that passes no ends by itself: none of a branch to one label and of a return
+abbrev pub PassesNone : Instr → Type 0
+PassesNone (Br l) = ⊥
+PassesNone (BrIf l) = ⊥
+PassesNone Return = ⊥
+PassesNone _ = Unit {0}

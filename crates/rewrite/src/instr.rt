@@ -4,7 +4,7 @@ ghost use Rattle.std.specs.Prelude.{◌≡◌, ◌++◌, ◌∷◌, [], pos, OnO
 ghost use Rattle.module_ast.specs.Structure.Trees as tree;
 ghost use Rattle.module_ast.specs.Structure.{done, before};
 ghost use Rattle.module_ast.specs.Places.{mark_at, Scope};
-ghost use Rattle.branch_resolve.specs.Scopes.{blocks_around, ends, end_of};
+ghost use Rattle.branch_resolve.specs.Scopes.{ends};
 ghost use Rattle.hook_select.specs.declared.GroupName.TheVariants as groups;
 ghost use Rattle.hook_mono.specs.declared.HookKey.TheVariants as keys;
 ghost use Rattle.i64_split.specs.Pushing.{instrs};
@@ -14,9 +14,9 @@ ghost use Rattle.i64_split.specs.Split.{words_code};
 ghost use Rattle.module_ast.specs.Lists.{when};
 ghost use Rattle.hook_select.specs.Groups.{has};
 ghost use Rattle.rewrite_needs.specs.Temporaries.{plain_temps};
-ghost use Rattle.rewrite.specs.Templates.{template, tell_results, local_code, global_code};
+ghost use Rattle.rewrite.specs.Templates.{template, local_code, global_code};
 ghost use Rattle.rewrite_needs.specs.Room.{instr_temps};
-ghost use Rattle.rewrite.specs.Emitted.{HasRoom, template_of, block_ends_code, br_code, target_word};
+ghost use Rattle.rewrite.specs.Emitted.{HasRoom, PassesNone, template_of, block_ends_code, all_ends_code, target_word};
 
 use crate::setting::Setting;
 use crate::watching::Keeping;
@@ -142,13 +142,13 @@ impl<'m> Setting<'m> {
     }
 
     // The calls of the end hooks of all open blocks.
-    fn push_all_ends(
+    pub(crate) fn push_all_ends(
         &self,
         alloc: Global,
         scopes: &Scopes,
         code: &mut Vec<Instr>,
     ) -> Result<(), AllocError>
-        ensures { OnOk result (code.new.items ≡ code.old.items ++ instrs (block_ends_code self.now (map end_of scopes.now))) }
+        ensures { OnOk result (code.new.items ≡ code.old.items ++ instrs (all_ends_code self.now scopes.now)) }
     {
         if !self.has(GroupName::End) {
             return Ok(());
@@ -175,40 +175,6 @@ impl<'m> Setting<'m> {
         }
         let words = [label, target_word(scopes, label)];
         self.push_tell(position, &HookKey::Plain(group), &words, temps, code)
-    }
-
-    // A branch: where it leads is told, and then the ends that it passes.
-    fn push_br(
-        &self,
-        alloc: Global,
-        label: u32,
-        scopes: &Scopes,
-        position: u32,
-        code: &mut Vec<Instr>,
-    ) -> Result<(), AllocError>
-        requires { position < 2 ^ 31 }
-        ensures { OnOk result (code.new.items ≡ code.old.items ++ instrs (br_code self.now position label (target_word scopes.now label) (ends scopes.now label))) }
-    {
-        self.push_branch_tell(GroupName::Br, label, scopes, &[], position as i32, code)?;
-        self.push_left(alloc, label, scopes, code)?;
-        push_each(code, [Instr::Br(label)])
-    }
-
-    // A `return`: the results are told, and then the ends of all open blocks.
-    fn push_return(
-        &self,
-        alloc: Global,
-        scopes: &Scopes,
-        position: u32,
-        code: &mut Vec<Instr>,
-    ) -> Result<(), AllocError>
-        requires low { position < 2 ^ 31 }
-        requires room { HasRoom self.now.pool (plain_temps self.now.hooks self.now.site position tree.return_) }
-        ensures { OnOk result (code.new.items ≡ code.old.items ++ instrs (tell_results self.now (pos position) ++ (block_ends_code self.now (map end_of scopes.now) ++ tree.return_ ∷ []))) }
-    {
-        self.push_results(alloc, position as i32, code)?;
-        self.push_all_ends(alloc, scopes, code)?;
-        push_each(code, [Instr::Return])
     }
 
     // A `br_table`, whose index is told before it where branch tables or ends are selected.
@@ -280,29 +246,25 @@ impl<'m> Setting<'m> {
         self.push_global(op, global, position, code)
     }
 
-    /// Adds a live instruction with no sequence in it by its template. A `br_if` is added as it is. An `Err` comes where there
-    /// is no memory.
-    #[tactic(auto, using(crate::proofs::Blocks::target_is, crate::proofs::Blocks::left_is, crate::proofs::Blocks::all_is))]
-    pub fn push_plain(
+    /// Adds a live instruction by its template: one with no sequence in it, other than a `br`, a `br_if` and a `return`, which
+    /// pass ends. An `Err` comes where there is no memory.
+    pub(crate) fn push_plain(
         &self,
         alloc: Global,
         instr: &Instr,
-        scopes: &Scopes,
         position: u32,
         code: &mut Vec<Instr>,
     ) -> Result<(), AllocError>
+        requires staying { PassesNone instr.now }
         requires low { position < 2 ^ 31 }
         requires room { HasRoom self.now.pool (instr_temps self.now.hooks self.now.site position instr.now) }
         requires maps { Maps (remap self.now) (before instr.now done) }
-        ensures { OnOk result ((ss : List Scope) → scopes.now ≡ blocks_around ss → code.new.items ≡ code.old.items ++ instrs (template_of self.now ss position instr.now)) }
+        ensures { OnOk result ((ss : List Scope) → code.new.items ≡ code.old.items ++ instrs (template_of self.now ss position instr.now)) }
     {
         match instr {
             Instr::Unreachable => self.push_unreachable(position, code),
             Instr::Nop => self.push_nop(position, code),
-            Instr::Br(label) => self.push_br(alloc, *label, scopes, position, code),
-            Instr::BrIf(label) => push_each(code, [Instr::BrIf(*label)]),
             Instr::BrTable(labels, last) => self.push_table(alloc, labels, *last, position, code),
-            Instr::Return => self.push_return(alloc, scopes, position, code),
             Instr::Call(func) => self.push_call_of(alloc, *func, position, code),
             Instr::CallIndirect(ty) => self.push_indirect_of(alloc, *ty, position, code),
             Instr::Drop => self.push_dropped(position, code),

@@ -3,7 +3,6 @@
 ghost use Rattle.std.specs.Prelude.{◌≡◌, length, slice_get, Some, IfOk};
 ghost use Rattle.hook_select.specs.Groups.{has};
 ghost use Rattle.hook_mono.specs.Needed.{sites};
-ghost use Rattle.rewrite.specs.Setting.{remap};
 ghost use Rattle.rewrite.specs.Rewrite.{setting_of};
 ghost use Rattle.rewrite.specs.Conditions.{CanRewrite, IsReady};
 
@@ -19,7 +18,7 @@ use wasm_num::NoMemory;
 
 /// What the rewriting of a body reads: the selected groups, the hooks of the module, the function, and its temporaries.
 #[derive(Drop)]
-pub struct Setting<'m> {
+pub(crate) struct Setting<'m> {
     pub(crate) hooks: Hooks,
     pub(crate) table: &'m HookTable,
     pub(crate) remap: Remap,
@@ -67,27 +66,6 @@ impl<'m> Setting<'m> {
             site,
             pool,
         })
-    }
-
-    /// The function as its hooks see it.
-    pub fn site(&self) -> &Site<'m>
-        ensures { result.now ≡ self.now.site }
-    {
-        &self.site
-    }
-
-    /// Its temporaries.
-    pub fn pool(&self) -> Pool
-        ensures { result ≡ self.now.pool }
-    {
-        self.pool
-    }
-
-    /// How the functions that it calls are numbered in the output.
-    pub fn remap(&self) -> Remap
-        ensures { result ≡ remap self.now }
-    {
-        self.remap
     }
 
     /// Whether the group is selected.

@@ -43,13 +43,18 @@ impl<'m> Setting<'m> {
         push_each(code, [Instr::I32Const(func), Instr::I32Const(position)])
     }
 
+    /// The index of a hook's function.
+    pub(crate) fn hook_index(&self, key: &HookKey) -> u32
+        ensures { result ≡ hook_index self.now key.now }
+    {
+        self.remap.imports + self.table.find(key).unwrap_or(0)
+    }
+
     /// Adds the call of a hook.
     pub(crate) fn push_call(&self, key: &HookKey, code: &mut Vec<Instr>) -> Result<(), AllocError>
         ensures { OnOk result (code.new.items ≡ code.old.items ++ instrs (call (hook_index self.now key.now) ∷ [])) }
     {
-        let number = self.table.find(key).unwrap_or(0);
-        let index = self.remap.imports + number;
-        push_each(code, [Instr::Call(index)])
+        push_each(code, [Instr::Call(self.hook_index(key))])
     }
 
     /// Adds the call of a hook at a position with these constants and the words of these temporaries.

@@ -1,13 +1,18 @@
--- Where no group is selected, no key is needed.
-use Rattle.std.proofs.Common.{◌≡◌, List, [], ◌∷◌, Bool, true, false, ◌&&◌, refl, ap, filter, flat_map}
+-- Where no group is selected, no key is needed, and no temporary.
+use Rattle.std.proofs.Common.{◌≡◌, ℕ, ℤ, nat_abs, List, [], ◌∷◌, ◌++◌, Bool, true, false, ◌&&◌, refl, ap, ap₂, filter, flat_map}
 use Rattle.std.specs.Bool.{beq}
-use Rattle.module_ast.specs.Places.{places}
-use Rattle.wasm_sem.specs.Types.{GroupName, Hooks, HookKey}
+use Rattle.wasm_num.specs.declared.BlockKind.TheVariants as kinds
+use Rattle.wasm_num.specs.Shapes.{num_operands, num_result}
+use Rattle.module_ast.specs.Lists.{when}
+use Rattle.module_ast.specs.Places.{Place, Opcode, acts, opens, closes, places}
+use Rattle.module_ast.specs.Structure.{Plain, num}
+use Rattle.wasm_sem.specs.Types.{ValType, BlockKind, GroupName, Hooks, HookKey}
 use Rattle.hook_select.specs.declared.GroupName.TheVariants as groups
 use Rattle.hook_select.specs.Groups.{has, hooks_of}
-use Rattle.hook_mono.specs.declared.HookKey.TheVariants.{Plain}
-use Rattle.hook_mono.specs.Keys.{is_wanted, key_group, distinct_keys}
+use Rattle.hook_mono.specs.declared.HookKey.TheVariants as keys
+use Rattle.hook_mono.specs.Keys.{is_wanted, key_group, num_group, distinct_keys}
 use Rattle.hook_mono.specs.Needed.{Site, needs_of, live_keys}
+use Rattle.rewrite_needs.specs.Temporaries.{plain_temps, open_temps, close_temps, opcode_temps, place_temps, body_temps}
 
 abbrev none : Hooks
 none = hooks_of (λ g. false)
@@ -53,8 +58,8 @@ none_has groups.Start = refl
 none_has g = refl
 
 none_wanted : (key : HookKey) → is_wanted none key ≡ false
-none_wanted (Plain groups.BrTable) = refl
-none_wanted (Plain g) = none_has g
+none_wanted (keys.Plain groups.BrTable) = refl
+none_wanted (keys.Plain g) = none_has g
 none_wanted key = none_has (key_group key)
 
 none_left : (keys : List HookKey) → filter (is_wanted none) keys ≡ []
@@ -63,3 +68,35 @@ none_left (key ∷ keys) = search (none_wanted key, none_left keys)
 
 pub none_needed : (s : Site) → needs_of none s ≡ []
 none_needed s = ap distinct_keys (none_left (flat_map (live_keys s) (places s.body.code)))
+
+-- ---- no temporary
+
+plain_none : (s : Site) (p : ℕ) (i : Plain) → plain_temps none s p i ≡ []
+plain_none s p (num op) = ap (λ b. when b ((num_operands op ++ num_result op ∷ []) ∷ [])) (none_has (num_group (num_operands op)))
+plain_none s p i = refl
+
+open_none : (kind : BlockKind) → open_temps none kind ≡ []
+open_none kinds.If = refl
+open_none kind = refl
+
+close_none : (s : Site) (kind : BlockKind) → close_temps none s kind ≡ []
+close_none s kinds.Function = refl
+close_none s kind = refl
+
+opcode_none : (s : Site) (p : ℤ) (o : Opcode) → opcode_temps none s p o ≡ []
+opcode_none s p (acts i) = plain_none s (nat_abs p) i
+opcode_none s p (opens scope) = open_none scope.kind
+opcode_none s p (closes scope) = close_none s scope.kind
+opcode_none s p o = refl
+
+when_none : (b : Bool) (xs : List (List ValType)) → xs ≡ [] → when b xs ≡ []
+when_none true xs e = e
+when_none false xs e = refl
+
+of_none : (s : Site) (ps : List Place) → flat_map (place_temps none s) ps ≡ []
+of_none s [] = refl
+of_none s (place ∷ ps) =
+    ap₂ (λ (l r : List (List ValType)). l ++ r) (when_none place.live _ (opcode_none s place.position place.opcode)) (of_none s ps)
+
+pub none_temps : (s : Site) → body_temps none s ≡ []
+none_temps s = of_none s (places s.body.code)

@@ -1,8 +1,8 @@
 // How many bytes instructions have.
 
-ghost use Rattle.std.specs.Prelude.{◌≡◌, [], ◌∷◌, ◌++◌, ◌+◌, ◌*◌, ◌<◌, ◌≤◌, ◌^◌, All, length};
+ghost use Rattle.std.specs.Prelude.{◌≡◌, [], ◌∷◌, ◌++◌, ◌+◌, ◌*◌, ◌-◌, ◌<◌, ◌≤◌, ◌^◌, All, length, min};
 ghost use Rattle.leb_binary.specs.Shortest.{unsigned_bytes, signed_bytes};
-ghost use Rattle.module_ast.specs.Structure.{Tree, done, before, IsPlainInstr};
+ghost use Rattle.module_ast.specs.Structure.{Tree, before, code_of, IsPlainInstr};
 ghost use Rattle.module_ast.specs.Binary.{FitsIndex, FitsMemArg, FitsCode, vec_bytes, mem_arg_bytes, code_bytes, expr_bytes};
 ghost use Rattle.wasm_encode.specs.Lengths.{most_bytes};
 
@@ -77,33 +77,33 @@ pub fn plain_length(instr: &Instr) -> u64
     }
 }
 
-/// How many bytes instructions have, with nothing that closes them.
+/// How many bytes instructions have, with nothing that closes them, or 2^64 - 1 where that is less (5.4).
 #[cycle(code_length)]
-pub fn code_length(code: &Code) -> u64
-    requires { length (code_bytes code.now) < 2 ^ 63 }
-    ensures length { result ≡ length (code_bytes code.now) }
-    ensures fit { FitsCode code.now }
+pub fn instrs_length(instrs: &[Instr]) -> u64
+    ensures length { result ≡ min (length (code_bytes (code_of instrs.now))) (2 ^ 64 - 1) }
+    ensures fit { FitsCode (code_of instrs.now) }
 {
-    let mut total = 0;
-    for instr in code.as_slice() {
-        total += instr_length(instr);
+    let mut total: u64 = 0;
+    for instr in instrs {
+        total = total.saturating_add(instr_length(instr));
     }
     total
 }
 
-// How many bytes one instruction has.
+// How many bytes one instruction has, or 2^64 - 1 where that is less.
 #[cycle(code_length)]
 fn instr_length(instr: &Instr) -> u64
-    requires { length (code_bytes (before instr.now done)) < 2 ^ 63 }
-    ensures length { (t : Tree) → result + length (code_bytes t) ≡ length (code_bytes (before instr.now t)) }
+    ensures length { (t : Tree) → min (result + length (code_bytes t)) (2 ^ 64 - 1) ≡ min (length (code_bytes (before instr.now t))) (2 ^ 64 - 1) }
     ensures fit { (t : Tree) → FitsCode t → FitsCode (before instr.now t) }
 {
     match instr {
-        Instr::Block(ty, body) => 2 + block_type_length(*ty) + code_length(body),
-        Instr::Loop(ty, body) => 2 + block_type_length(*ty) + code_length(body),
-        Instr::If(ty, body) => 2 + block_type_length(*ty) + code_length(body),
+        Instr::Block(ty, body) | Instr::Loop(ty, body) | Instr::If(ty, body) => {
+            instrs_length(body.as_slice()).saturating_add(2 + block_type_length(*ty))
+        }
         Instr::IfElse(ty, body, other) => {
-            3 + block_type_length(*ty) + code_length(body) + code_length(other)
+            let then_part = instrs_length(body.as_slice());
+            let both = then_part.saturating_add(instrs_length(other.as_slice()));
+            both.saturating_add(3 + block_type_length(*ty))
         }
         _ => plain_length(instr),
     }
@@ -115,5 +115,5 @@ pub fn expr_length(code: &Code) -> u64
     ensures length { result ≡ length (expr_bytes code.now) }
     ensures fit { FitsCode code.now }
 {
-    code_length(code) + 1
+    instrs_length(code.as_slice()) + 1
 }

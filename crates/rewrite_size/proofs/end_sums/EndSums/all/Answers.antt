@@ -1,5 +1,0 @@
-use Rattle.std.proofs.Common.{rules}
-use Rattle.rewrite_size.proofs.end_sums.EndSums.all.Goals as goal
-
-pub returns : goal.returns
-returns c = search rules
