@@ -6,7 +6,7 @@ use Rattle.std.proofs.Common.{◌≡◌, ℕ, ◌+◌, pos, List, [], ◌∷◌,
 use Rattle.wasm_sem.specs.Types.{BlockType}
 use Rattle.module_ast.specs.declared.code.BlockType.TheVariants.{Empty}
 use Rattle.module_ast.specs.Structure.{plains, Tree, done, plain, block, loop, if_then, if_else, Plain, br_if}
-use Rattle.module_ast.specs.Binary.{block_type_bytes, items_bytes, plain_bytes, code_bytes}
+use Rattle.module_ast.specs.Binary.{block_type_bytes, plain_bytes, code_bytes}
 use Rattle.module_ast.specs.Places.{Scope, left_by}
 use Rattle.hook_select.specs.declared.GroupName.TheVariants as groups
 use Rattle.hook_select.specs.Groups.{has}

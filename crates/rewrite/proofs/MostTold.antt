@@ -6,16 +6,15 @@ use Rattle.leb_binary.specs.Leb.{IsInSize}
 use Rattle.leb_binary.proofs.Lengths.{unsigned_five}
 use Rattle.wasm_sem.specs.Types.{ValType, BlockKind, HookKey}
 use Rattle.wasm_num.specs.declared.ValType.TheVariants.{I32, I64}
-use Rattle.wasm_num.specs.declared.NumOp.TheVariants.{I32WrapI64, I64ShrU}
 use Rattle.module_ast.specs.Lists.{when}
 use Rattle.module_ast.specs.Binary.{plain_bytes}
 use Rattle.module_ast.specs.Places.{Scope}
-use Rattle.module_ast.specs.Structure.{Plain, call, local_get, local_set, local_tee, i32_const, i64_const, num}
+use Rattle.module_ast.specs.Structure.{Plain, call, local_get, local_set, i32_const}
 use Rattle.hook_mono.specs.Keys.{key_eq, find_key}
 use Rattle.hook_mono.specs.declared.HookKey.TheVariants as keys
 use Rattle.i64_split.specs.declared.Temp.{Temp}
 use Rattle.i64_split.specs.Split.{temps, words_by, word_code, words_code, sets, gets, save_code}
-use Rattle.rewrite.specs.Setting.{Setting, wants, constant, hook_index, tell, tells, tell_end, tell_ends}
+use Rattle.rewrite.specs.Setting.{Setting, wants, hook_index, tell, tells, tell_end, tell_ends}
 use Rattle.rewrite.specs.Templates.{tee_code, tell_before, tell_values, tell_results, tell_begin, end_code}
 use Rattle.rewrite.specs.Sizes.{plains_length, types_most, IsNarrow}
 use Rattle.rewrite.proofs.CodeBytes.{plains_append}
