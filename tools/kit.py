@@ -99,10 +99,11 @@ def stated_by(folder):
 
 
 def is_made(crate):
-    """Returns whether a library stands as its sources are: by the kit's sum or, behind the gate, which keeps none, by the time."""
+    """Returns whether a library stands as its sources are: by the kit's sum or, behind the gate, which keeps none, by when it was put there."""
     if crate.is_built():
         return True
     if not os.path.isdir(crate.rlib) or os.path.exists(f"{crate.folder}/out/rlib/stamp"):
         return False
     files = [file for it in [crate, *crate.below()] for file in files_in(it.folder)]
-    return max(map(os.path.getmtime, files)) < os.path.getmtime(f"{crate.rlib}/format")
+    # what an earlier run of the gate proved is put there with the time of that run as its own
+    return max(map(os.path.getmtime, files)) < os.stat(f"{crate.rlib}/format").st_ctime
