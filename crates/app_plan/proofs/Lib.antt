@@ -1,4 +1,5 @@
 pub mod KindLists
+pub mod Fed
 pub mod Files
 pub mod Scripts
 pub mod Infos

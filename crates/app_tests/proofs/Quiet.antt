@@ -10,7 +10,7 @@ use Rattle.app_plan.specs.declared.kinds.Kinds.{Kinds}
 use Rattle.app_runs.specs.declared.feeding.Tally.{Tally}
 use Rattle.app_runs.specs.Feeding.{turn_events, tallied}
 use Rattle.app_plan.specs.Feeding.{fed}
-use Rattle.app_runs.proofs.Fed.{none_fed}
+use Rattle.app_plan.proofs.Fed.{none_fed}
 
 pub same_module : (turn : Turn) (old new : Run) → turn ≡ Ran → new ≡ after_turn turn old → new.module ≡ old.module
 same_module turn old new ran is = ap (λ (r : Run). r.module) (is ∙ ap (λ (t : Turn). after_turn t old) ran)

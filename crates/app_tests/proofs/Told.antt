@@ -19,7 +19,7 @@ use Rattle.shadow_replay.specs.Shadow.{Shadow, effect, effects}
 use Rattle.shadow_replay.specs.Taint.{Watch}
 use Rattle.shadow_replay.proofs.FitSteps.{one_shown}
 use Rattle.shadow_replay.proofs.Shadows.{effects_append}
-use Rattle.app_runs.specs.Following.{AreFitFor}
+use Rattle.shadow_replay.specs.Items.{AreFitFor}
 use Rattle.app_runs.specs.Reporting.{items_told}
 use Rattle.app_tests.specs.Storing.{called_once, hooked_two, info_two, storing_one}
 

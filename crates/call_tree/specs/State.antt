@@ -99,6 +99,11 @@ state_behind (event e) s = tree_after s e
 state_behind (host_call f vs rs ws) s = Some s
 state_behind (hook_call h) s = Some s
 
+-- items one by one
+abbrev pub tree_behind : List TraceItem → TreeState → Option TreeState
+tree_behind [] s = Some s
+tree_behind (i ∷ is) s = option_and_then (tree_behind is) (state_behind i s)
+
 -- items, one by one, bring a tree to the state of the list; where one is refused the list is bad, and stays so
 pub record TakesMakeTree : Type 0 where
   pub fresh : state_of [] ≡ Some fresh_tree

@@ -5,4 +5,5 @@ mod Exact
 mod Several
 mod Tables
 pub mod Whole
+pub mod Written
 mod Examples

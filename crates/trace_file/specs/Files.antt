@@ -50,9 +50,19 @@ writing_of max es = record { max = max; events = events_bytes es; count = length
 abbrev pub with_event : Event → Writing → Writing
 with_event e w = record { max = w.max; events = w.events ++ event_bytes e; count = w.count + 1 }
 
+-- with these events more
+abbrev pub with_events : List Event → Writing → Writing
+with_events [] w = w
+with_events (e ∷ es) w = with_events es (with_event e w)
+
 -- there is a file of these events, no longer than it may be
 abbrev pub IsWithinBound : Writing → Type 0
 IsWithinBound w = FitsNumber w.count × (length (file_bytes w.events w.count) ≤ w.max)
+
+-- one of these events is too much, with those before it
+abbrev pub HasTooMuch : List Event → Writing → Type 0
+HasTooMuch es w =
+    (before : List Event) × (e : Event) × (behind : List Event) × (es ≡ before ++ e ∷ behind) × (IsWithinBound (with_event e (with_events before w)) → ⊥)
 
 -- a file that begins with the header, and one that has not begun
 abbrev pub IsBegun : List ℕ → Type 0

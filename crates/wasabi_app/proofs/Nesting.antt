@@ -19,9 +19,10 @@ use Rattle.call_tree.proofs.Nested.{open_append}
 use Rattle.app_plan.proofs.Files.{one_module}
 use Rattle.app_plan.proofs.Infos.{one_info}
 use Rattle.app_runs.specs.Reporting.{items_told}
-use Rattle.app_runs.specs.Treeing.{tells_brackets, end_place, first_unnested}
+use Rattle.call_tree.specs.Unnested.{end_place, first_unnested}
+use Rattle.app_runs.specs.Treeing.{tells_brackets}
 use Rattle.wasabi_app.specs.Nesting.{NodesCountPaths, BadAreRefused, OutputsNest}
-use Rattle.app_runs.proofs.Nested.{bad_has, has_bad, is_end, unnested_first}
+use Rattle.call_tree.proofs.Unnested.{bad_has, has_bad, is_end, unnested_first}
 use Rattle.wasabi_app.proofs.Composed.{slots_of_env}
 
 pub nodes_count : NodesCountPaths

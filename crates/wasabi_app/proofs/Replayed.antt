@@ -20,7 +20,8 @@ use Rattle.app_runs.specs.declared.feeding.Tally.{Tally}
 use Rattle.app_runs.specs.Feeding.{tally_of, tallied}
 use Rattle.app_runs.specs.Reporting.{tools_text, reports_text}
 use Rattle.wasabi_app.specs.Modes.Replay.{replay_effect, replayed_plan}
-use Rattle.app_runs.proofs.Fed.{none_part, all_part, all_then, parts_then, tally_then}
+use Rattle.app_plan.proofs.Fed.{none_part, all_part, all_then, parts_then}
+use Rattle.app_runs.proofs.Fed.{tally_then}
 use Rattle.app_runs.proofs.FedReports.{fed_few, fed_reports, tally_few}
 use Rattle.wasabi_app.proofs.Modes.Record.{events_longer}
 

@@ -27,7 +27,7 @@ use Rattle.app_plan.specs.Outcomes.{Yields}
 use Rattle.app_plan.specs.Plans.{does, ends}
 use Rattle.wasabi_app.specs.Playing.{ending_of}
 use Rattle.app_plan.proofs.Contents.{unchanged_same}
-use Rattle.app_runs.proofs.Fed.{all_part}
+use Rattle.app_plan.proofs.Fed.{all_part}
 use Rattle.app_runs.proofs.FedReports.{fed_reports, fed_functions}
 use Rattle.wasabi_app.proofs.Linked.{was_unlinked, played_links, finish_statuses}
 

@@ -31,7 +31,7 @@ use Rattle.instrument.specs.Output.{output}
 use Rattle.instrument.specs.Same.{IsPrefix, SameRuns, env_in}
 use Rattle.instrument.proofs.OutputSame.{same}
 use Rattle.app_plan.specs.Plans.{Effect, does, LeadsTo, Plan, prints}
-use Rattle.app_runs.specs.Following.{AreFitFor}
+use Rattle.shadow_replay.specs.Items.{AreFitFor}
 use Rattle.app_runs.specs.Reporting.{items_told}
 use Rattle.app_runs.specs.Watching.{import_names}
 use Rattle.wasabi_app.specs.Making.{output_length}

@@ -16,7 +16,7 @@ use Rattle.instrument.specs.Made.{IsMade, longest_output}
 use Rattle.instrument.specs.Output.{output}
 use Rattle.instrument.proofs.OutputSame.{same}
 use Rattle.app_plan.specs.Files.{IsFit}
-use Rattle.app_runs.specs.Following.{AreFitFor, TakesAll}
+use Rattle.shadow_replay.specs.Items.{AreFitFor, TakesAll}
 use Rattle.app_runs.specs.Reporting.{items_told}
 use Rattle.app_runs.specs.Watching.{import_names}
 use Rattle.wasabi_app.specs.Making.{output_length}

@@ -31,7 +31,7 @@ use Rattle.app_runs.specs.RunTexts.{run_status, run_text}
 use Rattle.wasabi_app.specs.Making.{output_length}
 use Rattle.wasabi_app.specs.Trying.{AreTried, IsRun, IsTold, IsTriable}
 use Rattle.wasabi_app.specs.Modes.Trial.{all_hooks, front_text, pair_front, runs_text, sizes_text, told_of_run, trial_script}
-use Rattle.app_runs.proofs.Fed.{all_part, none_part}
+use Rattle.app_plan.proofs.Fed.{all_part, none_part}
 use Rattle.wasabi_app.proofs.Composed.{shell_belongs}
 use Rattle.wasabi_app.proofs.Linked.{finish_statuses}
 use Rattle.wasabi_app.proofs.TrialLinks.{made_free}

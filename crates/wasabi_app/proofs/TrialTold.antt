@@ -24,7 +24,7 @@ use Rattle.app_plan.specs.Kinds.{all_reports, every_kind, has_kind}
 use Rattle.app_runs.specs.RunTexts.{run_text}
 use Rattle.wasabi_app.specs.Composing.{TrialTells, selected_events}
 use Rattle.wasabi_app.specs.Modes.Trial.{all_hooks, first_steps, second_steps, trial_events, trial_output, trial_script}
-use Rattle.app_runs.proofs.Fed.{book_after, fed_takes}
+use Rattle.app_plan.proofs.Fed.{book_after, fed_takes}
 use Rattle.wasabi_app.proofs.Composed.{same_events}
 use Rattle.wasabi_app.proofs.TrialLinks.{made_free, same_steps, trial_in_range, trial_links}
 

@@ -16,7 +16,8 @@ use Rattle.call_tree.specs.Paths.{paths, HasBadEnd}
 use Rattle.call_tree.specs.State.{path_counts_in}
 use Rattle.app_plan.specs.Files.{IsFit}
 use Rattle.app_runs.specs.Reporting.{items_told}
-use Rattle.app_runs.specs.Treeing.{tells_brackets, end_place, first_unnested}
+use Rattle.call_tree.specs.Unnested.{end_place, first_unnested}
+use Rattle.app_runs.specs.Treeing.{tells_brackets}
 use Rattle.wasabi_app.specs.KeptNames.{IsOutput}
 
 -- how often a path is among these, where it is

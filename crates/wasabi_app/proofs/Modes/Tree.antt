@@ -16,7 +16,8 @@ use Rattle.app_plan.specs.Texts.{few_groups_text, not_nested_text}
 use Rattle.app_plan.proofs.Going.{leads_by, took_text, was_refused}
 use Rattle.app_plan.proofs.Within.{Within, WritesNone, FeedsNone, MakesNone, mapped_within}
 use Rattle.app_runs.specs.RunTexts.{run_status, run_text}
-use Rattle.app_runs.specs.Treeing.{tells_brackets, first_unnested, tree_nodes, nodes_text, tree_items}
+use Rattle.call_tree.specs.Unnested.{first_unnested}
+use Rattle.app_runs.specs.Treeing.{tells_brackets, tree_nodes, nodes_text, tree_items}
 use Rattle.wasabi_app.specs.Modes.Tree.{tree_text, where_nested, treed_plan, where_told, tree_scripted, tree_plan, tree_mode}
 use Rattle.wasabi_app.specs.Playing.{ending_of, ending_finish}
 use Rattle.wasabi_app.specs.ToldRuns.{RunNames, run_names, scripted}

@@ -8,7 +8,8 @@ use Rattle.app_plan.specs.Files.{wide_file}
 use Rattle.app_plan.specs.Plans.{few_groups, not_nested, Plan, reads, refusing, printing}
 use Rattle.app_plan.specs.Texts.{few_groups_text, not_nested_text}
 use Rattle.app_plan.specs.Wants.{module_read, info_read}
-use Rattle.app_runs.specs.Treeing.{tells_brackets, first_unnested, tree_nodes, nodes_text, tree_items}
+use Rattle.call_tree.specs.Unnested.{first_unnested}
+use Rattle.app_runs.specs.Treeing.{tells_brackets, tree_nodes, nodes_text, tree_items}
 use Rattle.wasabi_app.specs.Playing.{played, ending_text, ending_finish}
 use Rattle.wasabi_app.specs.ToldRuns.{RunNames, run_names, scripted}
 use Rattle.wasabi_app.specs.Words.{Given}
