@@ -157,8 +157,3 @@ module _ (f a b d u : Flat) (params locals arity height nesting : ℕ) (zs : Lis
         for_values = omega (arith, values, room, u_room, size);
         for_spots = omega (arith, spots, labels, u_labels);
       }
-
--- a list without length is empty
-pub none_long : {A : Type 0} (xs : List A) → length xs ≡ 0 → xs ≡ []
-none_long [] h = refl
-none_long (x ∷ xs) h = absurd (omega (arith, h))

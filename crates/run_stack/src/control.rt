@@ -57,6 +57,7 @@ pub(crate) fn label_at(labels: &Labels, default: u32, index: u32) -> u32
 }
 
 /// A block is entered, or a branch made. It takes no memory. (Standard, 4.4.5)
+#[inline(always)]
 pub(crate) fn control<'m>(
     stack: &mut Stack<'m>,
     module: &Module,
@@ -105,6 +106,7 @@ pub(crate) fn control<'m>(
 
 /// The innermost sequence has ended: its values stay, or the function's results are returned. It takes no memory.
 /// (Standard, 4.4.6, 4.4.7)
+#[inline(always)]
 pub(crate) fn fall(stack: &mut Stack)
     requires { (inst : Instance) × (e : Env) × (fr : Frame) × (below : List Frame) × Lies stack.old (fr ∷ below) × IsUnstuck (exit_label inst e fr below fr.outer) }
     ensures comes { (inst : Instance) (e : Env) (fr : Frame) (below : List Frame) → Lies stack.old (fr ∷ below) → IsUnstuck (exit_label inst e fr below fr.outer) → Comes inst e (exit_label inst e fr below fr.outer) stack.new }

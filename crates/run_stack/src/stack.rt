@@ -175,16 +175,14 @@ impl<'m> Stack<'m> {
         Ok(below)
     }
 
-    /// Where the last frame has been left, its answer: the values that it left, of which there are at most four.
-    pub fn answer(&self, alloc: Global) -> Option<Answer>
-        requires { self.now.bases ≡ [] → length self.now.values ≤ 4 }
-        ensures { IsAnswerOf result self.now }
+    /// The answer of the last frame, which has been left: the values that it left, of which there are at most four.
+    pub fn answer(&self, alloc: Global) -> Answer
+        requires left { self.now.bases ≡ [] }
+        requires few { length self.now.values ≤ 4 }
+        ensures { IsAnswerOf (Some result) self.now }
     {
-        if self.frames() != 0 {
-            return None;
-        }
         match self.values_below(alloc, self.values.len(), 0) {
-            Ok(values) => Some(Answer::Returned(values)),
+            Ok(values) => Answer::Returned(values),
             Err(_) => unreachable!(),
         }
     }
@@ -442,6 +440,9 @@ fn keep(values: &mut Vec<Value>, height: usize, count: usize)
     ensures capacity { vec_capacity values.new ≡ vec_capacity values.old }
 {
     let top = values.len() - count;
+    if top == height {
+        return;
+    }
     values.copy_within(top.., height);
     values.truncate(height + count);
 }

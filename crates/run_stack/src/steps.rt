@@ -30,6 +30,7 @@ pub enum Did {
 }
 
 // An instruction that neither branches, nor calls, nor opens a block, with the sequence behind it.
+#[inline(always)]
 fn go_straight<'m>(
     stack: &mut Stack<'m>,
     memory: &mut Memory,
@@ -53,6 +54,7 @@ fn go_straight<'m>(
 }
 
 // An instruction that opens a block or branches, with the sequence from it on and the one behind it.
+#[inline(always)]
 fn go_control<'m>(
     stack: &mut Stack<'m>,
     module: &Module,
@@ -72,6 +74,7 @@ fn go_control<'m>(
 }
 
 // One instruction, with the sequence from it on and the one behind it.
+#[inline(always)]
 fn instruction<'m>(
     stack: &mut Stack<'m>,
     memory: &mut Memory,
@@ -122,6 +125,7 @@ fn instruction<'m>(
 
 /// The next step of the innermost frame where that is no call: an instruction, or the end of a sequence. It takes memory
 /// for `memory.grow` alone, and then an `Err` leaves all as it was. (Standard, 4.4)
+#[inline(always)]
 pub fn advance(
     stack: &mut Stack,
     memory: &mut Memory,

@@ -1,6 +1,7 @@
 // Instructions that neither branch, nor call, nor open a block.
 
-ghost use Rattle.std.specs.Prelude.{IfOk, OnErr, List, None, ◌≡◌};
+ghost use Rattle.std.specs.Prelude.{Decides, IfOk, OnErr, List, length, None, ◌≡◌};
+ghost use Rattle.wasm_num.specs.Shapes.{num_operands};
 ghost use Rattle.wasm_sem.specs.Types.{Value as number};
 ghost use Rattle.run_store.specs.Held.{Held};
 ghost use Rattle.run_stack.specs.Straight.{Moment, IsMomentBefore, IsVariable, IsAccess, IsNumber, IsSimple, reduct_at, IsMomentBehind};
@@ -14,6 +15,7 @@ use wasm_num::{NumOp, NumTrap, Value, binary, unary};
 use wasm_sem::Trap;
 
 // `drop` and variables. (Standard, 4.4.2, 4.4.3)
+#[inline(always)]
 fn variable(stack: &mut Stack, globals: &mut Globals, instr: &Instr)
     requires kind { IsVariable instr.now }
     requires before { (m : Held) × (x : Moment) × IsMomentBefore stack.old m globals.old instr.now x }
@@ -52,6 +54,7 @@ fn variable(stack: &mut Stack, globals: &mut Globals, instr: &Instr)
 }
 
 // Loads, stores, and the size of the memory. Only `memory.grow` takes memory. (Standard, 4.4.4)
+#[inline(always)]
 fn access(stack: &mut Stack, memory: &mut Memory, instr: &Instr) -> Result<Option<Trap>, AllocError>
     requires kind { IsAccess instr.now }
     requires before { (g : List number) × (x : Moment) × IsMomentBefore stack.old memory.old g instr.now x }
@@ -98,14 +101,41 @@ fn access(stack: &mut Stack, memory: &mut Memory, instr: &Instr) -> Result<Optio
     }
 }
 
+// Whether it takes one operand. A `match` is quicker here than the list of their types.
+#[inline(always)]
+fn is_unary(op: NumOp) -> bool
+    ensures { Decides result (length (num_operands op) ≡ 1) }
+{
+    matches!(
+        op,
+        NumOp::I32Eqz
+            | NumOp::I32Clz
+            | NumOp::I32Ctz
+            | NumOp::I32Popcnt
+            | NumOp::I64ExtendI32S
+            | NumOp::I64ExtendI32U
+            | NumOp::I32Extend8S
+            | NumOp::I32Extend16S
+            | NumOp::I64Eqz
+            | NumOp::I64Clz
+            | NumOp::I64Ctz
+            | NumOp::I64Popcnt
+            | NumOp::I32WrapI64
+            | NumOp::I64Extend8S
+            | NumOp::I64Extend16S
+            | NumOp::I64Extend32S
+    )
+}
+
 // A number instruction. (Standard, 4.4.1)
+#[inline(always)]
 fn number_op(stack: &mut Stack, op: NumOp) -> Option<Trap>
     requires before { (m : Held) × (g : List number) × (x : Moment) × IsMomentBefore stack.old m g (Instr.Num op) x }
     ensures behind { (m : Held) (g : List number) (x : Moment) → IsMomentBefore stack.old m g (Instr.Num op) x → IsMomentBehind x (reduct_at x (Instr.Num op)) result stack.new m g }
     ensures value_room { stack.new.value_room ≡ stack.old.value_room }
     ensures spot_room { stack.new.spot_room ≡ stack.old.spot_room }
 {
-    if op.operands() == 1 {
+    if is_unary(op) {
         let operand = stack.pop();
         stack.push(unary(op, operand));
         return None;
@@ -123,6 +153,7 @@ fn number_op(stack: &mut Stack, op: NumOp) -> Option<Trap>
 }
 
 // Numbers, `select`, `nop` and `unreachable`. (Standard, 4.4.1, 4.4.2, 4.4.5)
+#[inline(always)]
 fn number(stack: &mut Stack, instr: &Instr) -> Option<Trap>
     requires kind { IsNumber instr.now }
     requires before { (m : Held) × (g : List number) × (x : Moment) × IsMomentBefore stack.old m g instr.now x }
@@ -151,6 +182,7 @@ fn number(stack: &mut Stack, instr: &Instr) -> Option<Trap>
 
 /// An instruction that neither branches, nor calls, nor opens a block, or why it traps. Only `memory.grow` takes memory;
 /// after an `Err` all is as before. (Standard, 4.4.1 to 4.4.5)
+#[inline(always)]
 pub(crate) fn straight(
     stack: &mut Stack,
     memory: &mut Memory,

@@ -12,7 +12,7 @@ use Rattle.wasm_sem.specs.declared.Script.{Script}
 use Rattle.wasm_sem.specs.declared.Trap.{Trap}
 use Rattle.wasm_sem.specs.Execution.{Instance, instance, Frame, Phase, starting, calling, over, Env, Configuration, configuration, Next, reduces, traps, env_after, step, after_step, run_of}
 use Rattle.wasm_run.proofs.Following.{NextFollows, step_follows}
-use Rattle.run_stack.specs.Flat.{Flat, first_base, first_rest, lowest_arity}
+use Rattle.run_stack.specs.Flat.{Base, Flat, first_base, first_rest, lowest_arity}
 use Rattle.run_stack.specs.Standing.{IsStanding, KeepsStore, Went, Trapped as HasTrapped}
 use Rattle.run_stack.specs.Advances.{IsAtCall, IsAtGrow, IsSame, Advances, GoesAtNoCall}
 use Rattle.wasm_run.specs.Rooms.{HaveRoom}
@@ -219,6 +219,11 @@ pub left_few : (m : Module) (s : Script) (made : ℕ) (c d : Configuration) (f g
 left_few m s made c (configuration e []) f g memory globals running (vs, ends_so, bases, values, few) many none = let n = ap length values in let k = few many in omega (arith, n, k, push_length vs [])
 left_few m s made c (configuration e (fr ∷ below)) f g memory globals running (on, some) many none = let n = ap length none in absurd (omega (arith, some, n))
 
+-- there is no frame
+pub no_bases : (bs : List Base) → length bs ≡ 0 → bs ≡ []
+no_bases [] h = refl
+no_bases (b ∷ bs) h = absurd (omega (arith, h))
+
 -- where it traps
 pub trap_ends : (inst : Instance) (c : Configuration) (t : Trap) → step inst c ≡ traps t → EndsWith inst (Trapped t) c (after_step inst c (step inst c))
 trap_ends inst (configuration e fs) t h =
@@ -267,6 +272,3 @@ place_there m s f memory globals (configuration e (fr ∷ below)) (lies, store, 
 pub wants : (r : Result (Option Answer) AllocError) (old new : Run) → IsErr r → new ≡ old → MayWant (configuration_of old) → MakesStep r old new
 wants (Ok d) old new h same may = absurd cc
 wants (Err v) old new h same may = (same, may)
-
-pub wanting : (r : Result (Option Answer) AllocError) (old new : Run) → IsErr r → new ≡ old → Innermost IsAtGrow (configuration_of old) → MakesStep r old new
-wanting r old new h same grow = wants r old new h same (wants_at_grow (configuration_of old) grow)

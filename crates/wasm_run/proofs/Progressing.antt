@@ -11,7 +11,7 @@ use Rattle.wasm_run.specs.declared.progress.Progress.{Progress}
 use Rattle.wasm_run.specs.declared.progress.Stage.{Stage}
 use Rattle.wasm_run.specs.declared.progress.Stage.TheVariants as stages
 use Rattle.wasm_run.specs.Moves.{env_beside, HasSameAnswers, MovesBy, MayWant}
-use Rattle.wasm_run.specs.Progress.{IsStage, Tells, env_by, KeepsAnswers, GoesOn}
+use Rattle.wasm_run.specs.Progress.{IsStage, Tells, Follows, StepsInside, env_by, KeepsAnswers, GoesOn}
 use Rattle.wasm_run.specs.Running.{Run, configuration_of, one_more}
 use Rattle.std.proofs.lemmas.Bool.{cases_lt}
 use Rattle.wasm_sem.specs.declared.Script.{Script}
@@ -72,6 +72,17 @@ moved_answers old new p q functions (Some a) had room is moves ended same =
       room = λ inside. absurd (moves.outside inside);
       functions_are = had.functions_are;
     })
+
+-- ---- a step inside a function
+
+-- it went on
+pub follows_none : (calls : ℕ) (p : Progress) → Follows calls None p p
+follows_none calls p = record { tells = λ m inst e counts t. t; same = λ h. refl }
+
+-- memory was wanting
+pub steps_wanting : {A : Type 0} (calls : ℕ) (r : Result A AllocError) (old new : Run) (p : Progress) → IsErr r → new ≡ old → MayWant (configuration_of old) → StepsInside calls r old new p p
+steps_wanting calls (Ok x) old new p h same may = absurd cc
+steps_wanting calls (Err u) old new p h same may = ((same, may), refl)
 
 -- ---- what a step is said to have done
 

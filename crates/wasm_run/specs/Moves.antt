@@ -3,6 +3,8 @@ use Rattle.std.specs.Prelude.{◌≡◌, ℕ, ◌⊎◌, [], ◌∷◌, Result, 
 use Rattle.std.specs.declared.alloc.AllocError.{AllocError}
 use Rattle.module_ast.specs.Structure.{Tree, plain, call, call_indirect, memory_grow}
 use Rattle.wasm_sem.specs.declared.Answer.{Answer}
+use Rattle.wasm_sem.specs.declared.Answer.TheVariants.{Trapped}
+use Rattle.wasm_sem.specs.declared.Trap.{Trap}
 use Rattle.wasm_sem.specs.Execution.{Instance, instance, Env, Configuration, configuration, env_after, is_last}
 use Rattle.run_stack.specs.Leaving.{LeavesMany}
 use Rattle.wasm_run.specs.Running.{Run, configuration_of, one_more, IsInside}
@@ -49,3 +51,13 @@ MovesBy inst (Some a) old new = EndsWith inst a old new
 abbrev pub MakesStep : Result (Option Answer) AllocError → (old new : Run) → Type 0
 MakesStep (Ok a) old new = (new ≡ one_more old) × MovesBy (instance old.module old.script) a (configuration_of old) (configuration_of (one_more old))
 MakesStep (Err u) old new = (new ≡ old) × MayWant (configuration_of old)
+
+-- the answer where a call traps; a function runs on where it does not
+abbrev pub trap_answer : Option Trap → Option Answer
+trap_answer None = None
+trap_answer (Some t) = Some (Trapped t)
+
+-- One step was made, which is a call, and may trap. Where memory is wanting none was.
+abbrev pub MakesCall : Result (Option Trap) AllocError → (old new : Run) → Type 0
+MakesCall (Ok t) old new = MakesStep (Ok (trap_answer t)) old new
+MakesCall (Err u) old new = MakesStep (Err u) old new

@@ -10,7 +10,7 @@ use Rattle.wasm_run.specs.declared.progress.Stage.{Stage}
 use Rattle.wasm_run.specs.declared.progress.Stage.TheVariants as stages
 use Rattle.wasm_run.specs.declared.progress.Progress.{Progress}
 use Rattle.wasm_run.specs.Entries.{EntersNext}
-use Rattle.wasm_run.specs.Moves.{env_beside, MayWant}
+use Rattle.wasm_run.specs.Moves.{env_beside, MayWant, MakesStep}
 use Rattle.wasm_run.specs.Running.{Run, configuration_of, one_more, IsLinked, IsInside}
 
 -- what runs or is entered next: the start function, which this is, or a call of the script by its number
@@ -29,6 +29,21 @@ pub record Tells (m : Module) (e : Env) (p : Progress) : Type 0 where
 abbrev pub env_by : Instance → Option Answer → Env → Env
 env_by inst None e = e
 env_by inst (Some a) e = env_after inst e.phase e a
+
+-- there is room for an answer, and the call that runs is one of so many
+pub record AwaitsAnswer (calls : ℕ) (p : Progress) : Type 0 where
+  pub room : length p.answers.items < vec_capacity p.answers
+  pub number : (n : ℕ) → p.stage ≡ stages.Call n → n < calls
+
+-- what ran has ended with this answer, and the next of so many calls comes, or it runs on
+pub record Follows (calls : ℕ) (ended : Option Answer) (old new : Progress) : Type 0 where
+  pub tells : (m : Module) (inst : Instance) (e : Env) → length inst.calls ≡ calls → Tells m e old → Tells m (env_by inst ended e) new
+  pub same : ended ≡ None → new ≡ old
+
+-- One step of a function was made, and where what ran has ended by it, that is told. Where memory is wanting none was.
+abbrev pub StepsInside : {A : Type 0} → (calls : ℕ) → Result A AllocError → (old new : Run) → (told next : Progress) → Type 0
+StepsInside calls (Ok u) old new told next = (a : Option Answer) × MakesStep (Ok a) old new × Follows calls a told next
+StepsInside calls (Err u) old new told next = MakesStep (Err u) old new × (next ≡ told)
 
 -- the functions of a script's calls, by their indices
 abbrev pub AreCalled : Module → Script → List ℕ → Type 0

@@ -161,21 +161,35 @@ impl<'m> Machine<'m> {
     }
 
     // Makes one step, and says whether the run had gone on. The phase is looked at only where no function runs.
+    #[inline(always)]
     fn go_on(&mut self) -> Result<bool, NoMemory>
         requires few { self.old.made < 2 ^ 64 - 1 }
         ensures { GoesOn result self.old self.new }
     {
         if self.running.is_inside() {
-            let ended = self.running.step_inside()?;
-            self.progress.end(ended, self.functions.len());
+            self.running
+                .step_inside(&mut self.progress, self.functions.len())?;
             return Ok(true);
         }
+        self.enter_next()
+    }
+
+    // The start or the next call of the script is entered, where no function runs; false where the run is over.
+    #[cold]
+    #[inline(never)]
+    fn enter_next(&mut self) -> Result<bool, NoMemory>
+        requires outside { IsInside (configuration_of self.old) → ⊥ }
+        requires few { self.old.made < 2 ^ 64 - 1 }
+        ensures { GoesOn result self.old self.new }
+    {
         let Some(entry) = self.entry() else {
             return Ok(false);
         };
         self.progress.answers.reserve(1)?;
         let ended = self.running.enter(entry.func, entry.numbers)?;
-        self.progress.end(ended, self.functions.len());
+        if let Some(answer) = ended {
+            self.progress.end(answer, self.functions.len());
+        }
         Ok(true)
     }
 

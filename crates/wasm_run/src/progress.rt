@@ -1,11 +1,15 @@
 // How far the start and the calls of a script have come.
 
-ghost use Rattle.std.specs.Prelude.{◌≡◌, ℕ, ◌<◌, length, None, vec_capacity};
+ghost use Rattle.std.specs.Prelude.{◌≡◌, ◌≤◌, [], length, Some};
 ghost use Rattle.wasm_sem.specs.Types.{Module as valid_module};
-ghost use Rattle.wasm_sem.specs.Execution.{Instance, Env, call_from, after_start};
-ghost use Rattle.wasm_run.specs.Progress.{IsStage, Tells, env_by};
+ghost use Rattle.wasm_sem.specs.declared.Answer.{Answer as answer};
+ghost use Rattle.wasm_sem.specs.Execution.{Instance, call_from, after_start};
+ghost use Rattle.run_stack.specs.Below.{IsAnswerOf};
+ghost use Rattle.wasm_run.specs.Progress.{IsStage, AwaitsAnswer, Follows};
 
-use wasm_sem::Answer;
+use run_stack::Stack;
+use std::alloc::Global;
+use wasm_sem::{Answer, Trap};
 
 /// What runs, or is entered next: the start function, by its index, or a call of the script, by its number.
 #[derive(Clone, Copy)]
@@ -46,17 +50,14 @@ fn after_start(answer: &Answer, calls: usize) -> Stage
 }
 
 impl Progress {
-    /// What ran has ended with this answer, for which there is room, and what comes next is found among so many calls; or it
-    /// runs on, and nothing changes.
-    pub fn end(&mut self, ended: Option<Answer>, calls: usize)
-        requires room { length self.old.answers.items < vec_capacity self.old.answers }
-        requires number { (n : ℕ) → self.old.stage ≡ Stage.Call n → n < calls }
-        ensures tells { (m : valid_module) (inst : Instance) (e : Env) → length inst.calls ≡ calls → Tells m e self.old → Tells m (env_by inst ended e) self.new }
-        ensures same { ended ≡ None → self.new ≡ self.old }
+    /// What ran has ended with this answer, for which there is room, and what comes next is found among so many calls. A call
+    /// of its own, so that a step that goes on has no room for an answer to clear.
+    #[cold]
+    #[inline(never)]
+    pub fn end(&mut self, answer: Answer, calls: usize)
+        requires { AwaitsAnswer calls self.old }
+        ensures { Follows calls (Some answer) self.old self.new }
     {
-        let Some(answer) = ended else {
-            return;
-        };
         match self.stage {
             Stage::Start(_) => {
                 self.stage = after_start(&answer, calls);
@@ -68,5 +69,27 @@ impl Progress {
             }
             Stage::Over => {}
         }
+    }
+
+    /// What ran has ended with a trap.
+    #[cold]
+    #[inline(never)]
+    pub fn trapped(&mut self, trap: Trap, calls: usize)
+        requires { AwaitsAnswer calls self.old }
+        ensures { Follows calls (Some (Answer.Trapped trap)) self.old self.new }
+    {
+        self.end(Answer::Trapped(trap), calls);
+    }
+
+    /// What ran has ended with the values that the last frame left, of which there are at most four.
+    #[cold]
+    #[inline(never)]
+    pub fn returned(&mut self, stack: &Stack, alloc: Global, calls: usize)
+        requires awaits { AwaitsAnswer calls self.old }
+        requires left { stack.now.bases ≡ [] }
+        requires few { length stack.now.values ≤ 4 }
+        ensures { (a : answer) × IsAnswerOf (Some a) stack.now × Follows calls (Some a) self.old self.new }
+    {
+        self.end(stack.answer(alloc), calls);
     }
 }

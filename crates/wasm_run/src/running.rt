@@ -10,7 +10,8 @@ ghost use Rattle.wasm_run.specs.Beside.{hosts_in, pages_in};
 ghost use Rattle.run_stack.specs.Advances.{IsAtCall};
 ghost use Rattle.wasm_run.specs.Entries.{EntersNext};
 ghost use Rattle.run_stack.specs.Leaving.{LeavesLast};
-ghost use Rattle.wasm_run.specs.Moves.{MayWant, MakesStep};
+ghost use Rattle.wasm_run.specs.Moves.{MayWant, MakesStep, MakesCall};
+ghost use Rattle.wasm_run.specs.Progress.{AwaitsAnswer, StepsInside};
 ghost use Rattle.wasm_run.specs.Reaching.{IsAtSlot, Reaches, IsInvocation, IsTarget};
 ghost use Rattle.run_store.specs.Resolved.{callee_for, HasSize, IsSizeOf};
 ghost use Rattle.wasm_run.specs.Answering.{answer_given};
@@ -20,6 +21,7 @@ use crate::call::{call_own, enter_alone};
 use crate::functions::{Invocation, Target, index_count};
 use crate::host::{answer, answer_entry, next_answer, return_numbers, values_of};
 use crate::note::{HostNote, Note, Noted, host_note, noted_entry};
+use crate::progress::Progress;
 use module_ast::code::Instr;
 use module_ast::module::{Body, FuncType, Module};
 use run_stack::{Did, Stack, above_many, advance};
@@ -171,16 +173,18 @@ impl<'m> Running<'m> {
         }
     }
 
-    /// The next step of the innermost frame. Where it leaves the last one, or traps, what ran has ended. An `Err` comes at a
-    /// call, at `memory.grow`, or where the last frame is left with more than four values, and leaves all as it was.
-    /// (Standard, 4.4)
-    pub fn step_inside(&mut self) -> Result<Option<Answer>, AllocError>
+    /// The next step of the innermost frame. Where it leaves the last one, or traps, what ran has ended, which is told. An `Err`
+    /// comes at a call, at `memory.grow`, or where the last frame is left with more than four values, and leaves all as it was.
+    /// What is large, as an answer, is made in calls of their own, so that a step that goes on is quick. (Standard, 4.4)
+    #[inline(always)]
+    pub fn step_inside(&mut self, told: &mut Progress, calls: usize) -> Result<(), AllocError>
         requires inside { IsInside (configuration_of self.old) }
         requires few { self.old.made < 2 ^ 64 - 1 }
-        ensures { MakesStep result self.old self.new }
+        requires awaits { AwaitsAnswer calls told.old }
+        ensures { StepsInside calls result self.old self.new told.old told.new }
     {
         if let Some(above) = above_many(&self.stack) {
-            return self.leave_last(above);
+            return self.leave_last(above, told, calls);
         }
         match advance(
             &mut self.stack,
@@ -190,30 +194,45 @@ impl<'m> Running<'m> {
         )? {
             Did::Went => {
                 self.made += 1;
-                Ok(self.stack.answer(self.alloc))
+                if self.stack.frames() == 0 {
+                    told.returned(&self.stack, self.alloc, calls);
+                }
             }
             Did::Trapped(trap) => {
                 self.stack.clear();
                 self.made += 1;
-                Ok(Some(Answer::Trapped(trap)))
+                told.trapped(trap, calls);
             }
-            Did::Calls => self.call(),
+            Did::Calls => {
+                if let Some(trap) = self.call()? {
+                    told.trapped(trap, calls);
+                }
+            }
         }
+        Ok(())
     }
 
     // The step leaves the last frame with more than four values, above which so many operands stand. They are read first: where
     // there is no memory for them, the step is not made.
+    #[cold]
     #[inline(never)]
-    fn leave_last(&mut self, above: usize) -> Result<Option<Answer>, AllocError>
+    fn leave_last(
+        &mut self,
+        above: usize,
+        told: &mut Progress,
+        calls: usize,
+    ) -> Result<(), AllocError>
         requires few { self.old.made < 2 ^ 64 - 1 }
         requires leaves { LeavesLast above (configuration_of self.old) }
-        ensures { MakesStep result self.old self.new }
+        requires awaits { AwaitsAnswer calls told.old }
+        ensures { StepsInside calls result self.old self.new told.old told.new }
     {
         let count = self.stack.lowest_arity();
         let results = self.stack.values_below(self.alloc, count, above)?;
         self.stack.clear();
         self.made += 1;
-        Ok(Some(Answer::Returned(results)))
+        told.end(Answer::Returned(results), calls);
+        Ok(())
     }
 
     /// The call of a hook that comes next, with its words; none where another step comes. An `Err` comes at a call alone.
@@ -437,36 +456,37 @@ impl<'m> Running<'m> {
         self.functions[func as usize]
     }
 
-    // The call that comes next is made.
-    fn call(&mut self) -> Result<Option<Answer>, AllocError>
+    // The call that comes next is made, or it traps.
+    #[inline(never)]
+    fn call(&mut self) -> Result<Option<Trap>, AllocError>
         requires few { self.old.made < 2 ^ 64 - 1 }
         requires at { Innermost IsAtCall (configuration_of self.old) }
-        ensures { MakesStep result self.old self.new }
+        ensures { MakesCall result self.old self.new }
     {
         match self.target() {
             Target::NoCall => unreachable!(),
-            Target::Traps(trap) => Ok(Some(self.trap(trap))),
+            Target::Traps(trap) => Ok(self.trap(trap)),
             Target::Invokes(invocation) => self.invoke(invocation),
         }
     }
 
     // The step traps, and what ran has ended.
-    fn trap(&mut self, trap: Trap) -> Answer
+    fn trap(&mut self, trap: Trap) -> Option<Trap>
         requires few { self.old.made < 2 ^ 64 - 1 }
         requires at { Innermost IsAtCall (configuration_of self.old) }
         requires traps { step (instance self.old.module self.old.script) (configuration_of self.old) ≡ traps trap }
-        ensures { MakesStep (Ok (Some result)) self.old self.new }
+        ensures { MakesCall (Ok result) self.old self.new }
     {
         self.stack.clear();
         self.made += 1;
-        Answer::Trapped(trap)
+        Some(trap)
     }
 
     // A function of the module is entered, or traps where there are too many frames; any other is answered at once.
-    fn invoke(&mut self, invocation: Invocation<'m>) -> Result<Option<Answer>, AllocError>
+    fn invoke(&mut self, invocation: Invocation<'m>) -> Result<Option<Trap>, AllocError>
         requires few { self.old.made < 2 ^ 64 - 1 }
         requires calls { IsInvocation invocation self.old }
-        ensures { MakesStep result self.old self.new }
+        ensures { MakesCall result self.old self.new }
     {
         match invocation.function {
             Function::Host(ty) => {
@@ -491,13 +511,13 @@ impl<'m> Running<'m> {
         ty: &FuncType,
         body: &'m Body,
         size: Size,
-    ) -> Result<Option<Answer>, AllocError>
+    ) -> Result<Option<Trap>, AllocError>
         requires few { self.old.made < 2 ^ 64 - 1 }
         requires calls { (f : ℕ) × Reaches (instance self.old.module self.old.script) (configuration_of self.old) slot f (code_of rest.now) (own ty.now (declared_locals body.now.groups) body.now.code) }
         requires size { IsSizeOf self.old.module ty.now body.now size.locals size.height size.nesting }
         requires height { size.locals + size.height < 2 ^ 63 }
         requires nesting { size.nesting < 2 ^ 63 }
-        ensures { MakesStep result self.old self.new }
+        ensures { MakesCall result self.old self.new }
     {
         let place = self.stack.place();
         self.stack.step_behind(rest, slot);
@@ -509,7 +529,7 @@ impl<'m> Running<'m> {
             Ok(Some(trap)) => {
                 self.stack.clear();
                 self.made += 1;
-                Ok(Some(Answer::Trapped(trap)))
+                Ok(Some(trap))
             }
             Err(error) => {
                 self.stack.step_back(place, slot);
@@ -519,6 +539,7 @@ impl<'m> Running<'m> {
     }
 
     // A call of a hook is answered with zeros and changes nothing else.
+    #[inline(never)]
     fn call_hook(&mut self, rest: &'m [Instr], slot: Option<u32>, ty: &FuncType)
         requires few { self.old.made < 2 ^ 64 - 1 }
         requires calls { (f : ℕ) × Reaches (instance self.old.module self.old.script) (configuration_of self.old) slot f (code_of rest.now) (hook ty.now) }
@@ -550,16 +571,17 @@ impl<'m> Running<'m> {
 
     // A call of a host function: the script's next answer is given, or, past the last one, zeros. After an `Err` all is as it
     // was. (Standard, 4.4.7)
+    #[inline(never)]
     fn call_host(
         &mut self,
         func: u32,
         rest: &'m [Instr],
         slot: Option<u32>,
         ty: &FuncType,
-    ) -> Result<Option<Answer>, AllocError>
+    ) -> Result<Option<Trap>, AllocError>
         requires few { self.old.made < 2 ^ 64 - 1 }
         requires calls { Reaches (instance self.old.module self.old.script) (configuration_of self.old) slot func (code_of rest.now) (host ty.now) }
-        ensures { MakesStep result self.old self.new }
+        ensures { MakesCall result self.old self.new }
     {
         let given = next_answer(self.script, self.hosts);
         let host = self.host_called(func, slot, ty, given)?;

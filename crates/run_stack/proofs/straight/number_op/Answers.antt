@@ -1,4 +1,5 @@
-use Rattle.std.proofs.Common.{◌<◌, length, ◌∙◌, subst, arith}
+use Rattle.std.proofs.Common.{◌<◌, length, subst, arith}
+use Rattle.std.proofs.lemmas.Bool.Decides.{not_from_Decides}
 use Rattle.wasm_num.specs.Numbers.{Num}
 use Rattle.run_stack.proofs.Straights.{IfGives, taken}
 use Rattle.std.proofs.lemmas.Grind.{common_steps}
@@ -7,16 +8,16 @@ use Rattle.run_stack.proofs.straight.number_op.Goals as goal
 pub binary-requires : goal.binary-requires
 binary-requires c =
     let r = c.requires.before in
-    (taken c.args.stack.now r.0 r.1 r.2 c.args.op r.3 (λ e. c.if-operands-eq1.false (c.operands.ensures ∙ e)) c.pop-second.result c.pop-first.result c.pop-second.new.self c.pop-first.new.self c.pop-second.ensures c.pop-first.ensures).typed
+    (taken c.args.stack.now r.0 r.1 r.2 c.args.op r.3 (not_from_Decides c.is_unary.result c.is_unary.ensures c.if-is_unary.false) c.pop-second.result c.pop-first.result c.pop-second.new.self c.pop-first.new.self c.pop-second.ensures c.pop-first.ensures).typed
 
 pub push-requires-in-Ok : goal.push-requires-in-Ok
 push-requires-in-Ok c =
     let r = c.requires.before in
-    let t = taken c.args.stack.now r.0 r.1 r.2 c.args.op r.3 (λ e. c.if-operands-eq1.false (c.operands.ensures ∙ e)) c.pop-second.result c.pop-first.result c.pop-second.new.self c.pop-first.new.self c.pop-second.ensures c.pop-first.ensures in
+    let t = taken c.args.stack.now r.0 r.1 r.2 c.args.op r.3 (not_from_Decides c.is_unary.result c.is_unary.ensures c.if-is_unary.false) c.pop-second.result c.pop-first.result c.pop-second.new.self c.pop-first.new.self c.pop-second.ensures c.pop-first.ensures in
     subst (λ (n : Num). IfGives n (length c.pop-first.new.self.values < c.pop-first.new.self.value_room)) c.in-Ok.ensures t.room
 
-pub returns-then-operands-eq1-clause-behind : goal.returns-then-operands-eq1-clause-behind
-returns-then-operands-eq1-clause-behind c = grind (arith, common_steps)
+pub returns-then-is_unary-clause-behind : goal.returns-then-is_unary-clause-behind
+returns-then-is_unary-clause-behind c = grind (arith, common_steps)
 
 pub returns-in-Ok-clause-behind : goal.returns-in-Ok-clause-behind
 returns-in-Ok-clause-behind c = grind (arith, common_steps)

@@ -1,4 +1,4 @@
-use Rattle.std.proofs.Common.{◌+◌, ◌<◌, Ok, Err, sym, ap, subst}
+use Rattle.std.proofs.Common.{◌+◌, ◌<◌, ◌∙◌, Some, None, Ok, Err, sym, ap, subst, arith}
 use Rattle.wasm_sem.specs.declared.Answer.TheVariants.{Trapped}
 use Rattle.wasm_sem.specs.Execution.{instance}
 use Rattle.run_stack.specs.Advances.{IsAtGrow, GoesAtNoCall}
@@ -8,9 +8,10 @@ use Rattle.wasm_run.specs.Moves.{MovesBy, EndsWith}
 use Rattle.wasm_run.specs.Running.{Run, one_more, configuration_of, IsInside, Innermost}
 use Rattle.run_stack.specs.declared.steps.Did.{Did}
 use Rattle.wasm_run.proofs.Hosts.{inside_hosts, trap_hosts}
-use Rattle.wasm_run.proofs.Moments.{standing, readable, leaves_last, Leaves, leaves, went_moves, left_few, trap_ends, wanting}
+use Rattle.wasm_run.proofs.Moments.{standing, readable, leaves_last, Leaves, leaves, went_moves, left_few, trap_ends, wants_at_grow, no_bases}
 use Rattle.wasm_run.proofs.Rooms.{next_state}
 use Rattle.wasm_run.proofs.Noting.{quiet_note}
+use Rattle.wasm_run.proofs.Progressing.{follows_none, steps_wanting}
 use Rattle.wasm_run.proofs.running.Running.step_inside.Goals as goal
 
 pub above_many-requires-clause-some : goal.above_many-requires-clause-some
@@ -31,10 +32,10 @@ advance-requires c = standing c.self.inside.module.now c.self.inside.script.now 
 
 pub returns-in_err-advance : goal.returns-in_err-advance
 returns-in_err-advance c =
-    wanting c.from_residual.result c.args.self.now _ c.from_residual.ensures.0 c.self.view_is
-    (subst (λ (r : Run). Innermost IsAtGrow (configuration_of r)) c.self.view_is
+    steps_wanting c.args.calls c.from_residual.result c.args.self.now _ c.args.told.now c.from_residual.ensures.0 c.self.view_is
+    (wants_at_grow (configuration_of c.args.self.now) (subst (λ (r : Run). Innermost IsAtGrow (configuration_of r)) c.self.view_is
     (leaves c.self.inside.module.now c.self.inside.script.now c.self.inside.made c.self.inside.stack c.self.inside.memory c.self.inside.globals c.self.invariant.running c.advance.new.stack c.advance.new.memory c.advance.new.globals c.in_err-advance.ensures.value_room c.in_err-advance.ensures.spot_room (Err c.in_err-advance.field-0.0)
-    (subst (λ (r : Run). IsInside (configuration_of r)) (sym c.self.view_is) c.requires.inside) c.in_err-advance.ensures.calls c.in_err-advance.ensures.advances).1)
+    (subst (λ (r : Run). IsInside (configuration_of r)) (sym c.self.view_is) c.requires.inside) c.in_err-advance.ensures.calls c.in_err-advance.ensures.advances).1))
 
 pub invariant_of-self : goal.invariant_of-self
 invariant_of-self c = record {
@@ -46,16 +47,30 @@ invariant_of-self c = record {
   noted_is = c.self.invariant.noted_is;
 }
 
-pub answer-requires : goal.answer-requires
-answer-requires c =
+pub returned-requires-clause-few : goal.returned-requires-clause-few
+returned-requires-clause-few c =
     left_few c.self.inside.module.now c.self.inside.script.now c.self.inside.made (configuration_of (record { «module» = c.self.inside.module.now; script = c.self.inside.script.now; made = c.self.inside.made })) (configuration_of (record { «module» = c.self.inside.module.now; script = c.self.inside.script.now; made = c.self.inside.made + 1 })) c.self.inside.stack c.advance.new.stack c.self.inside.memory c.self.inside.globals c.self.invariant.running
     ((subst (λ (d : Did). Leaves c.self.inside.module.now c.self.inside.script.now c.self.inside.made c.self.inside.stack c.self.inside.memory c.self.inside.globals c.self.invariant.running (Ok d) (configuration_of (record { «module» = c.self.inside.module.now; script = c.self.inside.script.now; made = c.self.inside.made })) c.advance.new.stack c.advance.new.memory c.advance.new.globals) c.in-Went.is
     (leaves c.self.inside.module.now c.self.inside.script.now c.self.inside.made c.self.inside.stack c.self.inside.memory c.self.inside.globals c.self.invariant.running c.advance.new.stack c.advance.new.memory c.advance.new.globals c.in_ok-advance.ensures.value_room c.in_ok-advance.ensures.spot_room (Ok c.in_ok-advance.field-0)
     (subst (λ (r : Run). IsInside (configuration_of r)) (sym c.self.view_is) c.requires.inside) c.in_ok-advance.ensures.calls c.in_ok-advance.ensures.advances))).1
     c.in_default.ensures
+    (no_bases c.advance.new.stack.bases (sym c.frames.ensures ∙ c.if-frames-eq0.true))
 
-pub invariant_of-self-in-Went : goal.invariant_of-self-in-Went
-invariant_of-self-in-Went c =
+pub invariant_of-self-then-frames-eq0 : goal.invariant_of-self-then-frames-eq0
+invariant_of-self-then-frames-eq0 c =
+    let counted = inside_hosts c.self.inside.module.now c.self.inside.script.now c.self.inside.made c.self.inside.hosts c.self.invariant.running.linked c.self.invariant.counted c.self.inside.stack c.self.inside.memory c.self.inside.globals c.self.invariant.running (subst (λ (r : Run). IsInside (configuration_of r)) (sym c.self.view_is) c.requires.inside) (subst (λ (d : Did). GoesAtNoCall (Ok d) (first_rest c.self.inside.stack.spots)) c.in-Went.is c.in_ok-advance.ensures.calls) in
+    record {
+      running = ((subst (λ (d : Did). Leaves c.self.inside.module.now c.self.inside.script.now c.self.inside.made c.self.inside.stack c.self.inside.memory c.self.inside.globals c.self.invariant.running (Ok d) (configuration_of (record { «module» = c.self.inside.module.now; script = c.self.inside.script.now; made = c.self.inside.made })) c.advance.new.stack c.advance.new.memory c.advance.new.globals) c.in-Went.is
+          (leaves c.self.inside.module.now c.self.inside.script.now c.self.inside.made c.self.inside.stack c.self.inside.memory c.self.inside.globals c.self.invariant.running c.advance.new.stack c.advance.new.memory c.advance.new.globals c.in_ok-advance.ensures.value_room c.in_ok-advance.ensures.spot_room (Ok c.in_ok-advance.field-0)
+          (subst (λ (r : Run). IsInside (configuration_of r)) (sym c.self.view_is) c.requires.inside) c.in_ok-advance.ensures.calls c.in_ok-advance.ensures.advances))).0;
+      counted = counted;
+      functions_are = c.self.invariant.functions_are;
+      table_is = c.self.invariant.table_is;
+      noted_is = quiet_note c.self.inside.module.now c.self.inside.script.now c.self.inside.made c.self.inside.hosts c.self.invariant.running.linked c.self.invariant.counted counted (subst (λ (r : Run). IsInside (configuration_of r)) (sym c.self.view_is) c.requires.inside) c.self.inside.noted c.self.invariant.noted_is;
+    }
+
+pub invariant_of-self-else-frames-eq0 : goal.invariant_of-self-else-frames-eq0
+invariant_of-self-else-frames-eq0 c =
     let counted = inside_hosts c.self.inside.module.now c.self.inside.script.now c.self.inside.made c.self.inside.hosts c.self.invariant.running.linked c.self.invariant.counted c.self.inside.stack c.self.inside.memory c.self.inside.globals c.self.invariant.running (subst (λ (r : Run). IsInside (configuration_of r)) (sym c.self.view_is) c.requires.inside) (subst (λ (d : Did). GoesAtNoCall (Ok d) (first_rest c.self.inside.stack.spots)) c.in-Went.is c.in_ok-advance.ensures.calls) in
     record {
       running = ((subst (λ (d : Did). Leaves c.self.inside.module.now c.self.inside.script.now c.self.inside.made c.self.inside.stack c.self.inside.memory c.self.inside.globals c.self.invariant.running (Ok d) (configuration_of (record { «module» = c.self.inside.module.now; script = c.self.inside.script.now; made = c.self.inside.made })) c.advance.new.stack c.advance.new.memory c.advance.new.globals) c.in-Went.is
@@ -103,25 +118,47 @@ call-requires c =
           (subst (λ (r : Run). IsInside (configuration_of r)) (sym c.self.view_is) c.requires.inside) c.in_ok-advance.ensures.calls c.in_ok-advance.ensures.advances))).1;
     }
 
-pub returns-in-Went : goal.returns-in-Went
-returns-in-Went c = (
-  ap one_more c.self.view_is,
-  subst (λ (r : Run). MovesBy (instance r.module r.script) c.answer.result (configuration_of r) (configuration_of (one_more r))) c.self.view_is
-      (went_moves c.self.inside.module.now c.self.inside.script.now c.self.inside.made (configuration_of (record { «module» = c.self.inside.module.now; script = c.self.inside.script.now; made = c.self.inside.made })) (configuration_of (record { «module» = c.self.inside.module.now; script = c.self.inside.script.now; made = c.self.inside.made + 1 })) c.self.inside.stack c.advance.new.stack c.self.inside.memory c.self.inside.globals c.self.invariant.running c.answer.result c.answer.ensures
-      ((subst (λ (d : Did). Leaves c.self.inside.module.now c.self.inside.script.now c.self.inside.made c.self.inside.stack c.self.inside.memory c.self.inside.globals c.self.invariant.running (Ok d) (configuration_of (record { «module» = c.self.inside.module.now; script = c.self.inside.script.now; made = c.self.inside.made })) c.advance.new.stack c.advance.new.memory c.advance.new.globals) c.in-Went.is
-      (leaves c.self.inside.module.now c.self.inside.script.now c.self.inside.made c.self.inside.stack c.self.inside.memory c.self.inside.globals c.self.invariant.running c.advance.new.stack c.advance.new.memory c.advance.new.globals c.in_ok-advance.ensures.value_room c.in_ok-advance.ensures.spot_room (Ok c.in_ok-advance.field-0)
-      (subst (λ (r : Run). IsInside (configuration_of r)) (sym c.self.view_is) c.requires.inside) c.in_ok-advance.ensures.calls c.in_ok-advance.ensures.advances))).1),
+pub returns-then-frames-eq0 : goal.returns-then-frames-eq0
+returns-then-frames-eq0 c = (
+  (Some c.returned.ensures.0),
+  (
+    ap one_more c.self.view_is,
+    subst (λ (r : Run). MovesBy (instance r.module r.script) (Some c.returned.ensures.0) (configuration_of r) (configuration_of (one_more r))) c.self.view_is
+        (went_moves c.self.inside.module.now c.self.inside.script.now c.self.inside.made (configuration_of (record { «module» = c.self.inside.module.now; script = c.self.inside.script.now; made = c.self.inside.made })) (configuration_of (record { «module» = c.self.inside.module.now; script = c.self.inside.script.now; made = c.self.inside.made + 1 })) c.self.inside.stack c.advance.new.stack c.self.inside.memory c.self.inside.globals c.self.invariant.running (Some c.returned.ensures.0) c.returned.ensures.1
+        ((subst (λ (d : Did). Leaves c.self.inside.module.now c.self.inside.script.now c.self.inside.made c.self.inside.stack c.self.inside.memory c.self.inside.globals c.self.invariant.running (Ok d) (configuration_of (record { «module» = c.self.inside.module.now; script = c.self.inside.script.now; made = c.self.inside.made })) c.advance.new.stack c.advance.new.memory c.advance.new.globals) c.in-Went.is
+        (leaves c.self.inside.module.now c.self.inside.script.now c.self.inside.made c.self.inside.stack c.self.inside.memory c.self.inside.globals c.self.invariant.running c.advance.new.stack c.advance.new.memory c.advance.new.globals c.in_ok-advance.ensures.value_room c.in_ok-advance.ensures.spot_room (Ok c.in_ok-advance.field-0)
+        (subst (λ (r : Run). IsInside (configuration_of r)) (sym c.self.view_is) c.requires.inside) c.in_ok-advance.ensures.calls c.in_ok-advance.ensures.advances))).1),
+  ),
+  c.returned.ensures.2,
+)
+
+pub returns-else-frames-eq0 : goal.returns-else-frames-eq0
+returns-else-frames-eq0 c = (
+  None,
+  (
+    ap one_more c.self.view_is,
+    subst (λ (r : Run). MovesBy (instance r.module r.script) None (configuration_of r) (configuration_of (one_more r))) c.self.view_is
+        (went_moves c.self.inside.module.now c.self.inside.script.now c.self.inside.made (configuration_of (record { «module» = c.self.inside.module.now; script = c.self.inside.script.now; made = c.self.inside.made })) (configuration_of (record { «module» = c.self.inside.module.now; script = c.self.inside.script.now; made = c.self.inside.made + 1 })) c.self.inside.stack c.advance.new.stack c.self.inside.memory c.self.inside.globals c.self.invariant.running None (omega (arith, c.frames.ensures, c.if-frames-eq0.false))
+        ((subst (λ (d : Did). Leaves c.self.inside.module.now c.self.inside.script.now c.self.inside.made c.self.inside.stack c.self.inside.memory c.self.inside.globals c.self.invariant.running (Ok d) (configuration_of (record { «module» = c.self.inside.module.now; script = c.self.inside.script.now; made = c.self.inside.made })) c.advance.new.stack c.advance.new.memory c.advance.new.globals) c.in-Went.is
+        (leaves c.self.inside.module.now c.self.inside.script.now c.self.inside.made c.self.inside.stack c.self.inside.memory c.self.inside.globals c.self.invariant.running c.advance.new.stack c.advance.new.memory c.advance.new.globals c.in_ok-advance.ensures.value_room c.in_ok-advance.ensures.spot_room (Ok c.in_ok-advance.field-0)
+        (subst (λ (r : Run). IsInside (configuration_of r)) (sym c.self.view_is) c.requires.inside) c.in_ok-advance.ensures.calls c.in_ok-advance.ensures.advances))).1),
+  ),
+  follows_none c.args.calls c.args.told.now,
 )
 
 pub returns-in-Trapped : goal.returns-in-Trapped
 returns-in-Trapped c =
     let l = c.self.invariant.running.linked in
     let at : Run = record { «module» = c.self.inside.module.now; script = c.self.inside.script.now; made = c.self.inside.made } in (
-      ap one_more c.self.view_is,
-      subst (λ (r : Run). EndsWith (instance r.module r.script) (Trapped c.in-Trapped.trap) (configuration_of r) (configuration_of (one_more r))) c.self.view_is
-          (subst (EndsWith (instance at.module at.script) (Trapped c.in-Trapped.trap) (configuration_of at)) (sym (next_state at.module at.script l.valid l.complete l.range l.links at.made (configuration_of at) (λ i. configuration_of at)))
-          (trap_ends (instance at.module at.script) (configuration_of at) c.in-Trapped.trap
-          ((subst (λ (d : Did). Leaves c.self.inside.module.now c.self.inside.script.now c.self.inside.made c.self.inside.stack c.self.inside.memory c.self.inside.globals c.self.invariant.running (Ok d) (configuration_of (record { «module» = c.self.inside.module.now; script = c.self.inside.script.now; made = c.self.inside.made })) c.advance.new.stack c.advance.new.memory c.advance.new.globals) c.in-Trapped.is
-          (leaves c.self.inside.module.now c.self.inside.script.now c.self.inside.made c.self.inside.stack c.self.inside.memory c.self.inside.globals c.self.invariant.running c.advance.new.stack c.advance.new.memory c.advance.new.globals c.in_ok-advance.ensures.value_room c.in_ok-advance.ensures.spot_room (Ok c.in_ok-advance.field-0)
-          (subst (λ (r : Run). IsInside (configuration_of r)) (sym c.self.view_is) c.requires.inside) c.in_ok-advance.ensures.calls c.in_ok-advance.ensures.advances))).1)),
+      Some (Trapped c.in-Trapped.trap),
+      (
+        ap one_more c.self.view_is,
+        subst (λ (r : Run). EndsWith (instance r.module r.script) (Trapped c.in-Trapped.trap) (configuration_of r) (configuration_of (one_more r))) c.self.view_is
+            (subst (EndsWith (instance at.module at.script) (Trapped c.in-Trapped.trap) (configuration_of at)) (sym (next_state at.module at.script l.valid l.complete l.range l.links at.made (configuration_of at) (λ i. configuration_of at)))
+            (trap_ends (instance at.module at.script) (configuration_of at) c.in-Trapped.trap
+            ((subst (λ (d : Did). Leaves c.self.inside.module.now c.self.inside.script.now c.self.inside.made c.self.inside.stack c.self.inside.memory c.self.inside.globals c.self.invariant.running (Ok d) (configuration_of (record { «module» = c.self.inside.module.now; script = c.self.inside.script.now; made = c.self.inside.made })) c.advance.new.stack c.advance.new.memory c.advance.new.globals) c.in-Trapped.is
+            (leaves c.self.inside.module.now c.self.inside.script.now c.self.inside.made c.self.inside.stack c.self.inside.memory c.self.inside.globals c.self.invariant.running c.advance.new.stack c.advance.new.memory c.advance.new.globals c.in_ok-advance.ensures.value_room c.in_ok-advance.ensures.spot_room (Ok c.in_ok-advance.field-0)
+            (subst (λ (r : Run). IsInside (configuration_of r)) (sym c.self.view_is) c.requires.inside) c.in_ok-advance.ensures.calls c.in_ok-advance.ensures.advances))).1)),
+      ),
+      c.trapped.ensures,
     )
