@@ -1,15 +1,17 @@
 -- Values added to a list, some or all of them.
-use Rattle.std.proofs.Common.{◌≡◌, List, [], ◌∷◌, ◌++◌, refl, sym, ap, ◌∙◌, append_assoc}
+use Rattle.std.proofs.Common.{◌≡◌, List, [], ◌∷◌, ◌++◌, Result, Ok, Err, OnOk, OnErr, refl, sym, ap, ◌∙◌, append_assoc}
 use Rattle.std.proofs.lemmas.List.{append-nil}
 use Rattle.i64_split.specs.Pushing.{AddsPrefix}
-
--- those that went before
-pub adds_front : {A : Type 0} (old new front rest more : List A) → new ≡ old ++ front → front ++ rest ≡ more → AddsPrefix old new more
-adds_front old new front rest more e f = (front, rest, e, sym f)
 
 -- some of the first part
 pub adds_first : {A : Type 0} (old new front rest : List A) → AddsPrefix old new front → AddsPrefix old new (front ++ rest)
 adds_first old new front rest (part, more, e, f) = (part, more ++ rest, e, ap (λ l. l ++ rest) f ∙ append_assoc part more rest)
+
+-- the first part, and then the second or nothing
+pub adds_both : {A X Y : Type 0} (old mid new first second : List A) (r : Result X Y) → mid ≡ old ++ first → OnOk r (new ≡ mid ++ second) → OnErr r (new ≡ mid) → AddsPrefix old new (first ++ second)
+adds_both old mid new first second (Ok x) e added kept =
+    (first ++ second, [], added ∙ ap (λ l. l ++ second) e ∙ append_assoc old first second, sym (append-nil (first ++ second)))
+adds_both old mid new first second (Err y) e added kept = (first, second, kept ∙ e, refl)
 
 -- what was added so far, with what is left, is the whole
 abbrev pub IsOn : {A : Type 0} (old new rest whole : List A) → Type 0

@@ -7,7 +7,7 @@ mod pushing;
 mod saving;
 mod words;
 
-pub use crate::pushing::push_each;
+pub use crate::pushing::{push_one, push_three, push_two};
 pub use crate::saving::{push_gets, push_sets, save, save_in};
 pub use crate::words::{push_value, push_values};
 use module_ast::module::Group;

@@ -1,23 +1,47 @@
-// Instructions added to code.
+// Instructions added to code: they are moved once, behind one look at the room that is left.
 
-ghost use Rattle.std.specs.Prelude.{◌≡◌, ◌<◌, ◌^◌, ◌++◌, OnOk};
-ghost use Rattle.i64_split.specs.Pushing.{AddsPrefix};
+ghost use Rattle.std.specs.Prelude.{◌≡◌, ◌++◌, ◌∷◌, [], OnErr, OnOk};
 
 use module_ast::code::Instr;
 use std::alloc::AllocError;
 
-/// Adds these instructions. An `Err` comes where there is no memory; those that went before stand there then.
+/// Adds an instruction. An `Err` comes where there is no memory, and leaves the code as it was.
 #[inline(always)]
-pub fn push_each<const N: usize>(
-    code: &mut Vec<Instr>,
-    instrs: [Instr; N],
-) -> Result<(), AllocError>
-    requires { N < 2 ^ 32 }
-    ensures added { OnOk result (code.new.items ≡ code.old.items ++ instrs.entry) }
-    ensures prefix { AddsPrefix code.old.items code.new.items instrs.entry }
+pub fn push_one(code: &mut Vec<Instr>, instr: Instr) -> Result<(), AllocError>
+    ensures added { OnOk result (code.new.items ≡ code.old.items ++ instr ∷ []) }
+    ensures kept { OnErr result (code.new.items ≡ code.old.items) }
 {
-    for instr in instrs {
-        code.push(instr)?;
-    }
+    code.reserve(1)?;
+    code.push_reserved(instr);
+    Ok(())
+}
+
+/// Adds two instructions. An `Err` comes where there is no memory, and leaves the code as it was.
+#[inline(always)]
+pub fn push_two(code: &mut Vec<Instr>, first: Instr, second: Instr) -> Result<(), AllocError>
+    ensures added { OnOk result (code.new.items ≡ code.old.items ++ first ∷ second ∷ []) }
+    ensures kept { OnErr result (code.new.items ≡ code.old.items) }
+{
+    code.reserve(2)?;
+    code.push_reserved(first);
+    code.push_reserved(second);
+    Ok(())
+}
+
+/// Adds three instructions. An `Err` comes where there is no memory, and leaves the code as it was.
+#[inline(always)]
+pub fn push_three(
+    code: &mut Vec<Instr>,
+    first: Instr,
+    second: Instr,
+    third: Instr,
+) -> Result<(), AllocError>
+    ensures added { OnOk result (code.new.items ≡ code.old.items ++ first ∷ second ∷ third ∷ []) }
+    ensures kept { OnErr result (code.new.items ≡ code.old.items) }
+{
+    code.reserve(3)?;
+    code.push_reserved(first);
+    code.push_reserved(second);
+    code.push_reserved(third);
     Ok(())
 }

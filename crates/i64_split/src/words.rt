@@ -5,7 +5,7 @@ ghost use Rattle.i64_split.specs.Split.{word_code, words_code};
 ghost use Rattle.i64_split.specs.Pushing.{AddsPrefix, instrs};
 
 use crate::Temp;
-use crate::pushing::push_each;
+use crate::pushing::{push_one, push_three};
 use module_ast::code::Instr;
 use std::alloc::AllocError;
 use wasm_num::{NumOp, ValType};
@@ -17,18 +17,14 @@ pub fn push_value(code: &mut Vec<Instr>, ty: ValType, local: u32) -> Result<(), 
     ensures prefix { AddsPrefix code.old.items code.new.items (instrs (word_code ty local)) }
 {
     match ty {
-        ValType::I32 => push_each(code, [Instr::LocalGet(local)]),
-        ValType::I64 => push_each(
-            code,
-            [
-                Instr::LocalGet(local),
-                Instr::Num(NumOp::I32WrapI64),
-                Instr::LocalGet(local),
-                Instr::I64Const(32),
-                Instr::Num(NumOp::I64ShrU),
-                Instr::Num(NumOp::I32WrapI64),
-            ],
-        ),
+        ValType::I32 => push_one(code, Instr::LocalGet(local)),
+        ValType::I64 => {
+            let wrap = Instr::Num(NumOp::I32WrapI64);
+            push_three(code, Instr::LocalGet(local), wrap, Instr::LocalGet(local))?;
+            let shift = Instr::Num(NumOp::I64ShrU);
+            let wrap = Instr::Num(NumOp::I32WrapI64);
+            push_three(code, Instr::I64Const(32), shift, wrap)
+        }
     }
 }
 

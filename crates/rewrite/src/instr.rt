@@ -23,7 +23,7 @@ use crate::watching::Keeping;
 use branch_resolve::Scopes;
 use hook_mono::HookKey;
 use hook_select::GroupName;
-use i64_split::{Temp, push_each};
+use i64_split::{Temp, push_one};
 use module_ast::code::Instr;
 use module_ast::labels::Labels;
 use module_ast::ops::VarOp;
@@ -38,7 +38,7 @@ impl<'m> Setting<'m> {
         ensures { (ss : List Scope) → OnOk result (code.new.items ≡ code.old.items ++ instrs (template self.now ss position tree.drop_)) }
     {
         if !self.has(GroupName::Drop) {
-            return push_each(code, [Instr::Drop]);
+            return push_one(code, Instr::Drop);
         }
         let ty = self.site.mark_at(position);
         let key = HookKey::Drop(ty);
@@ -54,7 +54,7 @@ impl<'m> Setting<'m> {
         ensures { (ss : List Scope) → OnOk result (code.new.items ≡ code.old.items ++ instrs (template self.now ss position tree.select)) }
     {
         if !self.has(GroupName::Select) {
-            return push_each(code, [Instr::Select]);
+            return push_one(code, Instr::Select);
         }
         let ty = self.site.mark_at(position);
         let key = HookKey::Select(ty);
@@ -71,7 +71,7 @@ impl<'m> Setting<'m> {
     {
         let instr = Instr::MemorySize;
         if !self.has(GroupName::MemorySize) {
-            return push_each(code, [instr]);
+            return push_one(code, instr);
         }
         let key = HookKey::Plain(GroupName::MemorySize);
         let at = position as i32;
@@ -87,7 +87,7 @@ impl<'m> Setting<'m> {
     {
         let instr = Instr::MemoryGrow;
         if !self.has(GroupName::MemoryGrow) {
-            return push_each(code, [instr]);
+            return push_one(code, instr);
         }
         let key = HookKey::Plain(GroupName::MemoryGrow);
         let at = position as i32;
@@ -100,12 +100,12 @@ impl<'m> Setting<'m> {
         requires low { position < 2 ^ 31 }
         ensures { (ss : List Scope) → OnOk result (code.new.items ≡ code.old.items ++ instrs (template self.now ss position (tree.i32_const value.now))) }
     {
-        push_each(code, [Instr::I32Const(*value)])?;
+        push_one(code, Instr::I32Const(*value))?;
         if !self.has(GroupName::Const) {
             return Ok(());
         }
         self.push_location(position as i32, code)?;
-        push_each(code, [Instr::I32Const(*value)])?;
+        push_one(code, Instr::I32Const(*value))?;
         self.push_call(&HookKey::Const(ValType::I32), code)
     }
 
@@ -114,7 +114,7 @@ impl<'m> Setting<'m> {
         requires low { position < 2 ^ 31 }
         ensures { (ss : List Scope) → OnOk result (code.new.items ≡ code.old.items ++ instrs (template self.now ss position (tree.i64_const value.now))) }
     {
-        push_each(code, [Instr::I64Const(*value)])?;
+        push_one(code, Instr::I64Const(*value))?;
         if !self.has(GroupName::Const) {
             return Ok(());
         }
@@ -193,7 +193,7 @@ impl<'m> Setting<'m> {
         let wanted = self.has(GroupName::BrTable) || self.has(GroupName::End);
         self.push_tell_before(position as i32, GroupName::BrTable, wanted, code)?;
         let labels = Labels::from_vec(alloc, labels.as_slice().to_vec(alloc)?)?;
-        push_each(code, [Instr::BrTable(labels, last)])
+        push_one(code, Instr::BrTable(labels, last))
     }
 
     // An `unreachable`, which is told before it.
@@ -202,7 +202,7 @@ impl<'m> Setting<'m> {
         ensures { (ss : List Scope) → OnOk result (code.new.items ≡ code.old.items ++ instrs (template self.now ss position tree.unreachable)) }
     {
         self.push_plain_tell(position as i32, GroupName::Unreachable, code)?;
-        push_each(code, [Instr::Unreachable])
+        push_one(code, Instr::Unreachable)
     }
 
     // A `nop`, which is told before it.
@@ -211,7 +211,7 @@ impl<'m> Setting<'m> {
         ensures { (ss : List Scope) → OnOk result (code.new.items ≡ code.old.items ++ instrs (template self.now ss position tree.nop)) }
     {
         self.push_plain_tell(position as i32, GroupName::Nop, code)?;
-        push_each(code, [Instr::Nop])
+        push_one(code, Instr::Nop)
     }
 
     // An instruction that reads or writes a local, whose value is told behind it.
@@ -226,7 +226,7 @@ impl<'m> Setting<'m> {
         requires { position < 2 ^ 31 }
         ensures { OnOk result (code.new.items ≡ code.old.items ++ instr ∷ instrs (local_code self.now position op local)) }
     {
-        push_each(code, [instr])?;
+        push_one(code, instr)?;
         self.push_local(op, local, position, code)
     }
 
@@ -242,7 +242,7 @@ impl<'m> Setting<'m> {
         requires { position < 2 ^ 31 }
         ensures { OnOk result (code.new.items ≡ code.old.items ++ instr ∷ instrs (global_code self.now position op global)) }
     {
-        push_each(code, [instr])?;
+        push_one(code, instr)?;
         self.push_global(op, global, position, code)
     }
 

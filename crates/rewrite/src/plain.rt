@@ -25,7 +25,7 @@ use crate::watching::Keeping;
 use branch_resolve::Scopes;
 use hook_mono::HookKey;
 use hook_select::GroupName;
-use i64_split::{Temp, push_each, push_value, push_values, save_in};
+use i64_split::{Temp, push_one, push_two, push_value, push_values, save_in};
 use module_ast::code::Instr;
 use module_ast::ops::{LoadOp, MemArg, StoreOp};
 use std::alloc::{AllocError, Global};
@@ -46,7 +46,7 @@ impl<'m> Setting<'m> {
     {
         let instr = Instr::Load(op, arg);
         if !self.has(GroupName::Load) {
-            return push_each(code, [instr]);
+            return push_one(code, instr);
         }
         let key = HookKey::Load(op);
         let temps = self.two_temps(ValType::I32, op.ty());
@@ -76,7 +76,7 @@ impl<'m> Setting<'m> {
     {
         let instr = Instr::Store(op, arg);
         if !self.has(GroupName::Store) {
-            return push_each(code, [instr]);
+            return push_one(code, instr);
         }
         let key = HookKey::Store(op);
         let temps = self.two_temps(ValType::I32, op.ty());
@@ -117,7 +117,7 @@ impl<'m> Setting<'m> {
     {
         let instr = Instr::Num(op);
         if !self.has(GroupName::Unary) {
-            return push_each(code, [instr]);
+            return push_one(code, instr);
         }
         let key = HookKey::Num(op);
         let temps = self.two_temps(a, op.result_type());
@@ -141,7 +141,7 @@ impl<'m> Setting<'m> {
     {
         let instr = Instr::Num(op);
         if !self.has(GroupName::Binary) {
-            return push_each(code, [instr]);
+            return push_one(code, instr);
         }
         let key = HookKey::Num(op);
         let temps = self.three_temps(a, b, op.result_type());
@@ -199,10 +199,10 @@ impl<'m> Setting<'m> {
     {
         let made = self.remap.map(func);
         if !self.has(GroupName::Call) {
-            return push_each(code, [Instr::Call(made)]);
+            return push_one(code, Instr::Call(made));
         }
         self.push_pre(alloc, position, func, params, code)?;
-        push_each(code, [Instr::Call(made)])?;
+        push_one(code, Instr::Call(made))?;
         self.push_post(alloc, position, results, code)
     }
 
@@ -239,7 +239,7 @@ impl<'m> Setting<'m> {
         ensures { OnOk result (code.new.items ≡ code.old.items ++ instrs (indirect_template self.now position ty (record { params = params.now; results = results.now }))) }
     {
         if !self.has(GroupName::Call) {
-            return push_each(code, [Instr::CallIndirect(ty)]);
+            return push_one(code, Instr::CallIndirect(ty));
         }
         let types = with_slot(alloc, params)?;
         let temps = self.pool.temps(alloc, &types, 0)?;
@@ -265,7 +265,7 @@ impl<'m> Setting<'m> {
             [slot, args @ ..] => self.push_in_slot(
                 alloc, ty, params, results, *slot, args, position, code,
             ),
-            [] => push_each(code, [Instr::CallIndirect(ty)]),
+            [] => push_one(code, Instr::CallIndirect(ty)),
         }
     }
 
@@ -285,10 +285,10 @@ impl<'m> Setting<'m> {
         requires room { HasTemps self.now.pool 0 results.now }
         ensures { OnOk result (code.new.items ≡ code.old.items ++ instrs (indirect_code self.now position ty (record { params = params.now; results = results.now }) (slot ∷ args.now))) }
     {
-        push_each(code, [Instr::LocalSet(slot.local)])?;
+        push_one(code, Instr::LocalSet(slot.local))?;
         save_in(code, args)?;
         self.push_slot_pre(alloc, position, ty, params, slot, args, code)?;
-        push_each(code, [Instr::LocalGet(slot.local), Instr::CallIndirect(ty)])?;
+        push_two(code, Instr::LocalGet(slot.local), Instr::CallIndirect(ty))?;
         self.push_post(alloc, position, results, code)
     }
 
@@ -323,7 +323,7 @@ impl<'m> Setting<'m> {
         ensures { OnOk result (code.new.items ≡ code.old.items ++ instrs (tell self.now position key.now ((constant ty ∷ word_code slot.ty slot.local) ++ words_code args.now))) }
     {
         self.push_location(position, code)?;
-        push_each(code, [Instr::I32Const(ty.cast_signed())])?;
+        push_one(code, Instr::I32Const(ty.cast_signed()))?;
         push_value(code, slot.ty, slot.local)?;
         push_values(code, args)?;
         self.push_call(key, code)

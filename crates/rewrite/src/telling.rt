@@ -15,7 +15,7 @@ use crate::setting::Setting;
 use branch_resolve::EndOf;
 use hook_mono::HookKey;
 use hook_select::GroupName;
-use i64_split::{Temp, push_each, push_values};
+use i64_split::{Temp, push_one, push_two, push_values};
 use module_ast::code::Instr;
 use std::alloc::AllocError;
 use wasm_num::BlockKind;
@@ -25,7 +25,7 @@ fn push_constants(code: &mut Vec<Instr>, words: &[u32]) -> Result<(), AllocError
     ensures { OnOk result (code.new.items ≡ code.old.items ++ instrs (map constant words.now)) }
 {
     for word in words {
-        code.push(Instr::I32Const(word.cast_signed()))?;
+        push_one(code, Instr::I32Const(word.cast_signed()))?;
     }
     Ok(())
 }
@@ -40,7 +40,7 @@ impl<'m> Setting<'m> {
         ensures { OnOk result (code.new.items ≡ code.old.items ++ instrs (constant self.now.site.func ∷ i32_const position ∷ [])) }
     {
         let func = self.site.func().cast_signed();
-        push_each(code, [Instr::I32Const(func), Instr::I32Const(position)])
+        push_two(code, Instr::I32Const(func), Instr::I32Const(position))
     }
 
     /// The index of a hook's function.
@@ -54,7 +54,7 @@ impl<'m> Setting<'m> {
     pub(crate) fn push_call(&self, key: &HookKey, code: &mut Vec<Instr>) -> Result<(), AllocError>
         ensures { OnOk result (code.new.items ≡ code.old.items ++ instrs (call (hook_index self.now key.now) ∷ [])) }
     {
-        push_each(code, [Instr::Call(self.hook_index(key))])
+        push_one(code, Instr::Call(self.hook_index(key)))
     }
 
     /// Adds the call of a hook at a position with these constants and the words of these temporaries.
@@ -112,7 +112,7 @@ impl<'m> Setting<'m> {
             return Ok(());
         }
         self.push_location(block.end, code)?;
-        push_each(code, [Instr::I32Const(block.begin)])?;
+        push_one(code, Instr::I32Const(block.begin))?;
         self.push_call(&HookKey::End(block.kind), code)
     }
 

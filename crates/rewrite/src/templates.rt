@@ -15,7 +15,7 @@ ghost use Rattle.rewrite.specs.Emitted.{HasRoom};
 use crate::setting::Setting;
 use hook_mono::HookKey;
 use hook_select::GroupName;
-use i64_split::{Temp, push_each, save_in};
+use i64_split::{Temp, push_one, push_three, save_in};
 use module_ast::code::Instr;
 use module_ast::ops::VarOp;
 use module_ast::seq::Seq;
@@ -128,7 +128,7 @@ impl<'m> Setting<'m> {
         }
         let ty = self.site.global_type(global);
         self.push_location(position as i32, code)?;
-        push_each(code, [Instr::I32Const(global.cast_signed())])?;
+        push_one(code, Instr::I32Const(global.cast_signed()))?;
         push_global_words(ty, global, code)?;
         self.push_call(&HookKey::Global(op, ty), code)
     }
@@ -140,7 +140,7 @@ pub fn push_tee(temps: &[Temp], code: &mut Vec<Instr>) -> Result<(), AllocError>
     ensures { OnOk result (code.new.items ≡ code.old.items ++ instrs (tee_code temps.now)) }
 {
     match temps {
-        [a] => push_each(code, [Instr::LocalTee(a.local)]),
+        [a] => push_one(code, Instr::LocalTee(a.local)),
         _ => Ok(()),
     }
 }
@@ -150,17 +150,18 @@ fn push_global_words(ty: ValType, global: u32, code: &mut Vec<Instr>) -> Result<
     ensures { OnOk result (code.new.items ≡ code.old.items ++ instrs (words_by (tree.global_get global) ty)) }
 {
     match ty {
-        ValType::I32 => push_each(code, [Instr::GlobalGet(global)]),
-        ValType::I64 => push_each(
-            code,
-            [
+        ValType::I32 => push_one(code, Instr::GlobalGet(global)),
+        ValType::I64 => {
+            let wrap = Instr::Num(NumOp::I32WrapI64);
+            push_three(
+                code,
                 Instr::GlobalGet(global),
-                Instr::Num(NumOp::I32WrapI64),
+                wrap,
                 Instr::GlobalGet(global),
-                Instr::I64Const(32),
-                Instr::Num(NumOp::I64ShrU),
-                Instr::Num(NumOp::I32WrapI64),
-            ],
-        ),
+            )?;
+            let shift = Instr::Num(NumOp::I64ShrU);
+            let wrap = Instr::Num(NumOp::I32WrapI64);
+            push_three(code, Instr::I64Const(32), shift, wrap)
+        }
     }
 }

@@ -10,7 +10,7 @@ ghost use Rattle.rewrite.specs.Emitted.{kept_code, one_if_same};
 
 use crate::setting::Setting;
 use hook_mono::HookKey;
-use i64_split::{Temp, push_each};
+use i64_split::{Temp, push_one, push_three, push_two};
 use module_ast::code::Instr;
 use std::alloc::AllocError;
 use wasm_num::ValType;
@@ -49,21 +49,22 @@ fn push_around(instr: Instr, temps: &[Temp], code: &mut Vec<Instr>) -> Result<()
     ensures { OnOk result ((i : Plain) → instr ≡ instr_of i → code.new.items ≡ code.old.items ++ instrs (num_code i temps.now)) }
 {
     match temps {
-        [a, r] => push_each(
+        [a, r] => push_three(
             code,
-            [Instr::LocalTee(a.local), instr, Instr::LocalTee(r.local)],
+            Instr::LocalTee(a.local),
+            instr,
+            Instr::LocalTee(r.local),
         ),
-        [a, b, r] => push_each(
-            code,
-            [
-                Instr::LocalSet(b.local),
-                Instr::LocalTee(a.local),
+        [a, b, r] => {
+            push_two(code, Instr::LocalSet(b.local), Instr::LocalTee(a.local))?;
+            push_three(
+                code,
                 Instr::LocalGet(b.local),
                 instr,
                 Instr::LocalTee(r.local),
-            ],
-        ),
-        _ => push_each(code, [instr]),
+            )
+        }
+        _ => push_one(code, instr),
     }
 }
 
@@ -72,8 +73,8 @@ fn push_result(instr: Instr, temps: &[Temp], code: &mut Vec<Instr>) -> Result<()
     ensures { OnOk result ((i : Plain) → instr ≡ instr_of i → code.new.items ≡ code.old.items ++ instrs (result_code i temps.now)) }
 {
     match temps {
-        [r] => push_each(code, [instr, Instr::LocalTee(r.local)]),
-        _ => push_each(code, [instr]),
+        [r] => push_two(code, instr, Instr::LocalTee(r.local)),
+        _ => push_one(code, instr),
     }
 }
 
@@ -82,16 +83,11 @@ fn push_store(instr: Instr, temps: &[Temp], code: &mut Vec<Instr>) -> Result<(),
     ensures { OnOk result ((i : Plain) → instr ≡ instr_of i → code.new.items ≡ code.old.items ++ instrs (store_code i temps.now)) }
 {
     match temps {
-        [a, v] => push_each(
-            code,
-            [
-                Instr::LocalSet(v.local),
-                Instr::LocalTee(a.local),
-                Instr::LocalGet(v.local),
-                instr,
-            ],
-        ),
-        _ => push_each(code, [instr]),
+        [a, v] => {
+            push_two(code, Instr::LocalSet(v.local), Instr::LocalTee(a.local))?;
+            push_two(code, Instr::LocalGet(v.local), instr)
+        }
+        _ => push_one(code, instr),
     }
 }
 
@@ -100,8 +96,8 @@ fn push_drop(temps: &[Temp], code: &mut Vec<Instr>) -> Result<(), AllocError>
     ensures { OnOk result (code.new.items ≡ code.old.items ++ instrs (drop_code temps.now)) }
 {
     match temps {
-        [a] => push_each(code, [Instr::LocalSet(a.local)]),
-        _ => push_each(code, [Instr::Drop]),
+        [a] => push_one(code, Instr::LocalSet(a.local)),
+        _ => push_one(code, Instr::Drop),
     }
 }
 
@@ -110,18 +106,21 @@ fn push_select(temps: &[Temp], code: &mut Vec<Instr>) -> Result<(), AllocError>
     ensures { OnOk result (code.new.items ≡ code.old.items ++ instrs (select_code temps.now)) }
 {
     match temps {
-        [a, b, c] => push_each(
-            code,
-            [
+        [a, b, c] => {
+            push_three(
+                code,
                 Instr::LocalSet(c.local),
                 Instr::LocalSet(b.local),
                 Instr::LocalTee(a.local),
+            )?;
+            push_three(
+                code,
                 Instr::LocalGet(b.local),
                 Instr::LocalGet(c.local),
                 Instr::Select,
-            ],
-        ),
-        _ => push_each(code, [Instr::Select]),
+            )
+        }
+        _ => push_one(code, Instr::Select),
     }
 }
 

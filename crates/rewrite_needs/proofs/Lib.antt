@@ -6,4 +6,3 @@ pub mod Chained
 mod Needing
 pub mod TempsPlaced
 mod Room
-mod NoneNeeded

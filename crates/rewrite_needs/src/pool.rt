@@ -255,7 +255,7 @@ impl Measured {
 }
 
 // How many temporaries of each type one template of the function needs at most, gone over place by place.
-fn walked_room(site: &Site, hooks: Hooks) -> Room
+fn room_of(site: &Site, hooks: Hooks) -> Room
     requires { code_size site.now.body.code + 1 ≤ 268435456 }
     ensures { result ≡ widened no_room (body_temps hooks site.now) }
 {
@@ -268,20 +268,9 @@ fn walked_room(site: &Site, hooks: Hooks) -> Room
     end.or_types(hooks.has(GroupName::Return), site.results())
 }
 
-// How many temporaries of each type one template of the function needs at most: none where no group is selected.
-fn room_of(site: &Site, hooks: Hooks) -> Room
-    requires { code_size site.now.body.code + 1 ≤ 268435456 }
-    ensures { result ≡ widened no_room (body_temps hooks site.now) }
-{
-    if hooks == Hooks::none() {
-        return Room { ints: 0, longs: 0 };
-    }
-    walked_room(site, hooks)
-}
-
 /// The temporaries that the hooks of a function need where these groups are selected: behind the function's own locals, as
 /// many of each type as one template needs at most. The body has at most 2 ^ 28 positions, and all locals with these have
-/// numbers below 2 ^ 32. It takes time in proportion to the body, or constant time where no group is selected.
+/// numbers below 2 ^ 32. It takes time in proportion to the body.
 pub fn pool_of(site: &Site, hooks: Hooks) -> Pool
     requires few { code_size site.now.body.code + 1 ≤ 268435456 }
     requires fits { let pool = pool_of hooks site.now in pool.base + pool.ints + pool.longs < 2 ^ 32 }

@@ -1,12 +1,12 @@
-use Rattle.std.proofs.Common.{◌≡◌, sym, ap, subst, ◌∙◌}
-use Rattle.wasm_sem.specs.Types.{Hooks}
-use Rattle.rewrite_needs.specs.Temporaries.{body_temps}
-use Rattle.rewrite_needs.specs.Room.{widened, no_room}
-use Rattle.rewrite_needs.proofs.NoneNeeded.{same_hooks, none_temps}
+use Rattle.std.proofs.Common.{◌∙◌, ap}
+use Rattle.wasm_sem.specs.Types.{Body}
+use Rattle.rewrite_needs.specs.Room.{behind_code}
+use Rattle.rewrite_needs.proofs.Room.{entry, last_room, body_measured}
 use Rattle.rewrite_needs.proofs.pool.room_of.Goals as goal
 
-pub returns-then-eq : goal.returns-then-eq
-returns-then-eq c =
-    let none = same_hooks c.args.hooks c.none.result c.if-eq.ensures ∙ c.none.ensures in
+pub returns : goal.returns
+returns c =
+    let hooks = c.args.hooks in
     let s = c.args.site.now in
-    subst (λ (hooks : Hooks). no_room ≡ widened no_room (body_temps hooks s)) (sym none) (ap (widened no_room) (sym (none_temps s)))
+    let end = c.behind_code-end.ensures ∙ ap (λ (b : Body). behind_code hooks s b.code entry) c.body.ensures in
+    c.or_types.ensures ∙ last_room _ _ _ _ _ _ end c.has.ensures c.results.ensures ∙ body_measured hooks s

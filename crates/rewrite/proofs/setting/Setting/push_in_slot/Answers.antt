@@ -15,10 +15,10 @@ returns c =
     let p = c.args.position in
     let slot = c.args.slot in
     let old = c.args.code.now.items in
-    let one = c.push_each.new.code.items in
+    let one = c.push_one.new.code.items in
     let two = c.save_in.new.code.items in
     let three = c.push_slot_pre.new.code.items in
-    let four = c.push_each-2.new.code.items in
+    let four = c.push_two.new.code.items in
     let new = c.push_post.new.code.items in
     let first = local_set slot.local ∷ [] in
     let saved = save_code c.args.args.now in
@@ -29,6 +29,6 @@ returns c =
     added_two old four new (((first ++ saved) ++ told) ++ called) last
     (added_two old three four ((first ++ saved) ++ told) called
     (added_two old two three (first ++ saved) told
-    (added_two old one two first saved c.in_ok-push_each.ensures.added c.in_ok-save_in.ensures.added)
-    c.in_ok-push_slot_pre.ensures) c.in_ok-push_each-2.ensures.added) end
+    (added_two old one two first saved c.in_ok-push_one.ensures.added c.in_ok-save_in.ensures.added)
+    c.in_ok-push_slot_pre.ensures) c.in_ok-push_two.ensures.added) end
     ∙ ap (λ (is : List Plain). old ++ instrs (local_set slot.local ∷ is)) (append_assoc (saved ++ told) called last)) c.push_post.ensures

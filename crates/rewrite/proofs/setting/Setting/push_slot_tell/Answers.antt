@@ -18,10 +18,10 @@ returns c =
     let word = word_code c.args.slot.ty c.args.slot.local in
     let words = words_code c.args.args.now in
     let located : c.push_location.new.code.items ≡ old ++ instrs at = search rules in
-    let typed : c.push_each.new.code.items ≡ c.push_location.new.code.items ++ instrs (constant c.args.ty ∷ []) = search rules in
+    let typed : c.push_one.new.code.items ≡ c.push_location.new.code.items ++ instrs (constant c.args.ty ∷ []) = search rules in
     on_ok_weaker c.push_call.result (λ (told : new ≡ four ++ instrs (call (hook_index w c.args.key.now) ∷ [])).
     added_two old four new (((at ++ constant c.args.ty ∷ []) ++ word) ++ words) _
     (added_two old three four ((at ++ constant c.args.ty ∷ []) ++ word) words
-    (added_two old c.push_each.new.code.items three (at ++ constant c.args.ty ∷ []) word
-    (added_two old c.push_location.new.code.items c.push_each.new.code.items at (constant c.args.ty ∷ []) located typed)
+    (added_two old c.push_one.new.code.items three (at ++ constant c.args.ty ∷ []) word
+    (added_two old c.push_location.new.code.items c.push_one.new.code.items at (constant c.args.ty ∷ []) located typed)
     c.in_ok-push_value.ensures.added) c.in_ok-push_values.ensures.added) told) c.push_call.ensures

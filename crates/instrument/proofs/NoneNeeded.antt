@@ -6,15 +6,15 @@ use Rattle.wasm_num.specs.Shapes.{num_operands, num_result}
 use Rattle.module_ast.specs.Lists.{when}
 use Rattle.module_ast.specs.Places.{Place, Opcode, acts, opens, closes, places}
 use Rattle.module_ast.specs.Structure.{Plain, num}
-use Rattle.wasm_sem.specs.Types.{ValType, BlockKind, GroupName, Hooks, HookKey}
+use Rattle.wasm_sem.specs.Types.{ValType, BlockKind, Module, GroupName, Hooks, HookKey}
 use Rattle.hook_select.specs.declared.GroupName.TheVariants as groups
 use Rattle.hook_select.specs.Groups.{has, hooks_of}
 use Rattle.hook_mono.specs.declared.HookKey.TheVariants as keys
 use Rattle.hook_mono.specs.Keys.{is_wanted, key_group, num_group, distinct_keys}
-use Rattle.hook_mono.specs.Needed.{Site, needs_of, live_keys}
+use Rattle.hook_mono.specs.Needed.{Site, sites, live_keys, wanted_keys, needed_keys}
 use Rattle.rewrite_needs.specs.Temporaries.{plain_temps, open_temps, close_temps, opcode_temps, place_temps, body_temps}
 
-abbrev none : Hooks
+abbrev pub none : Hooks
 none = hooks_of (λ g. false)
 
 both : (a b : Bool) → true ≡ a && b → (true ≡ a) × (true ≡ b)
@@ -57,7 +57,7 @@ none_has : (g : GroupName) → has none g ≡ false
 none_has groups.Start = refl
 none_has g = refl
 
-none_wanted : (key : HookKey) → is_wanted none key ≡ false
+pub none_wanted : (key : HookKey) → is_wanted none key ≡ false
 none_wanted (keys.Plain groups.BrTable) = refl
 none_wanted (keys.Plain g) = none_has g
 none_wanted key = none_has (key_group key)
@@ -66,8 +66,12 @@ none_left : (keys : List HookKey) → filter (is_wanted none) keys ≡ []
 none_left [] = refl
 none_left (key ∷ keys) = search (none_wanted key, none_left keys)
 
-pub none_needed : (s : Site) → needs_of none s ≡ []
-none_needed s = ap distinct_keys (none_left (flat_map (live_keys s) (places s.body.code)))
+none_of : (ss : List Site) → flat_map (wanted_keys none) ss ≡ []
+none_of [] = refl
+none_of (s ∷ ss) = ap₂ (λ (l r : List HookKey). l ++ r) (none_left (flat_map (live_keys s) (places s.body.code))) (none_of ss)
+
+pub none_needed : (m : Module) → needed_keys m none ≡ []
+none_needed m = ap distinct_keys (none_of (sites m))
 
 -- ---- no temporary
 
