@@ -29,7 +29,7 @@ use Rattle.app_runs.specs.Treeing.{Grows, MayGrow, StandsGrown}
 
 -- ---- what hears of events alone
 
-by_events : (S F : Type 0) (hears : List Event → S → S → Type 0) (ready : List Event → S → Type 0) (stands : List Event → S → F → S → Type 0) (wants : F → Type 0)
+pub by_events : (S F : Type 0) (hears : List Event → S → S → Type 0) (ready : List Event → S → Type 0) (stands : List Event → S → F → S → Type 0) (wants : F → Type 0)
     → Listens Event S F hears ready stands wants
     → Listens TraceItem S F (λ is. hears (events_in is)) (λ is. ready (events_in is)) (λ is. stands (events_in is)) wants
 by_events S F hears ready stands wants l = record {

@@ -125,7 +125,7 @@ fn fed_call(alloc: Global, valid: &ValidModule, info: &Info) -> Option<Fed>
 }
 
 // The information with these bytes, where it belongs to a module.
-fn info_of(alloc: Global, valid: &ValidModule, bytes: &[u8]) -> Option<Info>
+pub(crate) fn info_of(alloc: Global, valid: &ValidModule, bytes: &[u8]) -> Option<Info>
     ensures formed { IfSome result IsWellFormed }
     ensures belongs { IfSome result (λ info. Belongs info valid.now) }
 {
@@ -143,7 +143,11 @@ fn fed_informed(alloc: Global, valid: &ValidModule, text: &[u8]) -> Option<Fed> 
 }
 
 // The valid module with these bytes, which are few.
-fn valid_of<R: Threads + Sync>(rt: &R, alloc: Global, file: &[u8]) -> Option<ValidModule> {
+pub(crate) fn valid_of<R: Threads + Sync>(
+    rt: &R,
+    alloc: Global,
+    file: &[u8],
+) -> Option<ValidModule> {
     if file.len() > 1_000 {
         return None;
     }

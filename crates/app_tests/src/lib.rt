@@ -17,6 +17,8 @@ mod files;
 #[cfg(test)]
 mod following;
 #[cfg(test)]
+mod growths;
+#[cfg(test)]
 mod hook_calls;
 #[cfg(test)]
 mod hooks;

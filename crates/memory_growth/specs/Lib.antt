@@ -1,0 +1,3 @@
+pub mod Growths
+pub mod Listens
+pub mod Lines

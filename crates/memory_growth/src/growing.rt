@@ -1,0 +1,128 @@
+// The growths of the memory in a run, counted by function.
+
+ghost use Rattle.std.specs.Prelude.{◌≡◌, ◌+◌, ◌^◌, ◌<◌, IfOk, IfErr, IfSome, OnOk, OnErr, Some};
+ghost use Rattle.wasm_sem.specs.Execution.{summary_of, IsScriptInRange, Links, link};
+ghost use Rattle.run_session.specs.Linking.{TellsRefusal};
+ghost use Rattle.run_session.specs.Sessions.{told_outcome};
+ghost use Rattle.static_info.specs.Belongs.{Belongs};
+ghost use Rattle.static_info.specs.Form.{IsWellFormed};
+ghost use Rattle.app_runs.specs.Reporting.{events_told};
+ghost use Rattle.memory_growth.specs.Growths.{once_more, with_growth, growths, HaveRoom};
+
+use app_runs::{Item, Listener, tell_run};
+use hook_select::Event;
+use run_session::{LinkFault, Outcome, Session};
+use static_info::Info;
+use std::alloc::Global;
+use std::collections::BTreeMap;
+use wasm_num::NoMemory;
+use wasm_sem::Script;
+use wasm_valid::ValidModule;
+
+/// How often a function executed `memory.grow`, and how often the answer was -1. (Standard, 4.4.4)
+#[derive(Clone, Copy, Debug, PartialEq, Eq)]
+pub struct Growth {
+    pub times: u64,
+    pub refused: u64,
+}
+
+// One more, behind those so far.
+fn once_more(before: Option<Growth>, refused: bool) -> Growth
+    requires times { IfSome before (λ g. g.times + 1 < 2 ^ 64) }
+    requires refused { IfSome before (λ g. g.refused + 1 < 2 ^ 64) }
+    ensures { result ≡ once_more before refused }
+{
+    let refused = u64::from(refused);
+    match before {
+        Some(growth) => Growth {
+            times: growth.times + 1,
+            refused: growth.refused + refused,
+        },
+        None => Growth { times: 1, refused },
+    }
+}
+
+// What each function has done so far.
+#[derive(Drop)]
+struct Growths {
+    functions: BTreeMap<u32, Growth>,
+}
+
+impl Growths {
+    // Counts one more of a function. An `Err` comes where there is no memory for a new function, and changes nothing.
+    fn count(&mut self, func: u32, refused: bool) -> Result<(), NoMemory>
+        requires { HaveRoom 1 self.old.functions.entries }
+        ensures counted { OnOk result (self.new.functions.entries ≡ with_growth (Some (func, refused)) self.old.functions.entries) }
+        ensures kept { OnErr result (self.new.functions.entries ≡ self.old.functions.entries) }
+    {
+        let growth = once_more(self.functions.get(&func).copied(), refused);
+        self.functions.insert(func, growth)?;
+        Ok(())
+    }
+}
+
+impl Listener for Growths {
+    ghost use Rattle.std.specs.Prelude.{List, ℕ, length};
+    ghost use Rattle.wasm_sem.specs.Execution.{events_in};
+    ghost use Rattle.memory_growth.specs.declared.growing.Growth.{Growth};
+    ghost use Rattle.memory_growth.specs.Growths.{Counts, HaveRoom, CountsFirst};
+    ghost use Rattle.memory_growth.specs.Listens.{growths_listen};
+
+    type Fault = NoMemory;
+
+    ghost Seen = { List (ℕ × Growth) };
+
+    ghost seen = { λ g. g.functions.entries };
+
+    ghost hears = { λ is. Counts (events_in is) };
+
+    ghost ready = { λ is. HaveRoom (length (events_in is)) };
+
+    ghost stands = { λ is. CountsFirst (events_in is) };
+
+    fn hear(&mut self, item: Item<'_>) -> Result<(), NoMemory> {
+        match item {
+            Item::Event(Event::MemoryGrow { loc, previous, .. }) => {
+                self.count(loc.func, *previous == u32::MAX)
+            }
+            Item::Event(_) | Item::Entry { .. } | Item::Host { .. } => Ok(()),
+        }
+    }
+
+    ghost listens = { growths_listen };
+}
+
+/// What came of a run, and which functions grew the memory in it, by rising function.
+#[derive(Drop)]
+pub struct Grown {
+    pub outcome: Outcome,
+    pub functions: BTreeMap<u32, Growth>,
+}
+
+/// Links a module with a script and runs it, to the end or for the script's steps; what came of it, with the functions
+/// of the original that its hook calls tell to have grown the memory: none where it has no hooks of the group
+/// `memory_grow`. An `Err` says why the two do not link, or comes where there is no memory.
+pub fn growth_of_run(
+    alloc: Global,
+    m: &ValidModule,
+    info: &Info,
+    script: &Script,
+) -> Result<Grown, LinkFault>
+    requires range { IsScriptInRange script.now }
+    requires formed { IsWellFormed info.now }
+    requires belongs { Belongs info.now m.now }
+    ensures links { IfOk result (λ g. Links m.now script.now) }
+    ensures ended { IfOk result (λ g. told_outcome g.outcome ≡ summary_of m.now script.now script.now.steps) }
+    ensures functions { IfOk result (λ g. g.functions.entries ≡ growths (events_told info.now m.now script.now script.now.steps)) }
+    ensures refused { IfErr result (λ fault. TellsRefusal fault (link m.now script.now)) }
+{
+    let session = Session::link(alloc, m, script)?;
+    let mut heard = Growths {
+        functions: BTreeMap::new(alloc),
+    };
+    let outcome = tell_run(alloc, session, info, &mut heard)?;
+    Ok(Grown {
+        outcome,
+        functions: heard.functions,
+    })
+}
