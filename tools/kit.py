@@ -82,9 +82,13 @@ def source_at(folder):
     return source
 
 
+# Comments and hints on inlining, which state nothing, and empty lines.
+SAYS_NOTHING = re.compile(rb"(?m)^[ \t]*(//.*|#\[(inline|cold)\b.*\])?\n")
+
+
 @functools.lru_cache(maxsize=None)
 def stated_by(folder):
-    """Returns what a crate states to those above it: its definitions, and its code without the functions' bodies."""
+    """Returns what a crate states to those above it: its definitions, and its code without private functions, bodies and comments."""
     found = []
     for file in files_in(folder, ("specs",)):
         found.append((os.path.relpath(file, folder), rtlib.text_of(file)))
@@ -92,9 +96,10 @@ def stated_by(folder):
     for file, data in sorted(source.data.items()):
         kept, at = b"", 0
         for f in sorted((it for it in source.functions if it.file == file and it.has_body), key=lambda it: it.opens):
-            if f.opens >= at:
-                kept, at = kept + data[at : f.opens], f.end
-        found.append((file, kept + data[at:]))
+            begins = f.opens if f.is_pub else f.first
+            if begins >= at:
+                kept, at = kept + data[at:begins], f.end
+        found.append((file, SAYS_NOTHING.sub(b"", kept + data[at:])))
     return found
 
 
