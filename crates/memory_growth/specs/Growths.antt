@@ -39,12 +39,12 @@ abbrev pub Counts : List Event → (old new : List (ℕ × Growth)) → Type 0
 Counts es old new = new ≡ fold growths_after old es
 
 -- so many more can be counted
-abbrev pub HasRoom : ℕ → Growth → Type 0
-HasRoom n g = (g.times + n < 2 ^ 64) × (g.refused + n < 2 ^ 64)
+abbrev pub MayCount : ℕ → Growth → Type 0
+MayCount n g = (g.times + n < 2 ^ 64) × (g.refused + n < 2 ^ 64)
 
-abbrev pub HaveRoom : ℕ → List (ℕ × Growth) → Type 0
-HaveRoom n gs = (n < 2 ^ 64) × All (HasRoom n) (values_of gs)
+abbrev pub MayCountAll : ℕ → List (ℕ × Growth) → Type 0
+MayCountAll n gs = (n < 2 ^ 64) × All (MayCount n) (values_of gs)
 
--- where memory ended, the first of them were counted
+-- when memory ended, the first of them had been counted
 abbrev pub CountsFirst : List Event → (old : List (ℕ × Growth)) → AllocError → (new : List (ℕ × Growth)) → Type 0
 CountsFirst es old fault new = (first : List Event) × (rest : List Event) × (es ≡ first ++ rest) × Counts first old new

@@ -7,7 +7,7 @@ ghost use Rattle.run_session.specs.Sessions.{told_outcome};
 ghost use Rattle.static_info.specs.Belongs.{Belongs};
 ghost use Rattle.static_info.specs.Form.{IsWellFormed};
 ghost use Rattle.app_runs.specs.Reporting.{events_told};
-ghost use Rattle.memory_growth.specs.Growths.{once_more, with_growth, growths, HaveRoom};
+ghost use Rattle.memory_growth.specs.Growths.{once_more, with_growth, growths, MayCountAll};
 
 use app_runs::{Item, Listener, tell_run};
 use hook_select::Event;
@@ -49,9 +49,9 @@ struct Growths {
 }
 
 impl Growths {
-    // Counts one more of a function. An `Err` comes where there is no memory for a new function, and changes nothing.
+    // Counts one more of a function. An `Err` comes if there is no memory for a new function, and changes nothing.
     fn count(&mut self, func: u32, refused: bool) -> Result<(), NoMemory>
-        requires { HaveRoom 1 self.old.functions.entries }
+        requires { MayCountAll 1 self.old.functions.entries }
         ensures counted { OnOk result (self.new.functions.entries ≡ with_growth (Some (func, refused)) self.old.functions.entries) }
         ensures kept { OnErr result (self.new.functions.entries ≡ self.old.functions.entries) }
     {
@@ -65,7 +65,7 @@ impl Listener for Growths {
     ghost use Rattle.std.specs.Prelude.{List, ℕ, length};
     ghost use Rattle.wasm_sem.specs.Execution.{events_in};
     ghost use Rattle.memory_growth.specs.declared.growing.Growth.{Growth};
-    ghost use Rattle.memory_growth.specs.Growths.{Counts, HaveRoom, CountsFirst};
+    ghost use Rattle.memory_growth.specs.Growths.{Counts, MayCountAll, CountsFirst};
     ghost use Rattle.memory_growth.specs.Listens.{growths_listen};
 
     type Fault = NoMemory;
@@ -76,7 +76,7 @@ impl Listener for Growths {
 
     ghost hears = { λ is. Counts (events_in is) };
 
-    ghost ready = { λ is. HaveRoom (length (events_in is)) };
+    ghost ready = { λ is. MayCountAll (length (events_in is)) };
 
     ghost stands = { λ is. CountsFirst (events_in is) };
 
@@ -100,8 +100,8 @@ pub struct Grown {
 }
 
 /// Links a module with a script and runs it, to the end or for the script's steps; what came of it, with the functions
-/// of the original that its hook calls tell to have grown the memory: none where it has no hooks of the group
-/// `memory_grow`. An `Err` says why the two do not link, or comes where there is no memory.
+/// of the original that its hook calls tell to have grown the memory: none if it has no hooks of the group
+/// `memory_grow`. An `Err` says why the two do not link, or comes if there is no memory.
 pub fn growth_of_run(
     alloc: Global,
     m: &ValidModule,
