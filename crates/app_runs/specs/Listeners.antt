@@ -22,10 +22,10 @@ use Rattle.app_plan.specs.declared.kinds.Kinds.{Kinds}
 use Rattle.app_plan.specs.Feeding.{fed, AreFedPart}
 use Rattle.app_plan.proofs.Fed.{none_fed, none_part, all_then, parts_early, parts_late, rooms_front, rooms_rest, fewer, passed_then}
 use Rattle.app_runs.specs.declared.feeding.Tally.{Tally}
-use Rattle.app_runs.specs.Feeding.{tally_of, tallied, FedState, TakesEvents, HasRoom, StandsFed}
+use Rattle.app_runs.specs.Feeding.{tally_of, tallied, FedState, TakesEvents, ToolsHaveRoom, StandsFed}
 use Rattle.app_runs.specs.Listening.{Listens}
 use Rattle.app_runs.specs.Recording.{Writes, MayWrite, StandsWritten}
-use Rattle.app_runs.specs.Treeing.{Grows, MayGrow, StandsGrown}
+use Rattle.app_runs.specs.Treeing.{TreeGrows, MayGrow, StandsGrown}
 
 -- ---- what hears of events alone
 
@@ -63,14 +63,14 @@ both_taken es fs a b c t u = record {
   counted = u.counted ∙ ap (tallied fs) t.counted ∙ sym (tallied_then es fs a.tally);
 }
 
-room_front : (es fs : List Event) (a : FedState) → HasRoom (es ++ fs) a → HasRoom es a
+room_front : (es fs : List Event) (a : FedState) → ToolsHaveRoom (es ++ fs) a → ToolsHaveRoom es a
 room_front es fs a r = record {
   tools = rooms_front (2 ^ 64) es fs a.tools r.tools;
   events = omega (arith, length-append es fs, r.events);
   strays = omega (arith, length-append es fs, r.strays);
 }
 
-room_rest : (es fs : List Event) (a b : FedState) → HasRoom (es ++ fs) a → TakesEvents es a b → HasRoom fs b
+room_rest : (es fs : List Event) (a b : FedState) → ToolsHaveRoom (es ++ fs) a → TakesEvents es a b → ToolsHaveRoom fs b
 room_rest es fs a b r t =
     let events = ap (λ (u : Tally). u.events) t.counted in
     let strays = ap (λ (u : Tally). u.strays) t.counted in
@@ -85,9 +85,9 @@ stands_late es fs a b c t part =
     parts_late a.pick es fs a.tools c.tools
     (subst (λ ts. AreFedPart a.pick fs ts c.tools) t.taken (subst (λ (k : Kinds). AreFedPart k fs b.tools c.tools) t.pick part))
 
-pub tools_listen : Listens TraceItem FedState AllocError (λ is. TakesEvents (events_in is)) (λ is. HasRoom (events_in is)) (λ is. StandsFed (events_in is)) (λ f. f ≡ alloc_error)
+pub tools_listen : Listens TraceItem FedState AllocError (λ is. TakesEvents (events_in is)) (λ is. ToolsHaveRoom (events_in is)) (λ is. StandsFed (events_in is)) (λ f. f ≡ alloc_error)
 tools_listen =
-    by_events FedState AllocError TakesEvents HasRoom StandsFed (λ f. f ≡ alloc_error)
+    by_events FedState AllocError TakesEvents ToolsHaveRoom StandsFed (λ f. f ≡ alloc_error)
     (record {
       none = λ a. record { pick = refl; taken = none_fed a.pick a.tools; counted = none_tallied a.tally };
       both = both_taken;
@@ -116,7 +116,7 @@ writer_listens =
 
 -- ---- a tree of calls
 
-pub tree_listens : Listens TraceItem TreeState TreeFault Grows MayGrow StandsGrown (λ f. f ≡ tree_faults.NoMemory)
+pub tree_listens : Listens TraceItem TreeState TreeFault TreeGrows MayGrow StandsGrown (λ f. f ≡ tree_faults.NoMemory)
 tree_listens = record {
   none = λ a. refl;
   both = both_behind;
