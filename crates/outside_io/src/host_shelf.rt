@@ -2,7 +2,8 @@
 
 ghost use Rattle.std.specs.Prelude.{◌≤◌, ◌<◌, ℕ, IfOk, IsErrOf, vec_len};
 
-use crate::streams::{read_within, write_all};
+use crate::streams::read_within;
+use crate::whole_file::write_file;
 use crate::{ReadFault, Shelf, WriteFault};
 use std::alloc::Global;
 use std::fs;
@@ -10,13 +11,13 @@ use std::rt::Files;
 
 /// The files of the machine, under their paths. It leaves its contents untold.
 #[derive(Drop)]
-pub struct HostShelf<'r, R: Files> {
+pub struct HostShelf<'r, R: Files + AllocGlobal> {
     rt: &'r R,
     read_faults: u64,
     write_faults: u64,
 }
 
-impl<'r, R: Files> HostShelf<'r, R> {
+impl<'r, R: Files + AllocGlobal> HostShelf<'r, R> {
     ghost use Rattle.std.specs.Prelude.{◌≡◌};
 
     /// The files that this runtime reaches.
@@ -32,7 +33,7 @@ impl<'r, R: Files> HostShelf<'r, R> {
     }
 }
 
-impl<R: Files> Shelf for HostShelf<'_, R> {
+impl<R: Files + AllocGlobal> Shelf for HostShelf<'_, R> {
     ghost use Rattle.std.specs.Prelude.{◌≡◌, ◌≤◌, ◌<◌, ℕ, None, IfOk, OnOk, OnErr, IsErrOf, vec_len};
     ghost use Rattle.outside_io.specs.Outside.{Holds, IsMissing, IsTooLong, Rose, Unchanged, Wrote, WrotePart};
     ghost use Rattle.outside_io.specs.Faults.{after_read, after_write};
@@ -68,7 +69,8 @@ impl<R: Files> Shelf for HostShelf<'_, R> {
         answer
     }
 
-    /// Makes a file of these bytes, in place of what it had. A refusal other than `NoMemory` is counted.
+    /// Makes a file of these bytes, in place of what it had. A refusal leaves an ordinary file as it was, and one other than
+    /// `NoMemory` is counted.
     fn write(&mut self, name: &str, bytes: &[u8]) -> Result<(), WriteFault>
         ensures written { OnOk result (Wrote name.now bytes.now None None) }
         ensures part { OnErr result (WrotePart name.now bytes.now None None) }
@@ -93,11 +95,4 @@ fn read_file<R: Files>(rt: &R, alloc: Global, name: &str, cap: u64) -> Result<Ve
 {
     let mut file = fs::open(rt, name)?;
     read_within(&mut file, alloc, cap)
-}
-
-// Makes a file of these bytes.
-fn write_file<R: Files>(rt: &R, name: &str, bytes: &[u8]) -> Result<(), WriteFault> {
-    let mut file = fs::create(rt, name)?;
-    write_all(&mut file, bytes)?;
-    Ok(())
 }

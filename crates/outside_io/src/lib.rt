@@ -9,6 +9,7 @@ mod memory_shelf;
 mod memory_sink;
 mod outside;
 mod streams;
+mod whole_file;
 
 pub use calls::Fail;
 pub use host_shelf::HostShelf;
