@@ -1,11 +1,11 @@
 -- Types of hooks, found by their number of parameters.
-use Rattle.std.proofs.Common.{◌≡◌, ℕ, ◌+◌, ◌<◌, List, [], ◌∷◌, ◌++◌, length, map, take, get_or, Some, None, Bool, true, false, cond, not, ◌==◌, ◌||◌, nat_lt, if◌then◌else◌, position, is_some, refl, sym, ap, ap₂, ◌∙◌, arith}
+use Rattle.std.proofs.Common.{◌≡◌, ℕ, ◌+◌, ◌<◌, List, [], ◌∷◌, ◌++◌, length, map, take, get_or, Some, None, Bool, true, false, cond, not, ◌==◌, nat_lt, if◌then◌else◌, position, is_some, refl, sym, ap, ap₂, ◌∙◌}
 use Rattle.std.specs.List.{list_any, position_or_len}
-use Rattle.std.proofs.lemmas.Bool.Decides.{nat_tests}
 use Rattle.std.proofs.lemmas.List.{length-map, map_more, map_push}
 use Rattle.std.proofs.lemmas.List.Sums.{fold-append}
 use Rattle.wasm_sem.specs.Types.{FuncType, HookKey}
 use Rattle.hook_mono.specs.Words.{hook_type}
+use Rattle.hook_mono.proofs.Places.{some_place}
 use Rattle.instrument.specs.Output.{find_type, with_type, distinct_types}
 
 -- ---- the first place that passes, in a mapped list
@@ -18,23 +18,6 @@ module _ {A B : Type 0} (f : A → B) (p : B → Bool) where
   pub mapped_position : (xs : List A) → position p (map f xs) ≡ position (λ (x : A). p (f x)) xs
   mapped_position xs = ap₂ (λ a b. cond (nat_lt a b) (Some a) None) (mapped_place xs) (length-map xs f)
 
--- whether there is one
-module _ {A : Type 0} (p : A → Bool) where
-  place_within : (xs : List A) → nat_lt (position_or_len p xs) (length xs) ≡ list_any p xs
-  place_within [] = refl
-  place_within (x ∷ xs) = step (p x) (place_within xs)
-    where
-      step : (b : Bool) → nat_lt (position_or_len p xs) (length xs) ≡ list_any p xs → nat_lt (cond (not b) (1 + position_or_len p xs) 0) (length (x ∷ xs)) ≡ (b || list_any p xs)
-      step true rest = grind (arith, nat_tests)
-      step false rest = grind (arith, nat_tests)
-
-  some_if : (b : Bool) (n : ℕ) → is_some (cond b (Some n) None) ≡ b
-  some_if true n = refl
-  some_if false n = refl
-
-  pub some_passes : (xs : List A) → is_some (position p xs) ≡ list_any p xs
-  some_passes xs = some_if _ (position_or_len p xs) ∙ place_within xs
-
 -- ---- types by their numbers of parameters
 
 abbrev pub width : FuncType → ℕ
@@ -45,7 +28,7 @@ type_by_width types widths t e = ap (position (λ n. width t == n)) e ∙ mapped
 
 -- whether one has as many
 any_width : (types : List FuncType) (widths : List ℕ) (t : FuncType) → widths ≡ map width types → list_any (λ n. width t == n) widths ≡ is_some (find_type types t)
-any_width types widths t e = sym (some_passes (λ n. width t == n) widths) ∙ ap is_some (type_by_width types widths t e)
+any_width types widths t e = sym (some_place (λ n. width t == n) widths) ∙ ap is_some (type_by_width types widths t e)
 
 -- types and widths with one more type
 pub record HasType (types : List FuncType) (t : FuncType) (new_types : List FuncType) (new_widths : List ℕ) : Type 0 where

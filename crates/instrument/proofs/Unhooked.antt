@@ -1,7 +1,6 @@
 -- Where no group is selected, the output is the module as it is, without its custom sections.
-use Rattle.std.proofs.Common.{◌≡◌, ℕ, ◌+◌, ℤ, pos, List, [], ◌∷◌, ◌++◌, length, map, Bool, true, false, cond, nat_lt, Option, Some, None, option_map, refl, sym, ap, ap₂, ◌∙◌, arith}
+use Rattle.std.proofs.Common.{◌≡◌, ℕ, ◌+◌, List, [], ◌∷◌, ◌++◌, length, map, Bool, true, false, cond, nat_lt, Option, Some, None, option_map, refl, sym, ap, ap₂, ◌∙◌, arith}
 use Rattle.std.proofs.lemmas.List.{append-nil}
-use Rattle.wasm_num.specs.declared.BlockKind.{BlockKind}
 use Rattle.wasm_sem.specs.Types.{Body, Module}
 use Rattle.module_ast.specs.Lists.{when}
 use Rattle.module_ast.specs.Places.{Scope, block_scope, loop_scope, if_scope, then_scope, else_scope, function_scope, goes_on, left_by}
@@ -15,10 +14,10 @@ use Rattle.hook_mono.specs.declared.HookKey.TheVariants as keys
 use Rattle.hook_mono.specs.Needed.{Site, import_count, site_of, sites_from}
 use Rattle.i64_split.specs.Split.{ints_in, longs_in, pool_groups}
 use Rattle.index_remap.specs.declared.Remap.{Remap}
-use Rattle.index_remap.specs.Remap.{map_index, map_plain, map_tree, map_reference, map_export, map_element, map_module}
-use Rattle.rewrite_needs.specs.Temporaries.{greatest, body_temps}
+use Rattle.index_remap.specs.Remap.{map_index, map_plain, map_tree, map_reference, map_export, map_element}
+use Rattle.rewrite_needs.specs.Temporaries.{greatest}
 use Rattle.rewrite.specs.Setting.{Setting, tell_ends}
-use Rattle.rewrite.specs.Templates.{template, end_code, num_code}
+use Rattle.rewrite.specs.Templates.{template, end_code}
 use Rattle.rewrite.specs.Rewrite.{instr_code, live_code, setting_of, rewritten_code, rewritten_body}
 use Rattle.instrument.specs.Output.{output_body, output_with, output_bytes}
 use Rattle.instrument.specs.Plan.{Plan}

@@ -170,7 +170,7 @@ plain_added F G w ss p Return t h n put = absurd n
 plain_added F G w ss p i t h n put = put (rest_code w ss (goes_on_by i) (p + 1) t)
 
 -- one that passes ends, and the hook calls before it
-plains_joined : (is js : List Plain) (t : Tree) → plains (is ++ js) t ≡ plains is (plains js t)
+pub plains_joined : (is js : List Plain) (t : Tree) → plains (is ++ js) t ≡ plains is (plains js t)
 plains_joined [] js t = refl
 plains_joined (i ∷ is) js t = ap (plain i) (plains_joined is js t)
 

@@ -1,7 +1,7 @@
 -- What the rewriting of a function asks.
 use Rattle.std.specs.Prelude.{◌≡◌, ℕ, ◌+◌, ◌^◌, ◌<◌, ◌≤◌, List, length, slice_get, Some}
 use Rattle.wasm_sem.specs.Types.{Module, Hooks, HookKey}
-use Rattle.module_ast.specs.Places.{code_size, code_nesting}
+use Rattle.module_ast.specs.Places.{code_size}
 use Rattle.hook_mono.specs.Needed.{Site, sites}
 use Rattle.index_remap.specs.Remap.{Maps}
 use Rattle.rewrite.specs.Setting.{Setting, remap}
@@ -21,6 +21,5 @@ CanRewrite m defined hooks keys imports = (s : Site) → slice_get (sites m) def
 -- a function that is rewritten: a body that a file can have, and the temporaries that it needs
 pub record IsReady (w : Setting) : Type 0 where
   pub few : code_size w.site.body.code + 1 ≤ 268435456
-  pub flat : code_nesting w.site.body.code ≤ 1002
   pub pool : w.pool ≡ pool_of w.hooks w.site
   pub numbers : HasNumbers w

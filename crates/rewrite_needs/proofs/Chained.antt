@@ -32,48 +32,42 @@ abbrev pub AreChained : List BlockKind → List Place → Type 0
 AreChained ks [] = Unit {0}
 AreChained ks (x ∷ xs) = (ks ≡ kinds_before x) × AreChained (kinds_behind x) xs
 
-module _ (ks : List BlockKind) where
-  -- in two parts, and more behind them
-  regrouped : (xs ys zs : List Place) → AreChained ks (xs ++ (ys ++ zs)) → AreChained ks ((xs ++ ys) ++ zs)
-  regrouped xs ys zs h = subst (AreChained ks) (sym (append_assoc xs ys zs)) h
+-- a part of a body, the place at its end, and those behind it
+part_chained : (ks : List BlockKind) (xs : List Place) (y : Place) (ys rest : List Place) → ((zs : List Place) → AreChained (kinds_before y) zs → AreChained ks (xs ++ zs)) → AreChained (kinds_behind y) (ys ++ rest)
+    → AreChained ks ((xs ++ y ∷ ys) ++ rest)
+part_chained ks xs y ys rest inner behind = subst (AreChained ks) (sym (append_assoc xs (y ∷ ys) rest)) (inner (y ∷ (ys ++ rest)) (refl, behind))
 
 pub code_chained : (scopes : List Scope) (live : Bool) (p : ℕ) (k : Tree) (rest : List Place) → AreChained (kinds_of scopes) rest → AreChained (kinds_of scopes) (code_places scopes live p k ++ rest)
 code_chained scopes live p done rest h = h
 code_chained scopes live p (plain i k) rest h = (refl, code_chained scopes (live && goes_on i) (p + 1) k rest h)
 code_chained scopes live p (block ty body k) rest h =
-    let s = block_scope p body in
-    let behind = at s.end (ends_live live body) (closes s) scopes ∷ code_places scopes live (s.end + 1) k in (
+    let s = block_scope p body in (
       refl,
-      regrouped (s.kind ∷ kinds_of scopes) (code_places (s ∷ scopes) live (p + 1) body) behind rest
-          (code_chained (s ∷ scopes) live (p + 1) body (behind ++ rest) (refl, code_chained scopes live (s.end + 1) k rest h)),
+      part_chained (s.kind ∷ kinds_of scopes) (code_places (s ∷ scopes) live (p + 1) body) (at s.end (ends_live live body) (closes s) scopes) (code_places scopes live (s.end + 1) k) rest
+          (code_chained (s ∷ scopes) live (p + 1) body) (code_chained scopes live (s.end + 1) k rest h),
     )
 code_chained scopes live p (loop ty body k) rest h =
-    let s = loop_scope p body in
-    let behind = at s.end (ends_live live body) (closes s) scopes ∷ code_places scopes live (s.end + 1) k in (
+    let s = loop_scope p body in (
       refl,
-      regrouped (s.kind ∷ kinds_of scopes) (code_places (s ∷ scopes) live (p + 1) body) behind rest
-          (code_chained (s ∷ scopes) live (p + 1) body (behind ++ rest) (refl, code_chained scopes live (s.end + 1) k rest h)),
+      part_chained (s.kind ∷ kinds_of scopes) (code_places (s ∷ scopes) live (p + 1) body) (at s.end (ends_live live body) (closes s) scopes) (code_places scopes live (s.end + 1) k) rest
+          (code_chained (s ∷ scopes) live (p + 1) body) (code_chained scopes live (s.end + 1) k rest h),
     )
 code_chained scopes live p (if_then ty body k) rest h =
-    let s = if_scope p body in
-    let behind = at s.end (ends_live live body) (closes s) scopes ∷ code_places scopes live (s.end + 1) k in (
+    let s = if_scope p body in (
       refl,
-      regrouped (s.kind ∷ kinds_of scopes) (code_places (s ∷ scopes) live (p + 1) body) behind rest
-          (code_chained (s ∷ scopes) live (p + 1) body (behind ++ rest) (refl, code_chained scopes live (s.end + 1) k rest h)),
+      part_chained (s.kind ∷ kinds_of scopes) (code_places (s ∷ scopes) live (p + 1) body) (at s.end (ends_live live body) (closes s) scopes) (code_places scopes live (s.end + 1) k) rest
+          (code_chained (s ∷ scopes) live (p + 1) body) (code_chained scopes live (s.end + 1) k rest h),
     )
 code_chained scopes live p (if_else ty body other k) rest h =
     let a = then_scope p body other in
     let b = else_scope p body other in
-    let last = at b.end (ends_live live other) (closes b) scopes ∷ code_places scopes live (b.end + 1) k in
-    let two = code_places (b ∷ scopes) live (a.end + 1) other ++ last in
-    let behind = at a.end live (alternates a b (ends_live live body)) scopes ∷ two in (
+    let others = code_places (b ∷ scopes) live (a.end + 1) other in
+    let last = at b.end (ends_live live other) (closes b) scopes in
+    let behind = code_places scopes live (b.end + 1) k in (
       refl,
-      regrouped (a.kind ∷ kinds_of scopes) (code_places (a ∷ scopes) live (p + 1) body) behind rest
-          (code_chained (a ∷ scopes) live (p + 1) body (behind ++ rest) (
-            refl,
-            regrouped (b.kind ∷ kinds_of scopes) (code_places (b ∷ scopes) live (a.end + 1) other) last rest
-                (code_chained (b ∷ scopes) live (a.end + 1) other (last ++ rest) (refl, code_chained scopes live (b.end + 1) k rest h)),
-          )),
+      part_chained (a.kind ∷ kinds_of scopes) (code_places (a ∷ scopes) live (p + 1) body) (at a.end live (alternates a b (ends_live live body)) scopes) (others ++ last ∷ behind) rest
+          (code_chained (a ∷ scopes) live (p + 1) body)
+          (part_chained (b.kind ∷ kinds_of scopes) others last behind rest (code_chained (b ∷ scopes) live (a.end + 1) other) (code_chained scopes live (b.end + 1) k rest h)),
     )
 
 -- the places of a body begin inside no block

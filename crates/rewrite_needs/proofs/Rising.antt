@@ -5,7 +5,7 @@
 use Rattle.std.proofs.Common.{◌≡◌, ℕ, zero, suc, ◌+◌, ◌<◌, ◌≤◌, List, [], ◌∷◌, ◌++◌, length, drop, get_or, slice_get, Bool, true, false, cond, refl, ap, ◌∙◌, arith, ltb, ltb-true, ltb-false}
 use Rattle.std.specs.Prelude.{◌==◌}
 use Rattle.std.specs.List.Sorted.{IsNonDecreasingBy, IsPartitionPoint}
-use Rattle.std.proofs.lemmas.Bool.Decides.{nat_tests}
+use Rattle.std.proofs.lemmas.Bool.{ne_eqb}
 use Rattle.wasm_sem.specs.Types.{ValType}
 use Rattle.wasm_num.specs.declared.ValType.TheVariants.{I32}
 use Rattle.module_ast.specs.Lists.{when}
@@ -104,17 +104,11 @@ rises p (m ∷ ms) up zero (suc j) d le h = let behind = from_start (m.place + 1
 rises p (m ∷ ms) up (suc i) zero d le h = absurd (omega arith)
 rises p (m ∷ ms) up (suc i) (suc j) d le h = rises (m.place + 1) ms up.1 i j d (omega arith) (omega arith)
 
-differs : (a b : ℕ) → a < b → (a == b) ≡ false
-differs a b h = grind (arith, nat_tests)
-
-differs_above : (a b : ℕ) → b < a → (a == b) ≡ false
-differs_above a b h = grind (arith, nat_tests)
-
 -- marks behind a position say nothing of it
 none_behind : (x p : ℕ) (ms : List Mark) → MarksRiseFrom p ms → x < p → mark_at ms x ≡ I32
 none_behind x p [] up l = refl
 none_behind x p (m ∷ ms) up l =
-    ap (λ b. cond b m.ty (mark_at ms x)) (differs_above m.place x (omega (arith, up.0))) ∙ none_behind x (m.place + 1) ms up.1 (omega (arith, up.0))
+    ap (λ b. cond b m.ty (mark_at ms x)) (ne_eqb m.place x (λ e. omega (arith, up.0))) ∙ none_behind x (m.place + 1) ms up.1 (omega (arith, up.0))
 
 found_at : (x p i : ℕ) (ms : List Mark) → MarksRiseFrom p ms → ((k : ℕ) (d : Mark) → k < i → (get_or ms k d).place < x)
     → ((d : Mark) → i < length ms → x ≤ (get_or ms i d).place) → mark_at ms x ≡ type_in (slice_get ms i) x
@@ -123,7 +117,7 @@ found_at x p zero (m ∷ ms) up before behind =
     let h : x ≤ m.place = behind m (omega arith) in ap (λ t. cond (m.place == x) m.ty t) (none_behind x (m.place + 1) ms up.1 (omega arith))
 found_at x p (suc i) (m ∷ ms) up before behind =
     let h : m.place < x = before 0 m (omega arith) in
-    ap (λ b. cond b m.ty (mark_at ms x)) (differs m.place x h)
+    ap (λ b. cond b m.ty (mark_at ms x)) (ne_eqb m.place x (λ e. omega (arith, h)))
     ∙ found_at x (m.place + 1) i ms up.1 (λ k d l. before (suc k) d (omega arith)) (λ d l. behind d (omega arith))
 
 pub mark_found : (ms : List Mark) (x i : ℕ) → MarksRiseFrom 0 ms → IsPartitionPoint (λ (m : Mark). ltb m.place x ≡ true) (λ (m : Mark). ltb m.place x ≡ false) ms i → mark_at ms x ≡ type_in (slice_get ms i) x

@@ -4,7 +4,7 @@
 --     unended_each      the table with further keys
 --     branched      a branch needs the ends of all blocks that it leaves
 use Rattle.std.proofs.Common.{◌≡◌, ◌⊎◌, inl, inr, ℕ, suc, ◌-◌, ◌<◌, ◌≤◌, List, [], ◌∷◌, length, map, take, Bool, true, false, cond, leb, leb-true, leb-false, refl, sym, ap, ◌∙◌, subst, arith}
-use Rattle.std.proofs.lemmas.Bool.Decides.{nat_tests}
+use Rattle.std.proofs.lemmas.Bool.{le-leb, lt-leb}
 use Rattle.wasm_sem.specs.Types.{BlockKind, Hooks, HookKey}
 use Rattle.hook_mono.specs.declared.HookKey.TheVariants as keys
 use Rattle.rewrite_needs.specs.declared.needs.OpenBlock.{OpenBlock}
@@ -27,12 +27,6 @@ AreUnended hooks table [] stack = stack ≡ []
 AreUnended hooks table (k ∷ ks) stack =
     ((bs : List OpenBlock) × (stack ≡ entry_of k (length ks) ∷ bs) × AreUnended hooks table ks bs) ⊎ (IsKnown hooks table (keys.End k) × AreUnended hooks table ks stack)
 
-not_leb : (a b : ℕ) → b < a → leb a b ≡ false
-not_leb a b h = grind (arith, nat_tests)
-
-is_leb : (a b : ℕ) → a ≤ b → leb a b ≡ true
-is_leb a b h = grind (arith, nat_tests)
-
 module _ (hooks : Hooks) where
   -- each is inside fewer blocks than the next place
   top_below : (table : List HookKey) (ks : List BlockKind) (b : OpenBlock) (bs : List OpenBlock) → AreUnended hooks table ks (b ∷ bs) → b.around < length ks
@@ -44,11 +38,11 @@ module _ (hooks : Hooks) where
 
   pub leave_none : (table : List HookKey) (ks : List BlockKind) (stack : List OpenBlock) → AreUnended hooks table ks stack → rest_left (length ks) stack ≡ stack
   leave_none table ks [] h = refl
-  leave_none table ks (b ∷ bs) h = ap (λ t. cond t bs (b ∷ bs)) (not_leb (length ks) b.around (top_below table ks b bs h))
+  leave_none table ks (b ∷ bs) h = ap (λ t. cond t bs (b ∷ bs)) (lt-leb (length ks) b.around (top_below table ks b bs h))
 
   pub leave_one : (table : List HookKey) (k : BlockKind) (ks : List BlockKind) (stack : List OpenBlock) → AreUnended hooks table (k ∷ ks) stack → AreUnended hooks table ks (rest_left (length ks) stack)
   leave_one table k ks stack (inl (bs, e, h)) =
-      let left : rest_left (length ks) stack ≡ bs = ap (rest_left (length ks)) e ∙ ap (λ t. cond t bs (entry_of k (length ks) ∷ bs)) (is_leb (length ks) (length ks) (omega arith)) in
+      let left : rest_left (length ks) stack ≡ bs = ap (rest_left (length ks)) e ∙ ap (λ t. cond t bs (entry_of k (length ks) ∷ bs)) (le-leb (length ks) (length ks) (omega arith)) in
       subst (AreUnended hooks table ks) (sym left) h
   leave_one table k ks stack (inr (known, h)) = subst (AreUnended hooks table ks) (sym (leave_none table ks stack h)) h
 

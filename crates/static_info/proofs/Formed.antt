@@ -34,7 +34,7 @@ use Rattle.static_info.proofs.KeysRead.{all_distinct}
 position_of : (n : ℕ) → n ≤ 268435456 → IsPosition (pos n)
 position_of n l = (omega (arith, ints), omega (arith, ints))
 
-when_nil : {A : Type 0} (b : Bool) → when {A = A} b [] ≡ []
+pub when_nil : {A : Type 0} (b : Bool) → when {A = A} b [] ≡ []
 when_nil true = refl
 when_nil false = refl
 

@@ -12,7 +12,7 @@ use Rattle.hook_select.specs.contracts.GroupName.{the_type}
 use Rattle.indexmap.proofs.CallerLemmas.{Contains-list_any}
 use Rattle.std.specs.Cmp.Lexicographic.{bytes_decides}
 use Rattle.std.proofs.lemmas.List.{get_or_append_left, get_or_at}
-use Rattle.std.proofs.lemmas.Bool.{eqb-true, eq-eqb}
+use Rattle.std.proofs.lemmas.Bool.{eqb-true, eq-eqb, false_from_ne_true}
 use Rattle.std.proofs.lemmas.Option.{option_and_then_some}
 use Rattle.serde_json.specs.Data.{Data, string}
 use Rattle.serde_json.specs.Find.{as_str}
@@ -72,10 +72,6 @@ not_there ks k e i d l same =
     let found = list_any_at (key_eq k) ks i d l (ap (key_eq k) same ∙ key_itself k) in
     true≢false (sym found ∙ sym (some_place (key_eq k) ks) ∙ e)
 
-is_there : (b : Bool) → (b ≡ true → ⊥) → b ≡ false
-is_there true f = absurd (f refl)
-is_there false f = refl
-
 keeps_distinct : (ks : List HookKey) (k : HookKey) (b : Bool) → is_some (find_key ks k) ≡ b → DistinctKeys ks → DistinctKeys (cond b ks (ks ++ k ∷ []))
 keeps_distinct ks k true e h = h
 keeps_distinct ks k false e h = all_pairs_push (λ a b. a ≢ b) ks k h (λ i d l. not_there ks k e i d l)
@@ -110,7 +106,7 @@ none_twice acc more k h (i, l, e) =
     h i (length acc) k l (omega arith) (get_or_append_left acc (k ∷ more) k i l ∙ e ∙ sym (get_or_at acc k more k (length acc) refl))
 
 not_found : (acc more : List HookKey) (k : HookKey) → DistinctKeys (acc ++ k ∷ more) → is_some (find_key acc k) ≡ false
-not_found acc more k h = some_place (key_eq k) acc ∙ is_there (list_any (key_eq k) acc) (λ e. none_twice acc more k h (Contains-list_any key_eq same_keys acc k e))
+not_found acc more k h = some_place (key_eq k) acc ∙ false_from_ne_true (list_any (key_eq k) acc) (λ e. none_twice acc more k h (Contains-list_any key_eq same_keys acc k e))
 
 -- distinct keys are all kept
 pub distinct_again : (acc more : List HookKey) → DistinctKeys (acc ++ more) → with_keys acc more ≡ acc ++ more
@@ -144,7 +140,7 @@ distinct_told keys found n m is len count same =
 
 -- ---- groups
 
-group_tag : (g : GroupName) → tag_of the_type g ≡ group_number g
+pub group_tag : (g : GroupName) → tag_of the_type g ≡ group_number g
 group_tag groups.Start = refl
 group_tag g = refl
 

@@ -23,6 +23,7 @@ fn entry_length(body: &Body) -> u64
 }
 
 /// How many bytes the entries of these bodies have. It is the one call that counts them.
+#[tactic(auto, using(std::proofs::lemmas::Grind::common_steps))]
 pub fn entries_length(bodies: &[Body]) -> u64
     requires { length (entries_bytes bodies.now) < 2 ^ 63 }
     ensures length { result ≡ length (entries_bytes bodies.now) }
@@ -36,6 +37,7 @@ pub fn entries_length(bodies: &[Body]) -> u64
 }
 
 // Adds the entries of these bodies. The size of each is that of its bytes, which are written apart.
+#[tactic(auto, using(std::proofs::lemmas::Grind::common_steps))]
 fn put_entries(alloc: Global, out: &mut Vec<u8>, bodies: &[Body]) -> Result<(), AllocError>
     ensures { OnOk result (out.new.items ≡ out.old.items ++ entries_bytes bodies.now) }
 {

@@ -128,6 +128,7 @@ fn put_if_else(
 }
 
 // Adds one instruction.
+#[tactic(auto, using(std::proofs::lemmas::Grind::common_steps))]
 #[cycle(code)]
 fn put_instr(out: &mut Vec<u8>, instr: &Instr) -> Result<(), AllocError>
     ensures { OnOk result ((t : Tree) → out.new.items ++ code_bytes t ≡ out.old.items ++ code_bytes (before instr.now t)) }

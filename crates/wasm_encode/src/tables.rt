@@ -23,6 +23,7 @@ fn tables_length(tables: &[Range]) -> u64
 }
 
 /// How many bytes the section has.
+#[tactic(auto, using(std::proofs::lemmas::Grind::common_steps))]
 pub fn table_section_length(tables: &[Range]) -> u64
     requires { length (vec_section 4 table_bytes tables.now) < 2 ^ 63 }
     ensures length { result ≡ length (vec_section 4 table_bytes tables.now) }
@@ -36,6 +37,7 @@ pub fn table_section_length(tables: &[Range]) -> u64
 }
 
 /// Adds the section, and nothing where there is no table.
+#[tactic(auto, using(std::proofs::lemmas::Grind::common_steps))]
 pub fn put_table_section(
     alloc: Global,
     out: &mut Vec<u8>,

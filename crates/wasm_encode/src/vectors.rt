@@ -41,6 +41,7 @@ impl Encode for u32 {
 }
 
 /// How many bytes the entries have, with their number in front.
+#[tactic(auto, using(std::proofs::lemmas::Grind::common_steps))]
 pub fn vec_length<T: Encode>(entries: &[T]) -> u64
     requires { length (vec_bytes T.bytes entries.now) < 2 ^ 63 }
     ensures length { result ≡ length (vec_bytes T.bytes entries.now) }
@@ -54,6 +55,7 @@ pub fn vec_length<T: Encode>(entries: &[T]) -> u64
 }
 
 // Adds each of the entries.
+#[tactic(auto, using(std::proofs::lemmas::Grind::common_steps))]
 fn put_items<T: Encode>(out: &mut Vec<u8>, entries: &[T]) -> Result<(), AllocError>
     ensures { OnOk result (out.new.items ≡ out.old.items ++ items_bytes T.bytes entries.now) }
 {
@@ -72,6 +74,7 @@ pub fn put_vec<T: Encode>(out: &mut Vec<u8>, entries: &[T]) -> Result<(), AllocE
 }
 
 /// How many bytes a section of these entries has, with its id and size.
+#[tactic(auto, using(std::proofs::lemmas::Grind::common_steps))]
 pub fn section_length<T: Encode>(id: u8, entries: &[T]) -> u64
     requires { length (vec_section id T.bytes entries.now) < 2 ^ 63 }
     ensures length { result ≡ length (vec_section id T.bytes entries.now) }
@@ -85,6 +88,7 @@ pub fn section_length<T: Encode>(id: u8, entries: &[T]) -> u64
 }
 
 /// Adds a section of these entries, and nothing where there are none.
+#[tactic(auto, using(std::proofs::lemmas::Grind::common_steps))]
 pub fn put_section<T: Encode>(out: &mut Vec<u8>, id: u8, entries: &[T]) -> Result<(), AllocError>
     requires { length (vec_section id T.bytes entries.now) < 2 ^ 63 }
     ensures { OnOk result (out.new.items ≡ out.old.items ++ vec_section id T.bytes entries.now) }

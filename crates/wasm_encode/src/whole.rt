@@ -14,6 +14,7 @@ use module_ast::module::Module;
 use std::alloc::{AllocError, Global};
 
 /// How many canonical bytes the module has, whose bodies have this many with their sizes.
+#[tactic(auto, using(crate::proofs::Totals::module_total))]
 pub fn module_length(m: &Module, bodies: u64) -> u64
     requires bodies { bodies ≡ length (entries_bytes m.now.bodies) }
     requires code { All (λ (b : Body). FitsCode b.code) m.now.bodies }

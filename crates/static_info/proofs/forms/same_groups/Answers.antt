@@ -1,17 +1,11 @@
 use Rattle.std.proofs.Common.{◌≡◌, List, [], ◌∷◌, ◌&&◌, ◌==◌, refl, ap₂, ◌∙◌}
-use denote.Enum.Declared.{tag_of}
 use lib.Pointwise.{pointwise}
 use Rattle.wasm_sem.specs.Types.{GroupName}
-use Rattle.hook_select.specs.declared.GroupName.TheVariants as groups
-use Rattle.hook_select.specs.contracts.GroupName.{the_type}
 use Rattle.hook_select.specs.contracts.GroupNamePartialEq.TheImpl as eq
-use Rattle.hook_select.specs.Groups.{group_eq, group_number}
+use Rattle.hook_select.specs.Groups.{group_eq}
 use Rattle.static_info.specs.Shape.{same_groups}
+use Rattle.static_info.proofs.KeysRead.{group_tag}
 use Rattle.static_info.proofs.forms.same_groups.Goals as goal
-
-group_tag : (g : GroupName) → tag_of the_type g ≡ group_number g
-group_tag groups.Start = refl
-group_tag g = refl
 
 same_group : (g h : GroupName) → eq.eq-value.it g h ≡ group_eq g h
 same_group g h = ap₂ (λ a b. a == b) (group_tag g) (group_tag h)

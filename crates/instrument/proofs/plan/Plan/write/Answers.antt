@@ -1,7 +1,5 @@
-use Rattle.std.proofs.Common.{◌≡◌, List, ℕ, length, ap, ◌∙◌}
+use Rattle.std.proofs.Common.{length, ap, ◌∙◌}
 use Rattle.std.proofs.lemmas.Result.{IfOk-weaker}
-use Rattle.module_ast.specs.Binary.{module_bytes}
-use Rattle.instrument.specs.Output.{output_bytes}
 use Rattle.instrument.specs.Plan.{Plan}
 use Rattle.instrument.proofs.NoneNeeded.{same_hooks}
 use Rattle.instrument.proofs.Unhooked.{output_same}

@@ -1,7 +1,0 @@
--- One more entry is written.
-use Rattle.std.proofs.Common.{arith}
-use Rattle.std.proofs.lemmas.Grind.{common_steps}
-use Rattle.wasm_encode.proofs.vectors.put_items.Goals as goal
-
-pub loop-entry-preserved : goal.loop-entry-preserved
-loop-entry-preserved g c = grind (arith, common_steps)

@@ -1,7 +1,0 @@
--- One more entry is counted.
-use Rattle.std.proofs.Common.{arith}
-use Rattle.std.proofs.lemmas.Grind.{common_steps}
-use Rattle.wasm_encode.proofs.vectors.vec_length.Goals as goal
-
-pub loop-entry-preserved : goal.loop-entry-preserved
-loop-entry-preserved g c = grind (arith, common_steps)
