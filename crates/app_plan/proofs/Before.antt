@@ -56,11 +56,6 @@ pub all_after : (fs : List File) (a b c : Option Contents) → Unchanged a b →
 all_after [] a b c p w = unchanged_after a b c p w
 all_after (f ∷ fs) a b c p (mid, w, more) = (mid, wrote_after f.name f.bytes a b mid p w, more)
 
-pub some_after : (fs : List File) (a b c : Option Contents) → Unchanged a b → WroteSome fs b c → WroteSome fs a c
-some_after [] a b c p w = unchanged_after a b c p w
-some_after (f ∷ fs) a b c p (inl w) = inl (part_after f.name f.bytes a b c p w)
-some_after (f ∷ fs) a b c p (inr (mid, w, more)) = inr (mid, wrote_after f.name f.bytes a b mid p w, more)
-
 put_after : (name bytes : List ℕ) (a b c : ShelfState) (status : ℕ) (text : List ℕ) → Unchanged a.contents b.contents → a.writes ≤ b.writes
     → PutCause name bytes b c status text → PutCause name bytes a c status text
 put_after name bytes a b c _ _ p few (put_failed r w) = put_failed (rose_before _ _ _ few r) (part_after name bytes _ _ _ p w)

@@ -10,15 +10,10 @@ use Rattle.app_plan.specs.declared.told.Refusal.{Refusal}
 use Rattle.app_plan.specs.declared.told.Refusal.TheVariants.{NoMemory}
 use Rattle.app_plan.specs.Wants.{Value, Read, Gives, ReadCause}
 use Rattle.app_plan.specs.Plans.{Reason, reason_status, Finish, finish_status, prints, Ending, refuses, does, Plan, reads, printing, LeadsTo}
-use Rattle.app_plan.specs.Ends.{TookSome, WrittenPart, Cause, no_command, unread, refused, unwritten, memory_ended}
+use Rattle.app_plan.specs.Ends.{TookSome, Cause, no_command, unread, refused, unwritten, memory_ended}
 use Rattle.app_plan.specs.Outcomes.{refusal_status, refusal_text, IsRefusal, Yields}
 use Rattle.app_plan.proofs.Shelves.{fed_none}
-use Rattle.app_plan.proofs.Before.{leads_before, comes_before, cause_before, all_after, some_after, files_after}
-
-part_on : (read : Read) (next : Value read.want → Plan) (value : Value read.want) (a b c : Option Contents) → Gives a read value → Unchanged a b
-    → Unchanged b c ⊎ WrittenPart (Some (next value)) b c → Unchanged a c ⊎ WrittenPart (Some (reads read next)) a c
-part_on read next value a b c g p (inl u) = inl (unchanged_after a b c p u)
-part_on read next value a b c g p (inr (e, l, w)) = inr (e, (value, g, leads_before a b (next value) (does e) p l), some_after e.files a b c p w)
+use Rattle.app_plan.proofs.Before.{leads_before, comes_before, cause_before, all_after, files_after}
 
 took_on : (read : Read) (next : Value read.want → Plan) (value : Value read.want) (a b : Option Contents) (was is : List ToolState)
     → Gives a read value → Unchanged a b → (is ≡ was) ⊎ TookSome (Some (next value)) b was is → (is ≡ was) ⊎ TookSome (Some (reads read next)) a was is
@@ -36,8 +31,8 @@ cause_on read next value old mid new was is _ _ g p few fewer (refused reason te
     refused reason text (value, g, leads_before _ _ (next value) (refuses reason text) p l) (unchanged_after _ _ _ p u) s
 cause_on read next value old mid new was is _ _ g p few fewer (unwritten e status text l f t) =
     unwritten e status text (value, g, leads_before _ _ (next value) (does e) p l) (files_after e.files old mid new status text p fewer f) t
-cause_on read next value old mid new was is _ _ g p few fewer (memory_ended w t) =
-    memory_ended (part_on read next value _ _ _ g p w) (took_on read next value _ _ was is g p t)
+cause_on read next value old mid new was is _ _ g p few fewer (memory_ended u t) =
+    memory_ended (unchanged_after _ _ _ p u) (took_on read next value _ _ was is g p t)
 
 -- a read that gave what it must, and what came then
 pub went_on : (read : Read) (next : Value read.want → Plan) (value : Value read.want) (old mid new : ShelfState) (was is : List ToolState)
@@ -74,7 +69,7 @@ pub was_refused : (plan : Plan) (reason : Reason) (text : List ℕ) (at : ShelfS
 was_refused plan reason text at tools refusal l r =
     told_as (Cause (Some plan) at at tools tools) (reason_status reason) text refusal r
     (refused reason text l (unchanged_same at.contents) refl)
-    (memory_ended (inl (unchanged_same at.contents)) (inl refl))
+    (memory_ended (unchanged_same at.contents) (inl refl))
 
 -- or a text alone is told
 pub took_text : (text : List ℕ) (finish : Finish) (at : ShelfState) (tools : List ToolState) (told : Printed) → told.status ≡ finish_status finish
@@ -89,7 +84,7 @@ took_text text finish at tools told s t = (
 -- want of memory
 pub no_memory : (plan : Option Plan) (old new : ShelfState) (tools : List ToolState) → Unchanged old.contents new.contents
     → Yields plan old new tools tools (Err NoMemory)
-no_memory plan old new tools u = memory_ended (inl u) (inl refl)
+no_memory plan old new tools u = memory_ended u (inl refl)
 
 -- a plan that is this one leads where it leads
 pub leads_by : (held : Option Contents) {a b : Plan} (ending : Ending) → a ≡ b → LeadsTo held b ending → LeadsTo held a ending
@@ -100,7 +95,7 @@ pub was_no_command : (at : ShelfState) (tools : List ToolState) (refusal : Refus
     → Yields None at at tools tools (Err refusal)
 was_no_command at tools refusal r =
     told_as (Cause None at at tools tools) 2 bad_words_text refusal r (no_command refl (unchanged_same at.contents) refl)
-    (memory_ended (inl (unchanged_same at.contents)) (inl refl))
+    (memory_ended (unchanged_same at.contents) (inl refl))
 
 -- what the words gave has this plan, or none
 pub planned : {A : Type 0} (plan : A → Plan) (o : Option A) (a : A) (old new : ShelfState) (was is : List ToolState) (result : Result Printed Refusal)

@@ -23,7 +23,7 @@ cause_memory _ _ (ends.unread read status text c r u s) = (inl u, inl s)
 cause_memory _ _ (refused reason text l u s) = (inl u, inl s)
 cause_memory {plan = plan} {old = old} {new = new} {was = was} {is = is} _ _ (unwritten e status text l f t) =
     (inr (e, l, files_some e.files old new status text f), inr (took_all plan old new was is e l t))
-cause_memory _ _ (memory_ended w t) = (w, t)
+cause_memory _ _ (memory_ended u t) = (inl u, t)
 
 -- a read that gave nothing
 read_tells : (plan : Option Plan) (old new : ShelfState) (was is : List ToolState) (before after : PrintState) (read : Read) (status : ℕ) (text : List ℕ)
@@ -65,7 +65,7 @@ cause_tells plan old new was is before after _ _ (unwritten e status text l f t)
           subst (λ n. Tells plan old new was is before after n (class_of n)) (sym memory)
           (inr (e, l, files_some e.files old new status text f), inr (took_all plan old new was is e l t))
     ]
-cause_tells plan old new was is before after _ _ (memory_ended w t) = (w, t)
+cause_tells plan old new was is before after _ _ (memory_ended u t) = (inl u, t)
 
 -- an effect whose text was printed
 effect_tells : (plan : Option Plan) (old new : ShelfState) (was is : List ToolState) (before after : PrintState) (finish : Finish)

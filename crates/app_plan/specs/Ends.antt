@@ -19,7 +19,8 @@ TookSome plan held was is = (e : Effect) × Leads held plan (does e) × AreFedPa
 abbrev pub WrittenPart : Option Plan → (old new : Option Contents) → Type 0
 WrittenPart plan old new = (e : Effect) × Leads old plan (does e) × WroteSome e.files old new
 
--- why a command is refused, what stands on the shelf then, what the analyses have taken, and the status and the line
+-- Why a command is refused, what stands on the shelf then, what the analyses have taken, and the status and the line. If memory
+-- ends anywhere but at a write, nothing on the shelf has changed.
 pub data Cause (plan : Option Plan) (old new : ShelfState) (was is : List ToolState) : (status : ℕ) → (text : List ℕ) → Type 0 where
   no_command : plan ≡ None → Unchanged old.contents new.contents → is ≡ was → Cause plan old new was is 2 bad_words_text
   unread : (read : Read) (status : ℕ) (text : List ℕ) → Comes old.contents plan read → ReadCause read old new status text
@@ -28,8 +29,7 @@ pub data Cause (plan : Option Plan) (old new : ShelfState) (was is : List ToolSt
       → Unchanged old.contents new.contents → is ≡ was → Cause plan old new was is (reason_status reason) text
   unwritten : (e : Effect) (status : ℕ) (text : List ℕ) → Leads old.contents plan (does e) → FilesCause e.files old new status text
       → is ≡ fed e.kinds e.events was → Cause plan old new was is status text
-  memory_ended : Unchanged old.contents new.contents ⊎ WrittenPart plan old.contents new.contents
-      → (is ≡ was) ⊎ TookSome plan old.contents was is → Cause plan old new was is 14 no_memory_text
+  memory_ended : Unchanged old.contents new.contents → (is ≡ was) ⊎ TookSome plan old.contents was is → Cause plan old new was is 14 no_memory_text
 
 -- the plan led to this effect, which was made but for the printing
 pub record IsMade (plan : Option Plan) (old new : Option Contents) (was is : List ToolState) (e : Effect) : Type 0 where

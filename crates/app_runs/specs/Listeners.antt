@@ -42,6 +42,10 @@ by_events S F hears ready stands wants l = record {
   late = λ xs ys a b c f t s. subst (λ es. stands es a f c) (sym (events_append xs ys)) (l.late (events_in xs) (events_in ys) a b c f t s);
 }
 
+-- events bring it from one state to another: items without events change nothing
+pub by_no_events : (S : Type 0) (hears : List Event → S → S → Type 0) → ((a : S) → hears [] a a) → (is : List TraceItem) (a : S) → events_in is ≡ [] → hears (events_in is) a a
+by_no_events S hears none is a silent = subst (λ es. hears es a a) (sym silent) (none a)
+
 -- ---- analyses
 
 abbrev tally : (events strays : ℕ) → Tally

@@ -16,6 +16,7 @@ use static_info::Info;
 use std::alloc::Global;
 use std::collections::BTreeMap;
 use wasm_num::NoMemory;
+use wasm_run::Quiet;
 use wasm_sem::Script;
 use wasm_valid::ValidModule;
 
@@ -62,13 +63,16 @@ impl Growths {
 }
 
 impl Listener for Growths {
-    ghost use Rattle.std.specs.Prelude.{List, ℕ, length};
+    ghost use Rattle.std.specs.Prelude.{List, ℕ, false, length};
     ghost use Rattle.wasm_sem.specs.Execution.{events_in};
     ghost use Rattle.memory_growth.specs.declared.growing.Growth.{Growth};
     ghost use Rattle.memory_growth.specs.Growths.{Counts, MayCountAll, CountsFirst};
+    ghost use Rattle.app_runs.specs.Listeners.{by_no_events};
     ghost use Rattle.memory_growth.specs.Listens.{growths_listen};
 
     type Fault = NoMemory;
+
+    ghost asks = { false };
 
     ghost Seen = { List (ℕ × Growth) };
 
@@ -90,6 +94,8 @@ impl Listener for Growths {
     }
 
     ghost listens = { growths_listen };
+
+    ghost unasked = { λ off. by_no_events (List (ℕ × Growth)) Counts growths_listen.none };
 }
 
 /// What came of a run, and which functions grew the memory in it, by rising function.
@@ -116,7 +122,7 @@ pub fn growth_of_run(
     ensures functions { IfOk result (λ g. g.functions.entries ≡ growths (events_told info.now m.now script.now script.now.steps)) }
     ensures refused { IfErr result (λ fault. TellsRefusal fault (link m.now script.now)) }
 {
-    let session = Session::link(alloc, m, script)?;
+    let session = Session::<Quiet>::link(alloc, m, script)?;
     let mut heard = Growths {
         functions: BTreeMap::new(alloc),
     };

@@ -1,6 +1,6 @@
 // A run of a module by a script, in turns.
 
-ghost use Rattle.std.specs.Prelude.{◌≡◌, ◌-◌, ◌≤◌, IfOk, OnErr};
+ghost use Rattle.std.specs.Prelude.{◌≡◌, ◌-◌, ◌≤◌, false, IfOk, MatchOption, OnErr};
 ghost use Rattle.wasm_sem.specs.Execution.{summary, IsScriptInRange};
 ghost use Rattle.wasm_sem.specs.Laws.{slots_in};
 ghost use Rattle.wasm_run.specs.Moves.{MayWant};
@@ -15,7 +15,7 @@ use run_store::table::Table;
 use std::alloc::Global;
 use std::marker::Model;
 use wasm_num::NoMemory;
-use wasm_run::{Machine, Note};
+use wasm_run::{Machine, Note, Noted, Notes};
 use wasm_sem::{Answer, Script, Stop, Turn};
 use wasm_valid::ValidModule;
 
@@ -43,15 +43,15 @@ enum Pending {
 }
 
 /// A run of a valid module by a script with which it links, after so many steps, which are at most those of the script.
-/// Contracts see these three. (Standard, 4.2, 4.5)
+/// Contracts see these three. It keeps notes of its entries and its host calls, if it is to. (Standard, 4.2, 4.5)
 #[derive(Drop)]
-pub struct Session<'m> {
-    machine: Machine<'m>,
+pub struct Session<'m, N: Notes = Noted> {
+    machine: Machine<'m, N>,
     steps: u64,
     has_start: bool,
 }
 
-impl<'m> Model for Session<'m> {
+impl<'m, N: Notes> Model for Session<'m, N> {
     ghost use Rattle.std.specs.Prelude.{◌≡◌, is_some};
     ghost use Rattle.run_session.specs.Steps.{IsWithinSteps};
     ghost use Rattle.wasm_run.specs.Running.{Run};
@@ -68,7 +68,7 @@ impl<'m> Model for Session<'m> {
     ghost invariant = { λ a. IsWithinSteps a.machine a.steps × (a.has_start ≡ is_some a.machine.module.start) };
 }
 
-impl<'m> Session<'m> {
+impl<'m, N: Notes> Session<'m, N> {
     /// The run before its first step. Refusals are looked for in this order, and the first that is found is told: for each
     /// call that its function is there and then that its arguments fit, the least size of the memory, that of the table,
     /// and the ranges of the segments. (Standard, 4.5.4)
@@ -76,7 +76,7 @@ impl<'m> Session<'m> {
         alloc: Global,
         valid: &'m ValidModule,
         script: &'m Script,
-    ) -> Result<Session<'m>, LinkFault>
+    ) -> Result<Session<'m, N>, LinkFault>
         requires range { IsScriptInRange script.now }
         ensures { OpensSession valid.now script.now result }
     {
@@ -124,12 +124,11 @@ impl<'m> Session<'m> {
         self.machine.table()
     }
 
-    /// What the last step entered, and its host call: the entry and the host call that the trace gained by it. After `run` it is
-    /// of the last of the steps that were made; before the first step there is neither.
-    pub fn note(&self) -> &Note
-        ensures { IsNoteOf result.now self.now }
+    /// The note of the last step, as `Session::note` gives it; none where notes are not kept.
+    pub fn noted(&self) -> Option<&Note>
+        ensures { MatchOption result (N.KEEPS ≡ false) (λ n. IsNoteOf n.now self.now) }
     {
-        self.machine.note()
+        self.machine.noted()
     }
 
     // Whether the module has a start function that has not ended.
@@ -162,6 +161,16 @@ impl<'m> Session<'m> {
         let hosts = self.machine.hosts();
         let (started, answers) = self.machine.into_answers();
         tell(pending, pages, hosts, started, answers)
+    }
+}
+
+impl Session<'_> {
+    /// What the last step entered, and its host call: the entry and the host call that the trace gained by it. After `run` it is
+    /// of the last of the steps that were made; before the first step there is neither.
+    pub fn note(&self) -> &Note
+        ensures { IsNoteOf result.now self.now }
+    {
+        self.machine.note()
     }
 }
 

@@ -1,33 +1,35 @@
 -- What a step adds to the entries and the host calls of a trace, and the note of it.
-use Rattle.std.proofs.Common.{◌≡◌, ℕ, suc, ◌+◌, ℤ, List, length, [], ◌∷◌, ◌++◌, Option, Some, None, Bool, true, false, refl, sym, ap, ap₂, subst, ◌∙◌, arith}
-use Rattle.wasm_sem.specs.Types.{ValType, Value, FuncType, Module, Event, GroupName}
+use Rattle.std.proofs.Common.{◌≡◌, ℕ, suc, ℤ, List, length, [], ◌∷◌, ◌++◌, Option, Some, None, Bool, true, false, refl, sym, ap, ap₂, ◌∙◌}
+use Rattle.std.specs.Borrow.{Bor}
+use Rattle.wasm_sem.specs.Types.{Value, FuncType, Module, Event, GroupName}
 use Rattle.module_ast.specs.Lists.{when}
 use Rattle.module_ast.specs.Places.{function_scope}
-use Rattle.module_ast.specs.Structure.{is_start, Tree, plain}
+use Rattle.module_ast.specs.Structure.{is_start, Tree, code_of}
 use Rattle.hook_select.specs.Events.{group_of}
 use Rattle.run_store.specs.Held.{Held}
-use Rattle.wasm_sem.specs.declared.Answer.TheVariants.{Returned}
 use Rattle.wasm_sem.specs.declared.HostAnswer.{HostAnswer}
 use Rattle.wasm_sem.specs.declared.Script.{Script}
-use Rattle.wasm_sem.specs.Execution.{TraceItem, entry, event, host_call, host_item, Callee, host, hook, own, callee_type, Instance, instance, Frame, Env, Configuration, configuration, Next, return_to, after_step, run_of, values_of, answer_at, writes_done, told_invoke, told_items, items_by, items, has_group}
-use Rattle.wasm_sem.specs.Rules.{next_answer, answered_env, answered_values, frame_before, frame_after}
+use Rattle.wasm_sem.specs.Execution.{TraceItem, entry, event, host_call, host_item, Callee, host, callee_type, Instance, instance, Frame, Env, Configuration, configuration, Next, run_of, values_of, answer_at, writes_done, told_invoke, told_popped, told_items, items_by, items, has_group}
+use Rattle.wasm_sem.specs.Rules.{next_answer, answered_values}
 use Rattle.wasm_sem.proofs.Rules.{AreEvents, no_more, an_event, only_quiet, quiet_events, post_events, jump_events, begin_events, Invokes, begins, too_deep, replies, hears, Rule, computes, halts, jumps, stays, calls, misses, opens, skips, falls, finishes, enters, rests, lacks, rule_of}
 use Rattle.wasm_run.specs.declared.note.Entry.{Entry}
 use Rattle.wasm_run.specs.declared.note.HostNote.{HostNote}
-use Rattle.wasm_run.specs.declared.note.Note.{Note}
-use Rattle.wasm_run.specs.declared.note.Noted.{Noted}
+use Rattle.run_store.specs.declared.functions.Function.{Function}
+use Rattle.run_store.specs.declared.functions.Function.TheVariants as functions
+use Rattle.run_store.specs.Resolved.{callee_for}
+use Rattle.wasm_run.specs.declared.functions.Invocation.{Invocation}
+use Rattle.wasm_run.specs.declared.functions.Target.{Target}
+use Rattle.wasm_run.specs.declared.functions.Target.TheVariants as targets
 use Rattle.wasm_run.specs.Beside.{hosts_in, HasMadeHosts}
 use Rattle.run_stack.specs.Below.{IsBelow}
 use Rattle.wasm_run.specs.Entries.{EntersNext}
 use Rattle.run_stack.specs.Flat.{Flat}
 use Rattle.wasm_run.specs.Moves.{env_beside}
-use Rattle.wasm_run.specs.Noting.{host_items, noted_items, outside_items, last_outside, KeepsNote}
+use Rattle.wasm_run.specs.Noting.{host_items, noted_items, outside_items, last_outside, next_outside}
 use Rattle.run_stack.specs.Slots.{index_count}
-use Rattle.wasm_run.specs.Reaching.{Reaches}
-use Rattle.wasm_run.specs.Running.{KeepsConfiguration, IsLinked, IsRunning, IsInside, Innermost}
-use Rattle.wasm_run.proofs.Beside.{answer_stays}
-use Rattle.wasm_run.proofs.Hooks.{told_with}
-use Rattle.wasm_run.proofs.Rooms.{next_state}
+use Rattle.wasm_run.specs.Reaching.{Reaches, IsInvocation, IsTarget}
+use Rattle.wasm_run.specs.Running.{Run, configuration_of, KeepsConfiguration, IsRunning}
+use Rattle.wasm_run.proofs.Hooks.{nothing_told, told_with}
 
 -- ---- what is shown and what is told have the same entries and host calls
 
@@ -70,64 +72,26 @@ outside_told inst c = go inst.hooked
     go true = refl
     go false = rule_outside (rule_of inst c)
 
--- ---- where no host call is counted, a step inside a frame has none of them
+-- ---- a step that enters nothing and calls no host
 
-returned_hosts : (inst : Instance) (e f : Env) (fs below : List Frame) (vs : List Value) → hosts_in (after_step inst (configuration e fs) (return_to inst f below vs)) ≡ f.store.hosts
-returned_hosts inst e f fs [] vs = (answer_stays inst f.phase f (Returned vs)).hosts
-returned_hosts inst e f fs (fr ∷ below) vs = refl
+-- a function that is no host function
+invoked_outside : (inst : Instance) (e : Env) (func : ℕ) (args : List Value) (f : Function) → ((ty : Bor FuncType) → f ≡ functions.Host ty → ⊥) → outside_items (told_invoke inst e func (callee_for f) args) ≡ []
+invoked_outside inst e func args (functions.Host ty) other = absurd (other ty refl)
+invoked_outside inst e func args (functions.Hook ty) other = refl
+invoked_outside inst e func args (functions.Own ty body size) other = refl
 
-invoke_quiet : (inst : Instance) (e : Env) (fs below : List Frame) {f : ℕ} {args : List Value} {c : Callee} {is ts : List TraceItem} {next : Next} → Invokes inst e below f args c is ts next
-    → hosts_in (after_step inst (configuration e fs) next) ≡ e.store.hosts → outside_items ts ≡ []
-invoke_quiet inst e fs below (begins ty locals code h) same = refl
-invoke_quiet inst e fs below (too_deep ty locals code deep) same = refl
-invoke_quiet inst e fs below (replies ty) same = absurd (omega (arith, same, returned_hosts inst e (answered_env inst e) fs below (answered_values inst e ty)))
-invoke_quiet inst e fs below (hears ty) same = refl
-
-rule_quiet : (inst : Instance) {c : Configuration} {is ts : List TraceItem} {next : Next} → Rule inst c is ts next → IsInside c → hosts_in (after_step inst c next) ≡ hosts_in c → outside_items ts ≡ []
-rule_quiet inst (calls e fr below i k o f c args left ev h q j) inside same = invoke_quiet inst e (frame_before fr (plain i k) o ∷ below) (frame_after fr k left ∷ below) j same
-rule_quiet inst (enters e c callee h at j) inside same = absurd inside
-rule_quiet inst _ inside same = refl
-
--- ---- a frame is there
-
-pub innermost_inside : (P : Frame → Type 0) (c : Configuration) → Innermost P c → IsInside c
-innermost_inside P (configuration e []) h = h
-innermost_inside P (configuration e (fr ∷ below)) h = tt
-
-pub reaches_inside : (inst : Instance) (c : Configuration) (slot : Option ℕ) (func : ℕ) (k : Tree) (called : Callee) → Reaches inst c slot func k called → IsInside c
-reaches_inside inst (configuration e []) slot func k called h = h
-reaches_inside inst (configuration e (fr ∷ below)) slot func k called h = tt
+pub none_called : (r : Run) (t : Target) → IsTarget t r → ((i : Invocation) → t ≡ targets.Invokes i → ⊥) → next_outside r ≡ []
+none_called r targets.NoCall h other =
+    let inst = instance r.module r.script in
+    outside_told inst (configuration_of r) ∙ ap outside_items (nothing_told inst (configuration_of r) h)
+none_called r (targets.Traps t) h other = outside_told (instance r.module r.script) (configuration_of r) ∙ ap outside_items h.1
+none_called r (targets.Invokes i) h other = absurd (other i refl)
 
 -- ---- the note
 
 module _ (m : Module) (s : Script) (made : ℕ) where
   abbrev inst : Instance
   inst = instance m s
-
-  further : last_outside m s (made + 1) ≡ last_outside m s (suc made)
-  further = let one : made + 1 ≡ suc made = omega arith in ap (last_outside m s) one
-
-  -- of a step inside a frame that counts no host call
-  pub quiet_note : (hosts : ℕ) → IsLinked m s → HasMadeHosts m s made hosts → HasMadeHosts m s (made + 1) hosts → IsInside (run_of m s made) → (n : Noted) → KeepsNote m s made n → KeepsNote m s (made + 1) n
-  quiet_note hosts l before after inside n h =
-      let few = h.few in
-      let same = sym (ap hosts_in (next_state m s l.valid l.complete l.range l.links made (run_of m s made) refl)) ∙ after.counted ∙ sym before.counted in
-      record {
-        few = omega (arith, few);
-        last_is = λ at. absurd (omega (arith, few, at));
-        since = λ _. further ∙ outside_told inst (run_of m s made) ∙ rule_quiet inst (rule_of inst (run_of m s made)) inside same;
-        nothing_is = h.nothing_is;
-      }
-
-  -- of another step
-  pub step_note : (n new : Noted) (note : Note) → new ≡ record n { last = note; made = made + 1 } → noted_items note ≡ last_outside m s (suc made) → KeepsNote m s made n → KeepsNote m s (made + 1) new
-  step_note n new note is tells h =
-      subst (KeepsNote m s (made + 1)) (sym is) (record {
-        few = omega arith;
-        last_is = λ _. tells ∙ sym further;
-        since = λ less. absurd (omega (arith, less));
-        nothing_is = h.nothing_is;
-      })
 
   module _ (f : Flat) (memory : Held) (globals : List Value) (hosts : ℕ) (running : IsRunning m s made f memory globals) (counts : HasMadeHosts m s made hosts) where
     abbrev before : Env
@@ -155,15 +119,14 @@ module _ (m : Module) (s : Script) (made : ℕ) where
       entered_told called (configuration e []) next = next.told_is
       entered_told called (configuration e (fr ∷ below)) next = absurd next
 
-      pub own_noted : (ty : FuncType) (locals : List ValType) (code : Tree) → EntersNext inst (run_of m s made) func numbers (own ty locals code) → c ≡ record { func = func; args = values_of ty.params numbers }
+      pub other_noted : (g : Function) → ((ty : Bor FuncType) → g ≡ functions.Host ty → ⊥) → EntersNext inst (run_of m s made) func numbers (callee_for g)
+          → c ≡ record { func = func; args = values_of (callee_type (callee_for g)).params numbers }
           → noted_items (record { entered = Some c; host = None }) ≡ last_outside m s (suc made)
-      own_noted ty locals code next is =
-          ap (λ (c : Entry). noted_items (record { entered = Some c; host = None })) is ∙ sym (outside_told inst (run_of m s made) ∙ ap outside_items (entered_told (own ty locals code) (run_of m s made) next))
-
-      pub hook_noted : (ty : FuncType) → EntersNext inst (run_of m s made) func numbers (hook ty) → c ≡ record { func = func; args = values_of ty.params numbers }
-          → noted_items (record { entered = Some c; host = None }) ≡ last_outside m s (suc made)
-      hook_noted ty next is =
-          ap (λ (c : Entry). noted_items (record { entered = Some c; host = None })) is ∙ sym (outside_told inst (run_of m s made) ∙ ap outside_items (entered_told (hook ty) (run_of m s made) next))
+      other_noted g other next is =
+          let args = values_of (callee_type (callee_for g)).params numbers in
+          ap (λ (c : Entry). noted_items (record { entered = Some c; host = None })) is
+          ∙ ap (λ (is : List TraceItem). entry (record { func = func; args = args }) ∷ is) (sym (invoked_outside inst (env_beside (run_of m s made)) func args g other))
+          ∙ sym (outside_told inst (run_of m s made) ∙ ap outside_items (entered_told (callee_for g) (run_of m s made) next))
 
       pub host_noted : (ty : FuncType) → EntersNext inst (run_of m s made) func numbers (host ty) → c ≡ record { func = func; args = values_of ty.params numbers }
           → (args : List Value) → args ≡ values_of ty.params numbers → (a : HostAnswer) → a ≡ answer_at s.hosts hosts

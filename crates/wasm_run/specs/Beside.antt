@@ -9,9 +9,7 @@ use Rattle.wasm_sem.specs.Rules.{HasSameRest}
 use Rattle.run_store.specs.Held.{Held}
 use Rattle.run_store.specs.declared.functions.Function.{Function}
 use Rattle.run_store.specs.Resolved.{AreFunctionsOf}
-use Rattle.wasm_run.specs.declared.note.Noted.{Noted}
 use Rattle.run_stack.specs.Flat.{Flat}
-use Rattle.wasm_run.specs.Noting.{KeepsNote}
 use Rattle.wasm_run.specs.Running.{IsRunning}
 
 -- the same runs, with the answers so far
@@ -39,9 +37,8 @@ abbrev pub IsTableOf : Module → Script → List (Option ℕ) → Type 0
 IsTableOf m s slots = slots ≡ (opening_store m s).slots
 
 -- what the machine keeps of a run after so many steps
-pub record KeepsRun (m : Module) (s : Script) (made : ℕ) (f : Flat) (memory : Held) (globals : List Value) (hosts : ℕ) (functions : List Function) (table : List (Option ℕ)) (noted : Noted) : Type 0 where
+pub record KeepsRun (m : Module) (s : Script) (made : ℕ) (f : Flat) (memory : Held) (globals : List Value) (hosts : ℕ) (functions : List Function) (table : List (Option ℕ)) : Type 0 where
   pub running : IsRunning m s made f memory globals
   pub counted : HasMadeHosts m s made hosts
   pub functions_are : AreFunctionsOf m functions
   pub table_is : IsTableOf m s table
-  pub noted_is : KeepsNote m s made noted

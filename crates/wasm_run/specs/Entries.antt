@@ -13,3 +13,7 @@ pub record EntersWith (inst : Instance) (e : Env) (func : ℕ) (numbers : List �
 abbrev pub EntersNext : Instance → Configuration → (func : ℕ) → (numbers : List ℤ) → Callee → Type 0
 EntersNext inst (configuration e []) func numbers called = EntersWith inst e func numbers called
 EntersNext inst (configuration e (fr ∷ below)) func numbers called = ⊥
+
+-- this function is entered next, by whatever index and with whatever numbers
+abbrev pub Enters : Instance → Configuration → Callee → Type 0
+Enters inst c called = (func : ℕ) × (numbers : List ℤ) × EntersNext inst c func numbers called

@@ -10,3 +10,4 @@ pub mod Entries
 pub mod Progress
 pub mod Exported
 pub mod Noting
+pub mod NotesKept

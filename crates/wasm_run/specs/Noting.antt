@@ -22,7 +22,7 @@ host_items (Some h) = host_call h.import h.args h.results h.writes.items ∷ []
 abbrev pub noted_items : Note → List TraceItem
 noted_items n = entry_items n.entered ++ host_items n.host
 
--- ---- the last step
+-- ---- a step
 
 -- the entries and the host calls among items: no group is selected
 abbrev pub outside_items : List TraceItem → List TraceItem
@@ -33,13 +33,17 @@ abbrev pub last_outside : Module → Script → (made : ℕ) → List TraceItem
 last_outside m s zero = []
 last_outside m s (suc n) = outside_items (items (instance m s) (run_of m s n))
 
+-- those that it gains by the next step
+abbrev pub next_outside : Run → List TraceItem
+next_outside r = last_outside r.module r.script (suc r.made)
+
 -- The note is of the last step of the run: it has the entry and the host call that the trace gained by it, and nothing else.
 abbrev pub IsNoteOf : Note → Run → Type 0
 IsNoteOf n r = noted_items n ≡ last_outside r.module r.script r.made
 
 -- Of a step since the one that was noted last there is nothing to note.
-pub record KeepsNote (m : Module) (s : Script) (made : ℕ) (n : Noted) : Type 0 where
-  pub few : n.made ≤ made
-  pub last_is : n.made ≡ made → noted_items n.last ≡ last_outside m s made
-  pub since : n.made < made → last_outside m s made ≡ []
+pub record KeepsNote (n : Noted) (r : Run) : Type 0 where
+  pub few : n.made ≤ r.made
+  pub last_is : n.made ≡ r.made → IsNoteOf n.last r
+  pub since : n.made < r.made → last_outside r.module r.script r.made ≡ []
   pub nothing_is : noted_items n.nothing ≡ []

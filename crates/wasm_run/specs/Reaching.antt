@@ -3,7 +3,8 @@ use Rattle.std.specs.Prelude.{◌≡◌, ℕ, List, [], ◌∷◌, length, Optio
 use Rattle.wasm_sem.specs.Types.{Value}
 use Rattle.wasm_num.specs.declared.Value.TheVariants.{I32}
 use Rattle.module_ast.specs.Structure.{Tree, plain, call_indirect, code_of}
-use Rattle.wasm_sem.specs.Execution.{Callee, callee_type, Instance, instance, Frame, Env, Configuration, configuration, traps, pop_values, call_popped, frame_behind, step, told_popped, told_code, told_items}
+use Rattle.wasm_sem.specs.Execution.{Callee, host, callee_type, Instance, instance, Frame, Env, Configuration, configuration, traps, pop_values, call_popped, frame_behind, step, told_popped, told_code, told_items}
+use Rattle.wasm_run.specs.declared.functions.HostCall.{HostCall}
 use Rattle.wasm_run.specs.declared.functions.Invocation.{Invocation}
 use Rattle.wasm_run.specs.declared.functions.Target.{Target}
 use Rattle.wasm_run.specs.declared.functions.Target.TheVariants as targets
@@ -37,6 +38,10 @@ pub record IsAtSlot (ty : ℕ) (k : Tree) (slot : ℕ) (fr : Frame) : Type 0 whe
 abbrev pub IsInvocation : Invocation → Run → Type 0
 IsInvocation i r =
     Reaches (instance r.module r.script) (configuration_of r) i.slot i.func (code_of i.rest.now) (callee_for i.function) × HasSize r.module i.function
+
+-- the call of a host function that comes next
+abbrev pub IsHostCall : HostCall → Run → Type 0
+IsHostCall h r = Reaches (instance r.module r.script) (configuration_of r) h.slot h.func (code_of h.rest.now) (host h.ty.now)
 
 -- no call comes next, or one that traps before its function is reached, or one of a function
 abbrev pub IsTarget : Target → Run → Type 0

@@ -4,6 +4,7 @@ ghost use Rattle.std.specs.Prelude.{◌≡◌};
 ghost use Rattle.run_stack.specs.Slots.{index_count};
 
 use module_ast::code::Instr;
+use module_ast::module::FuncType;
 use run_store::Function;
 use wasm_sem::Trap;
 
@@ -26,6 +27,15 @@ impl<'m> Invocation<'m> {
     }
 }
 
+/// The call of a host function: by its index, with the code behind the call, the slot, where it goes through one, and its type.
+#[derive(Clone, Copy)]
+pub(crate) struct HostCall<'m> {
+    pub func: u32,
+    pub rest: &'m [Instr],
+    pub slot: Option<u32>,
+    pub ty: &'m FuncType,
+}
+
 /// How many operands stand above the arguments of a call through this slot, if through one: its number.
 pub(crate) fn index_count(slot: Option<u32>) -> usize
     ensures { result ≡ index_count slot }
@@ -37,6 +47,7 @@ pub(crate) fn index_count(slot: Option<u32>) -> usize
 }
 
 /// Where the next instruction leads: it is no call, it traps before it comes to a function, or it calls one.
+#[derive(Drop)]
 pub(crate) enum Target<'m> {
     NoCall,
     Traps(Trap),

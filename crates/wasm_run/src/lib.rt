@@ -12,4 +12,4 @@ mod running;
 
 pub use exports::exported_functions;
 pub use machine::Machine;
-pub use note::{Entry, HostNote, Note};
+pub use note::{Entry, HostNote, Note, Noted, Notes, Quiet};

@@ -1,17 +1,19 @@
 // The machine: a run of a module under a script.
 
-ghost use Rattle.std.specs.Prelude.{◌≡◌, ◌+◌, ◌-◌, ◌<◌, ◌^◌, Some, None, true, false, IfOk, OnErr, MatchOption};
+ghost use Rattle.std.specs.Prelude.{◌≡◌, ◌+◌, ◌-◌, ◌<◌, ◌^◌, [], Some, None, true, false, IfOk, OnErr, MatchOption};
 ghost use Rattle.wasm_sem.specs.Execution.{turn_by, IsScriptInRange, Links, is_over};
 ghost use Rattle.wasm_sem.specs.Laws.{slots_in};
 ghost use Rattle.wasm_run.specs.Beside.{hosts_in, pages_in};
 ghost use Rattle.wasm_run.specs.Moves.{MayWant};
-ghost use Rattle.wasm_run.specs.Noting.{IsNoteOf};
+ghost use Rattle.wasm_run.specs.Noting.{IsNoteOf, next_outside, noted_items};
 ghost use Rattle.wasm_run.specs.Progress.{IsEntry, GoesOn};
+ghost use Rattle.wasm_run.specs.Reaching.{IsHostCall};
 ghost use Rattle.wasm_run.specs.Running.{Run, configuration_of, IsInside, IsLinked};
 ghost use Rattle.wasm_run.specs.Turns.{MakesTurn, RunsFor, started_in, answers_in, next_turn};
 
 use crate::exports::called_functions;
-use crate::note::Note;
+use crate::functions::HostCall;
+use crate::note::{Note, Noted, Notes};
 use crate::progress::{Progress, Stage, call_from};
 use crate::running::Running;
 use run_store::table::Table;
@@ -22,15 +24,17 @@ use wasm_sem::{Answer, HookCall, Script, Stop, Turn};
 use wasm_valid::ValidModule;
 
 /// A run of a valid module under a script with which it links, after so many steps. Contracts see these three: what stands
-/// behind the steps is the standard's configuration. (Standard, 4.2, 4.5)
+/// behind the steps is the standard's configuration. It keeps notes of its entries and its host calls, if it is to. (Standard,
+/// 4.2, 4.5)
 #[derive(Drop)]
-pub struct Machine<'m> {
+pub struct Machine<'m, N: Notes = Noted> {
     running: Running<'m>,
     progress: Progress,
     functions: Vec<u32>,
+    notes: N,
 }
 
-impl<'m> Model for Machine<'m> {
+impl<'m, N: Notes> Model for Machine<'m, N> {
     ghost use Rattle.wasm_run.specs.Progress.{KeepsAnswers};
     ghost use Rattle.wasm_run.specs.Running.{Run};
 
@@ -43,7 +47,7 @@ impl<'m> Model for Machine<'m> {
 
     ghost view = { λ a. a.running };
 
-    ghost invariant = { λ a. KeepsAnswers a.running a.progress a.functions.items };
+    ghost invariant = { λ a. KeepsAnswers a.running a.progress a.functions.items × N.are_of a.notes a.running };
 }
 
 // A function that is entered next: its index, and the numbers of its arguments.
@@ -63,14 +67,14 @@ fn turn_with(hook: Option<HookCall>) -> Turn
     }
 }
 
-impl<'m> Machine<'m> {
+impl<'m, N: Notes> Machine<'m, N> {
     /// The run of a module under a script with which it links, before the first step: its memory and its table, with the
     /// data and the elements of its segments, and its globals. The names of exports are sorted once. (Standard, 4.5.4)
     pub fn new(
         alloc: Global,
         valid: &'m ValidModule,
         script: &'m Script,
-    ) -> Result<Machine<'m>, NoMemory>
+    ) -> Result<Machine<'m, N>, NoMemory>
         requires range { IsScriptInRange script.now }
         requires links { Links valid.now script.now }
         ensures { IfOk result (λ r. r ≡ record { «module» = valid.now; script = script.now; made = 0 }) }
@@ -90,6 +94,7 @@ impl<'m> Machine<'m> {
                 answers: Vec::new(alloc),
             },
             functions,
+            notes: N::none(),
         })
     }
 
@@ -167,11 +172,58 @@ impl<'m> Machine<'m> {
         ensures { GoesOn result self.old self.new }
     {
         if self.running.is_inside() {
+            if let Some(call) = self.noted_call() {
+                return self.call_noted(call);
+            }
             self.running
                 .step_inside(&mut self.progress, self.functions.len())?;
             return Ok(true);
         }
         self.enter_next()
+    }
+
+    // The call of a host function that comes next, if it is to be noted.
+    #[inline(always)]
+    fn noted_call(&self) -> Option<HostCall<'m>>
+        requires { IsInside (configuration_of self.now) }
+        ensures { MatchOption result (N.KEEPS ≡ true → next_outside self.now ≡ []) (λ call. IsHostCall call self.now) }
+    {
+        if N::KEEPS {
+            self.running.host_called()
+        } else {
+            None
+        }
+    }
+
+    // The call of a host function is made, with its note.
+    #[cold]
+    #[inline(never)]
+    fn call_noted(&mut self, call: HostCall<'m>) -> Result<bool, NoMemory>
+        requires inside { IsInside (configuration_of self.old) }
+        requires few { self.old.made < 2 ^ 64 - 1 }
+        requires calls { IsHostCall call self.old }
+        ensures { GoesOn result self.old self.new }
+    {
+        let host = self.running.host_note(call)?;
+        self.running.call_host(call.rest, call.slot, call.ty);
+        let note = Note {
+            entered: None,
+            host: Some(host),
+        };
+        self.notes.put(self.running.made(), Some(note));
+        Ok(true)
+    }
+
+    // The note of what is entered next, if notes are kept.
+    fn entry_note(&self, entry: NextCall<'m>) -> Result<Option<Note>, NoMemory>
+        requires { IsEntry self.now entry.func entry.numbers.now }
+        ensures note { IfOk result (λ note. MatchOption note (N.KEEPS ≡ false) (λ n. noted_items n ≡ next_outside self.now)) }
+        ensures err { OnErr result (MayWant (configuration_of self.now)) }
+    {
+        if !N::KEEPS {
+            return Ok(None);
+        }
+        Ok(Some(self.running.entry_note(entry.func, entry.numbers)?))
     }
 
     // The start or the next call of the script is entered, where no function runs; false where the run is over.
@@ -185,8 +237,10 @@ impl<'m> Machine<'m> {
         let Some(entry) = self.entry() else {
             return Ok(false);
         };
+        let note = self.entry_note(entry)?;
         self.progress.answers.reserve(1)?;
         let ended = self.running.enter(entry.func, entry.numbers)?;
+        self.notes.put(self.running.made(), note);
         if let Some(answer) = ended {
             self.progress.end(answer, self.functions.len());
         }
@@ -201,12 +255,11 @@ impl<'m> Machine<'m> {
         self.running.table()
     }
 
-    /// What the last step entered, and its host call: the entry and the host call that the trace gained by it. After `run` it is
-    /// of the last of the steps that were made; before the first step there is neither.
-    pub fn note(&self) -> &Note
-        ensures { IsNoteOf result.now self.now }
+    /// The note of the last step; none where notes are not kept.
+    pub fn noted(&self) -> Option<&Note>
+        ensures { MatchOption result (N.KEEPS ≡ false) (λ n. IsNoteOf n.now self.now) }
     {
-        self.running.note()
+        self.notes.last(self.running.made())
     }
 
     /// How many steps have been made.
@@ -257,5 +310,15 @@ impl<'m> Machine<'m> {
         ensures { result ≡ hosts_in (configuration_of self.now) }
     {
         self.running.hosts()
+    }
+}
+
+impl Machine<'_> {
+    /// What the last step entered, and its host call: the entry and the host call that the trace gained by it. After `run` it is
+    /// of the last of the steps that were made; before the first step there is neither.
+    pub fn note(&self) -> &Note
+        ensures { IsNoteOf result.now self.now }
+    {
+        self.notes.of_step(self.running.made())
     }
 }

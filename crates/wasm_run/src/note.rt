@@ -1,9 +1,10 @@
 // What the last step of a run entered, and the host call that it made.
 
-ghost use Rattle.std.specs.Prelude.{◌≡◌, ◌∷◌, [], Some, IfOk, filter};
+ghost use Rattle.std.specs.Prelude.{◌≡◌, ◌+◌, ◌∷◌, [], Bool, true, false, Some, IfOk, MatchOption, filter, refl};
 ghost use Rattle.wasm_sem.specs.Execution.{host_call, values_of, is_within, writes_done};
 ghost use Rattle.wasm_run.specs.Answering.{answer_given};
-ghost use Rattle.wasm_run.specs.Noting.{host_items, noted_items};
+ghost use Rattle.wasm_run.specs.Noting.{host_items, noted_items, next_outside, IsNoteOf, KeepsNote};
+ghost use Rattle.wasm_run.specs.Running.{Run, one_more};
 
 use crate::host::values_of;
 use module_ast::module::FuncType;
@@ -57,12 +58,40 @@ impl Drop for Note {
     }
 }
 
+/// What a machine keeps of the entries and the host calls of its steps: notes, or nothing.
+pub trait Notes: Drop {
+    /// Whether notes are kept.
+    const KEEPS: bool;
+
+    ghost KEEPS: { Bool };
+
+    /// So they stand where a run has come so far.
+    ghost are_of: { Self → Run → Type 0 };
+
+    /// What stands before the first step.
+    fn none() -> Self
+        ensures { (r : Run) → r.made ≡ 0 → are_of result r };
+
+    /// One step more was made, so many by now, and this is its note; none where notes are not kept.
+    fn put(&mut self, made: u64, note: Option<Note>)
+        ensures { (r : Run) → are_of self.old r → made ≡ r.made + 1
+            → MatchOption note (KEEPS ≡ false) (λ n. noted_items n ≡ next_outside r) → are_of self.new (one_more r) };
+
+    /// The note of the last of so many steps; none where notes are not kept.
+    fn last(&self, made: u64) -> Option<&Note>
+        ensures { (r : Run) → are_of self.now r → made ≡ r.made
+            → MatchOption result (KEEPS ≡ false) (λ n. IsNoteOf n.now r) };
+
+    /// A step of which there is nothing to note need not be put.
+    ghost goes_on: { (n : Self) (r : Run) → (KEEPS ≡ true → next_outside r ≡ []) → are_of n r → are_of n (one_more r) };
+}
+
 /// The note of the last step that had something to note, behind how many steps it stood, and a note of nothing, for all
 /// other steps: these need not touch it.
-pub(crate) struct Noted {
-    pub last: Note,
-    pub nothing: Note,
-    pub made: u64,
+pub struct Noted {
+    last: Note,
+    nothing: Note,
+    made: u64,
 }
 
 // By a call of its own, so that a way out past it is one step in a proof.
@@ -77,12 +106,28 @@ impl Drop for Noted {
 }
 
 impl Noted {
-    /// Before the first step nothing is noted.
-    pub fn new() -> Noted
-        ensures made { result.made ≡ 0 }
-        ensures last { noted_items result.last ≡ [] }
-        ensures nothing { noted_items result.nothing ≡ [] }
+    /// The note of the last of so many steps.
+    pub(crate) fn of_step(&self, made: u64) -> &Note
+        ensures { (r : Run) → KeepsNote self.now r → made ≡ r.made → IsNoteOf result.now r }
     {
+        if self.made == made {
+            &self.last
+        } else {
+            &self.nothing
+        }
+    }
+}
+
+impl Notes for Noted {
+    ghost use Rattle.wasm_run.specs.NotesKept.{noted_goes_on};
+
+    const KEEPS: bool = true;
+
+    ghost KEEPS = { true };
+
+    ghost are_of = { KeepsNote };
+
+    fn none() -> Noted {
         Noted {
             last: Note {
                 entered: None,
@@ -96,13 +141,42 @@ impl Noted {
         }
     }
 
-    /// The step behind which so many have been made has this note.
-    pub fn put(&mut self, made: u64, note: Note)
-        ensures { self.new ≡ record self.old { last = note; made = made } }
-    {
-        self.last = note;
-        self.made = made;
+    fn put(&mut self, made: u64, note: Option<Note>) {
+        if let Some(note) = note {
+            self.last = note;
+            self.made = made;
+        }
     }
+
+    fn last(&self, made: u64) -> Option<&Note> {
+        Some(self.of_step(made))
+    }
+
+    ghost goes_on = { λ n r quiet. noted_goes_on n r (quiet refl) };
+}
+
+/// No notes: nothing is kept, and nothing is copied.
+#[derive(Drop)]
+pub struct Quiet {}
+
+impl Notes for Quiet {
+    const KEEPS: bool = false;
+
+    ghost KEEPS = { false };
+
+    ghost are_of = { λ n r. Unit {0} };
+
+    fn none() -> Quiet {
+        Quiet {}
+    }
+
+    fn put(&mut self, _made: u64, _note: Option<Note>) {}
+
+    fn last(&self, _made: u64) -> Option<&Note> {
+        None
+    }
+
+    ghost goes_on = { λ n r quiet kept. tt };
 }
 
 // Whether a write does not end past a memory of so many bytes.

@@ -1,26 +1,25 @@
 // A run, step by step.
 
-ghost use Rattle.std.specs.Prelude.{◌≡◌, ℕ, ◌+◌, ◌-◌, ◌<◌, ◌^◌, length, Some, None, Ok, slice_get, suc, IfOk, OnErr};
-ghost use Rattle.module_ast.specs.Structure.{code_of, before, Tree, plain, call, call_indirect};
-ghost use Rattle.wasm_sem.specs.Execution.{hook_in, Callee, hook, host, own, callees_of, instance, IsScriptInRange, Links, Frame, traps, step, answer_at, items};
+ghost use Rattle.std.specs.Prelude.{◌≡◌, ℕ, ◌+◌, ◌-◌, ◌<◌, ◌^◌, [], length, Some, None, Ok, slice_get, IfOk, MatchOption, OnErr};
+ghost use Rattle.module_ast.specs.Structure.{code_of, before, plain, call, call_indirect};
+ghost use Rattle.wasm_sem.specs.Execution.{hook_in, Callee, hook, host, own, callees_of, instance, IsScriptInRange, Links, Frame, traps, step, items};
 ghost use Rattle.wasm_sem.specs.Laws.{slots_in};
 ghost use Rattle.module_ast.specs.Validation.{declared_locals};
 ghost use Rattle.wasm_run.specs.Running.{Run, configuration_of, HoldsIf, IsInside, Innermost};
 ghost use Rattle.wasm_run.specs.Beside.{hosts_in, pages_in};
 ghost use Rattle.run_stack.specs.Advances.{IsAtCall};
-ghost use Rattle.wasm_run.specs.Entries.{EntersNext};
+ghost use Rattle.wasm_run.specs.Entries.{EntersNext, Enters};
 ghost use Rattle.run_stack.specs.Leaving.{LeavesLast};
 ghost use Rattle.wasm_run.specs.Moves.{MayWant, MakesStep, MakesCall};
 ghost use Rattle.wasm_run.specs.Progress.{AwaitsAnswer, StepsInside};
-ghost use Rattle.wasm_run.specs.Reaching.{IsAtSlot, Reaches, IsInvocation, IsTarget};
+ghost use Rattle.wasm_run.specs.Reaching.{IsAtSlot, Reaches, IsInvocation, IsHostCall, IsTarget};
 ghost use Rattle.run_store.specs.Resolved.{callee_for, HasSize, IsSizeOf};
-ghost use Rattle.wasm_run.specs.Answering.{answer_given};
-ghost use Rattle.wasm_run.specs.Noting.{host_items, last_outside, IsNoteOf};
+ghost use Rattle.wasm_run.specs.Noting.{host_items, noted_items, next_outside};
 
 use crate::call::{call_own, enter_alone};
-use crate::functions::{Invocation, Target, index_count};
+use crate::functions::{HostCall, Invocation, Target, index_count};
 use crate::host::{answer, answer_entry, next_answer, return_numbers, values_of};
-use crate::note::{HostNote, Note, Noted, host_note, noted_entry};
+use crate::note::{HostNote, Note, host_note, noted_entry};
 use crate::progress::Progress;
 use module_ast::code::Instr;
 use module_ast::module::{Body, FuncType, Module};
@@ -34,7 +33,7 @@ use run_store::{
 use std::alloc::{AllocError, Global};
 use std::marker::Model;
 use wasm_num::NoMemory;
-use wasm_sem::{Answer, HookCall, HostAnswer, Script, Trap};
+use wasm_sem::{Answer, HookCall, Script, Trap};
 use wasm_valid::ValidModule;
 
 /// A run of a module under a script, after so many steps. Contracts see these three alone: all else is what stands behind
@@ -49,7 +48,6 @@ pub(crate) struct Running<'m> {
     hosts: u64,
     functions: Vec<Function<'m>>,
     table: Table,
-    noted: Noted,
     alloc: Global,
 }
 
@@ -66,7 +64,6 @@ impl Drop for Running<'_> {
             hosts: _hosts,
             functions: _functions,
             table: _table,
-            noted: _noted,
             alloc: _alloc,
         } = self;
     }
@@ -85,7 +82,7 @@ impl<'m> Model for Running<'m> {
 
     ghost view = { λ a. record { «module» = a.module.now; script = a.script.now; made = a.made } };
 
-    ghost invariant = { λ a. KeepsRun a.module.now a.script.now a.made a.stack a.memory a.globals a.hosts a.functions.items a.table a.noted };
+    ghost invariant = { λ a. KeepsRun a.module.now a.script.now a.made a.stack a.memory a.globals a.hosts a.functions.items a.table };
 }
 
 impl<'m> Running<'m> {
@@ -115,7 +112,6 @@ impl<'m> Running<'m> {
             hosts: 0,
             functions,
             table,
-            noted: Noted::new(),
             alloc,
         })
     }
@@ -160,17 +156,6 @@ impl<'m> Running<'m> {
         ensures { result ≡ hosts_in (configuration_of self.now) }
     {
         self.hosts
-    }
-
-    /// What the last step entered, and its host call.
-    pub fn note(&self) -> &Note
-        ensures { IsNoteOf result.now self.now }
-    {
-        if self.noted.made == self.made {
-            &self.noted.last
-        } else {
-            &self.noted.nothing
-        }
     }
 
     /// The next step of the innermost frame. Where it leaves the last one, or traps, what ran has ended, which is told. An `Err`
@@ -274,9 +259,9 @@ impl<'m> Running<'m> {
         ensures { MakesStep result self.old self.new }
     {
         match self.entered(func, numbers) {
-            Function::Host(ty) => self.enter_host(func, ty, numbers),
-            Function::Hook(ty) => self.enter_hook(func, ty, numbers),
-            Function::Own(ty, body, size) => self.enter_first(func, ty, body, size, numbers),
+            Function::Host(ty) => self.enter_host(ty),
+            Function::Hook(ty) => self.enter_hook(ty),
+            Function::Own(ty, body, size) => self.enter_first(ty, body, size, numbers),
         }
     }
 
@@ -304,77 +289,46 @@ impl<'m> Running<'m> {
     }
 
     // A host function is entered, and ends at once with the script's next answer.
-    fn enter_host(
-        &mut self,
-        func: u32,
-        ty: &FuncType,
-        numbers: &[i128],
-    ) -> Result<Option<Answer>, AllocError>
+    fn enter_host(&mut self, ty: &FuncType) -> Result<Option<Answer>, AllocError>
         requires few { self.old.made < 2 ^ 64 - 1 }
-        requires next { EntersNext (instance self.old.module self.old.script) (configuration_of self.old) func numbers.now (host ty.now) }
+        requires next { Enters (instance self.old.module self.old.script) (configuration_of self.old) (host ty.now) }
         ensures { MakesStep result self.old self.new }
     {
         let given = next_answer(self.script, self.hosts);
-        let entered = noted_entry(self.alloc, func, ty, numbers)?;
-        let args = values_of(self.alloc, ty.params.as_slice(), numbers)?;
-        let host = host_note(self.alloc, &self.memory, func, args, ty, given)?;
         let results = answer_entry(self.alloc, &mut self.memory, ty, given)?;
         self.hosts += 1;
         self.made += 1;
-        let note = Note {
-            entered: Some(entered),
-            host: Some(host),
-        };
-        self.noted.put(self.made, note);
         Ok(Some(Answer::Returned(results)))
     }
 
     // A hook is entered, and ends at once with zeros.
-    fn enter_hook(
-        &mut self,
-        func: u32,
-        ty: &FuncType,
-        numbers: &[i128],
-    ) -> Result<Option<Answer>, AllocError>
+    fn enter_hook(&mut self, ty: &FuncType) -> Result<Option<Answer>, AllocError>
         requires few { self.old.made < 2 ^ 64 - 1 }
-        requires next { EntersNext (instance self.old.module self.old.script) (configuration_of self.old) func numbers.now (hook ty.now) }
+        requires next { Enters (instance self.old.module self.old.script) (configuration_of self.old) (hook ty.now) }
         ensures { MakesStep result self.old self.new }
     {
-        let entered = noted_entry(self.alloc, func, ty, numbers)?;
         let results = values_of(self.alloc, ty.results.as_slice(), &[])?;
         self.made += 1;
-        let note = Note {
-            entered: Some(entered),
-            host: None,
-        };
-        self.noted.put(self.made, note);
         Ok(Some(Answer::Returned(results)))
     }
 
     // A function of the module is entered as the first frame, which gets all the memory that it needs now.
     fn enter_first(
         &mut self,
-        func: u32,
         ty: &FuncType,
         body: &'m Body,
         size: Size,
         numbers: &[i128],
     ) -> Result<Option<Answer>, AllocError>
         requires few { self.old.made < 2 ^ 64 - 1 }
-        requires next { EntersNext (instance self.old.module self.old.script) (configuration_of self.old) func numbers.now (own ty.now (declared_locals body.now.groups) body.now.code) }
+        requires next { (func : ℕ) × EntersNext (instance self.old.module self.old.script) (configuration_of self.old) func numbers.now (own ty.now (declared_locals body.now.groups) body.now.code) }
         requires size { IsSizeOf self.old.module ty.now body.now size.locals size.height size.nesting }
         requires height { size.locals + size.height < 2 ^ 63 }
         requires nesting { size.nesting < 2 ^ 63 }
         ensures { MakesStep result self.old self.new }
     {
-        let entered = noted_entry(self.alloc, func, ty, numbers)?;
         enter_alone(&mut self.stack, ty, body, size, numbers)?;
         self.made += 1;
-        let note = Note {
-            entered: Some(entered),
-            host: None,
-        };
-        self.noted.put(self.made, note);
         Ok(None)
     }
 
@@ -490,7 +444,8 @@ impl<'m> Running<'m> {
     {
         match invocation.function {
             Function::Host(ty) => {
-                self.call_host(invocation.func, invocation.rest, invocation.slot, ty)
+                self.call_host(invocation.rest, invocation.slot, ty);
+                Ok(None)
             }
             Function::Hook(ty) => {
                 self.call_hook(invocation.rest, invocation.slot, ty);
@@ -550,50 +505,73 @@ impl<'m> Running<'m> {
         self.made += 1;
     }
 
-    // The note of the call of a host function that comes next.
-    fn host_called(
-        &self,
-        func: u32,
-        slot: Option<u32>,
-        ty: &FuncType,
-        given: Option<&HostAnswer>,
-    ) -> Result<HostNote, NoMemory>
-        requires calls { (k : Tree) × Reaches (instance self.now.module self.now.script) (configuration_of self.now) slot func k (host ty.now) }
-        requires given { answer_given given ≡ answer_at self.now.script.hosts (hosts_in (configuration_of self.now)) }
-        ensures { IfOk result (λ n. host_items (Some n) ≡ last_outside self.now.module self.now.script (suc self.now.made)) }
-    {
-        let count = ty.params.as_slice().len();
-        let args = self
-            .stack
-            .values_below(self.alloc, count, index_count(slot))?;
-        host_note(self.alloc, &self.memory, func, args, ty, given)
-    }
-
-    // A call of a host function: the script's next answer is given, or, past the last one, zeros. After an `Err` all is as it
-    // was. (Standard, 4.4.7)
+    // A call of a host function: the script's next answer is given, or, past the last one, zeros. (Standard, 4.4.7)
     #[inline(never)]
-    fn call_host(
-        &mut self,
-        func: u32,
-        rest: &'m [Instr],
-        slot: Option<u32>,
-        ty: &FuncType,
-    ) -> Result<Option<Trap>, AllocError>
+    pub fn call_host(&mut self, rest: &'m [Instr], slot: Option<u32>, ty: &FuncType)
         requires few { self.old.made < 2 ^ 64 - 1 }
-        requires calls { Reaches (instance self.old.module self.old.script) (configuration_of self.old) slot func (code_of rest.now) (host ty.now) }
-        ensures { MakesCall result self.old self.new }
+        requires calls { (f : ℕ) × Reaches (instance self.old.module self.old.script) (configuration_of self.old) slot f (code_of rest.now) (host ty.now) }
+        ensures { MakesStep (Ok None) self.old self.new }
     {
         let given = next_answer(self.script, self.hosts);
-        let host = self.host_called(func, slot, ty, given)?;
         self.stack.step_behind(rest, slot);
         answer(&mut self.stack, &mut self.memory, ty, given);
         self.hosts += 1;
         self.made += 1;
-        let note = Note {
-            entered: None,
-            host: Some(host),
+    }
+
+    /// The call of a host function that comes next; none where another step comes.
+    pub fn host_called(&self) -> Option<HostCall<'m>>
+        requires { IsInside (configuration_of self.now) }
+        ensures { MatchOption result (next_outside self.now ≡ []) (λ call. IsHostCall call self.now) }
+    {
+        let Target::Invokes(invocation) = self.target() else {
+            return None;
         };
-        self.noted.put(self.made, note);
-        Ok(None)
+        let Function::Host(ty) = invocation.function else {
+            return None;
+        };
+        Some(HostCall {
+            func: invocation.func,
+            rest: invocation.rest,
+            slot: invocation.slot,
+            ty,
+        })
+    }
+
+    /// The note of the call of a host function that comes next.
+    pub fn host_note(&self, call: HostCall<'m>) -> Result<HostNote, NoMemory>
+        requires { IsHostCall call self.now }
+        ensures note { IfOk result (λ n. host_items (Some n) ≡ next_outside self.now) }
+        ensures err { OnErr result (MayWant (configuration_of self.now)) }
+    {
+        let given = next_answer(self.script, self.hosts);
+        let count = call.ty.params.as_slice().len();
+        let args = self
+            .stack
+            .values_below(self.alloc, count, index_count(call.slot))?;
+        host_note(self.alloc, &self.memory, call.func, args, call.ty, given)
+    }
+
+    /// The note of what is entered next: with its host call, where it is a host function.
+    pub fn entry_note(&self, func: u32, numbers: &[i128]) -> Result<Note, NoMemory>
+        requires { (called : Callee) × EntersNext (instance self.now.module self.now.script) (configuration_of self.now) func numbers.now called }
+        ensures note { IfOk result (λ n. noted_items n ≡ next_outside self.now) }
+        ensures err { OnErr result (MayWant (configuration_of self.now)) }
+    {
+        let function = self.entered(func, numbers);
+        let entered = noted_entry(self.alloc, func, function.ty(), numbers)?;
+        let Function::Host(ty) = function else {
+            return Ok(Note {
+                entered: Some(entered),
+                host: None,
+            });
+        };
+        let args = values_of(self.alloc, ty.params.as_slice(), numbers)?;
+        let given = next_answer(self.script, self.hosts);
+        let host = host_note(self.alloc, &self.memory, func, args, ty, given)?;
+        Ok(Note {
+            entered: Some(entered),
+            host: Some(host),
+        })
     }
 }

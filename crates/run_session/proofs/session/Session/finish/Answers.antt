@@ -7,7 +7,7 @@ use Rattle.run_session.proofs.Within.{within_script}
 use Rattle.run_session.proofs.session.Session.finish.Goals as goal
 
 pub returns-clause-outcome : goal.returns-clause-outcome
-returns-clause-outcome c =
+returns-clause-outcome g c =
     let machine = c.self.inside.machine in
     let pending = c.pending-pending.result in
     let parts = c.into_answers-started in
@@ -19,4 +19,4 @@ returns-clause-outcome c =
     subst (λ s. IfOk c.tell.result (λ o. told_outcome o ≡ s)) is_told c.tell.ensures
 
 pub returns-clause-within : goal.returns-clause-within
-returns-clause-within c = within_script c.self.inside.machine c.args.self c.self.inside.steps c.self.view_is c.self.invariant.0
+returns-clause-within g c = within_script c.self.inside.machine c.args.self c.self.inside.steps c.self.view_is c.self.invariant.0

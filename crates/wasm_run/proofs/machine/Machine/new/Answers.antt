@@ -10,7 +10,7 @@ use Rattle.wasm_run.proofs.machine.Machine.new.Goals as goal
 use Rattle.wasm_run.proofs.machine.Machine.new.Goals.{in-Some, in-None}
 
 pub invariant_of-result : goal.invariant_of-result
-invariant_of-result c =
+invariant_of-result g c =
     let m : Module = c.args.valid.now in
     let s = c.args.script.now in
     let q : Progress = record { stage = c.match-module.stage; started = None; answers = c.new-2.result } in
@@ -22,10 +22,12 @@ invariant_of-result c =
           let count : length fs.items ≡ w.len.result = omega (arith, w.len.ensures, fs.ok.0) in
           opened_call m s c.match-module.stage (ap (λ (m : Module). m.start) (sym c.module-module.ensures.module) ∙ w.in-None.is)
           (subst (λ st. IsStage m st (call_from (instance m s) 0)) (sym w.stage-is) (w.call_from-stage.ensures m (instance m s) (calls_count m s fs.items functions_are ∙ count)))
-    ] in
-    subst (λ (r : Run). KeepsAnswers r q c.in_ok-functions.functions.items) (sym c.in_ok-running.ensures) (record {
-      linked = record { valid = c.module-module.ensures.valid; complete = c.module-module.ensures.complete; range = c.requires.range; links = c.requires.links };
-      tells = opening_tells m s q stage refl c.new-2.ensures.items;
-      room = λ inside. absurd inside;
-      functions_are = functions_are;
-    })
+    ] in (
+      subst (λ (r : Run). KeepsAnswers r q c.in_ok-functions.functions.items) (sym c.in_ok-running.ensures) (record {
+        linked = record { valid = c.module-module.ensures.valid; complete = c.module-module.ensures.complete; range = c.requires.range; links = c.requires.links };
+        tells = opening_tells m s q stage refl c.new-2.ensures.items;
+        room = λ inside. absurd inside;
+        functions_are = functions_are;
+      }),
+      c.none.ensures c.in_ok-running.running (ap (λ (r : Run). r.made) c.in_ok-running.ensures),
+    )

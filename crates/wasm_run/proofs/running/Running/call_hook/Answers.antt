@@ -5,7 +5,6 @@ use Rattle.wasm_run.specs.Moves.{RunsOn}
 use Rattle.wasm_run.specs.Reaching.{Reaches}
 use Rattle.wasm_run.specs.Running.{Run, one_more, configuration_of}
 use Rattle.wasm_run.proofs.Answered.{called_index, called_label, hook_enough, hook_fits, hook_on, hook_called}
-use Rattle.wasm_run.proofs.Noting.{quiet_note, reaches_inside}
 use Rattle.wasm_run.proofs.running.Running.call_hook.Goals as goal
 
 pub step_behind-requires-clause-some : goal.step_behind-requires-clause-some
@@ -33,15 +32,11 @@ invariant_of-self c =
     let called =
     hook_called c.self.inside.module.now c.self.inside.script.now c.self.inside.made c.self.inside.stack c.self.inside.memory c.self.inside.globals c.self.inside.hosts c.self.invariant.running c.self.invariant.counted c.args.slot c.requires.calls.0 (code_of c.args.rest.now) c.args.ty.now c.step_behind.new.self c.step_behind.ensures
     (subst (λ (r : Run). Reaches (instance r.module r.script) (configuration_of r) c.args.slot c.requires.calls.0 (code_of c.args.rest.now) (hook c.args.ty.now)) (sym c.self.view_is) c.requires.calls.1) c.return_numbers.new.stack c.return_numbers.ensures in
-    let inside =
-    reaches_inside (instance c.self.inside.module.now c.self.inside.script.now) (configuration_of (record { «module» = c.self.inside.module.now; script = c.self.inside.script.now; made = c.self.inside.made })) c.args.slot c.requires.calls.0 (code_of c.args.rest.now) (hook c.args.ty.now)
-    (subst (λ (r : Run). Reaches (instance r.module r.script) (configuration_of r) c.args.slot c.requires.calls.0 (code_of c.args.rest.now) (hook c.args.ty.now)) (sym c.self.view_is) c.requires.calls.1) in
     record {
       running = called.0;
       counted = called.1;
       functions_are = c.self.invariant.functions_are;
       table_is = c.self.invariant.table_is;
-      noted_is = quiet_note c.self.inside.module.now c.self.inside.script.now c.self.inside.made c.self.inside.hosts c.self.invariant.running.linked c.self.invariant.counted called.1 inside c.self.inside.noted c.self.invariant.noted_is;
     }
 
 pub returns : goal.returns

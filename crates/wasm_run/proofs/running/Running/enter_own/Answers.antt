@@ -14,7 +14,6 @@ use Rattle.wasm_run.proofs.Hosts.{own_hosts}
 use Rattle.wasm_run.proofs.Invoking.{invoker, enough, room_back, some_label_back, undone}
 use Rattle.wasm_run.proofs.Targets.{reaches_wants}
 use Rattle.wasm_sem.specs.declared.Trap.{Trap}
-use Rattle.wasm_run.proofs.Noting.{quiet_note, reaches_inside}
 use Rattle.wasm_run.proofs.running.Running.enter_own.Goals as goal
 
 pub place-place-requires : goal.place-place-requires
@@ -64,8 +63,6 @@ invariant_of-self c =
       counted = counted;
       functions_are = c.self.invariant.functions_are;
       table_is = c.self.invariant.table_is;
-      noted_is = quiet_note c.self.inside.module.now c.self.inside.script.now c.self.inside.made c.self.inside.hosts c.self.invariant.running.linked c.self.invariant.counted counted (reaches_inside (instance c.self.inside.module.now c.self.inside.script.now) (configuration_of (record { «module» = c.self.inside.module.now; script = c.self.inside.script.now; made = c.self.inside.made })) c.args.slot c.requires.calls.0 (code_of c.args.rest.now) (own c.args.ty.now (declared_locals c.args.body.now.groups) c.args.body.now.code)
-          (subst (λ (r : Run). Reaches (instance r.module r.script) (configuration_of r) c.args.slot c.requires.calls.0 (code_of c.args.rest.now) (own c.args.ty.now (declared_locals c.args.body.now.groups) c.args.body.now.code)) (sym c.self.view_is) c.requires.calls.1)) c.self.inside.noted c.self.invariant.noted_is;
     }
 
 pub invariant_of-self-in-Ok-Some : goal.invariant_of-self-in-Ok-Some
@@ -82,8 +79,6 @@ invariant_of-self-in-Ok-Some c =
       counted = counted;
       functions_are = c.self.invariant.functions_are;
       table_is = c.self.invariant.table_is;
-      noted_is = quiet_note c.self.inside.module.now c.self.inside.script.now c.self.inside.made c.self.inside.hosts c.self.invariant.running.linked c.self.invariant.counted counted (reaches_inside (instance c.self.inside.module.now c.self.inside.script.now) (configuration_of (record { «module» = c.self.inside.module.now; script = c.self.inside.script.now; made = c.self.inside.made })) c.args.slot c.requires.calls.0 (code_of c.args.rest.now) (own c.args.ty.now (declared_locals c.args.body.now.groups) c.args.body.now.code)
-          (subst (λ (r : Run). Reaches (instance r.module r.script) (configuration_of r) c.args.slot c.requires.calls.0 (code_of c.args.rest.now) (own c.args.ty.now (declared_locals c.args.body.now.groups) c.args.body.now.code)) (sym c.self.view_is) c.requires.calls.1)) c.self.inside.noted c.self.invariant.noted_is;
     }
 
 pub invariant_of-self-in-Err : goal.invariant_of-self-in-Err
@@ -95,7 +90,6 @@ invariant_of-self-in-Err c = record {
   counted = c.self.invariant.counted;
   functions_are = c.self.invariant.functions_are;
   table_is = c.self.invariant.table_is;
-  noted_is = c.self.invariant.noted_is;
 }
 
 pub returns-in-Ok-None : goal.returns-in-Ok-None

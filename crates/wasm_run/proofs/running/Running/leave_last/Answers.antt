@@ -8,7 +8,6 @@ use Rattle.wasm_run.specs.Moves.{MayWant, EndsWith}
 use Rattle.wasm_run.specs.Running.{Run, one_more, configuration_of}
 use Rattle.wasm_run.proofs.Hosts.{inside_hosts}
 use Rattle.wasm_run.proofs.Moments.{has_many}
-use Rattle.wasm_run.proofs.Noting.{quiet_note}
 use Rattle.wasm_run.proofs.Progressing.{steps_wanting}
 use Rattle.wasm_run.proofs.running.Running.leave_last.Goals as goal
 
@@ -32,7 +31,6 @@ invariant_of-self c =
       counted = counted;
       functions_are = c.self.invariant.functions_are;
       table_is = c.self.invariant.table_is;
-      noted_is = quiet_note c.self.inside.module.now c.self.inside.script.now c.self.inside.made c.self.inside.hosts c.self.invariant.running.linked c.self.invariant.counted counted m.inside c.self.inside.noted c.self.invariant.noted_is;
     }
 
 pub returns : goal.returns

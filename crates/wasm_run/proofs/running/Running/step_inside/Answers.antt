@@ -10,7 +10,6 @@ use Rattle.run_stack.specs.declared.steps.Did.{Did}
 use Rattle.wasm_run.proofs.Hosts.{inside_hosts, trap_hosts}
 use Rattle.wasm_run.proofs.Moments.{standing, readable, leaves_last, Leaves, leaves, went_moves, left_few, trap_ends, wants_at_grow, no_bases}
 use Rattle.wasm_run.proofs.Rooms.{next_state}
-use Rattle.wasm_run.proofs.Noting.{quiet_note}
 use Rattle.wasm_run.proofs.Progressing.{follows_none, steps_wanting}
 use Rattle.wasm_run.proofs.running.Running.step_inside.Goals as goal
 
@@ -44,7 +43,6 @@ invariant_of-self c = record {
   counted = c.self.invariant.counted;
   functions_are = c.self.invariant.functions_are;
   table_is = c.self.invariant.table_is;
-  noted_is = c.self.invariant.noted_is;
 }
 
 pub returned-requires-clause-few : goal.returned-requires-clause-few
@@ -66,7 +64,6 @@ invariant_of-self-then-frames-eq0 c =
       counted = counted;
       functions_are = c.self.invariant.functions_are;
       table_is = c.self.invariant.table_is;
-      noted_is = quiet_note c.self.inside.module.now c.self.inside.script.now c.self.inside.made c.self.inside.hosts c.self.invariant.running.linked c.self.invariant.counted counted (subst (λ (r : Run). IsInside (configuration_of r)) (sym c.self.view_is) c.requires.inside) c.self.inside.noted c.self.invariant.noted_is;
     }
 
 pub invariant_of-self-else-frames-eq0 : goal.invariant_of-self-else-frames-eq0
@@ -79,7 +76,6 @@ invariant_of-self-else-frames-eq0 c =
       counted = counted;
       functions_are = c.self.invariant.functions_are;
       table_is = c.self.invariant.table_is;
-      noted_is = quiet_note c.self.inside.module.now c.self.inside.script.now c.self.inside.made c.self.inside.hosts c.self.invariant.running.linked c.self.invariant.counted counted (subst (λ (r : Run). IsInside (configuration_of r)) (sym c.self.view_is) c.requires.inside) c.self.inside.noted c.self.invariant.noted_is;
     }
 
 pub invariant_of-self-in-Trapped : goal.invariant_of-self-in-Trapped
@@ -94,7 +90,6 @@ invariant_of-self-in-Trapped c =
       counted = counted;
       functions_are = c.self.invariant.functions_are;
       table_is = c.self.invariant.table_is;
-      noted_is = quiet_note c.self.inside.module.now c.self.inside.script.now c.self.inside.made c.self.inside.hosts c.self.invariant.running.linked c.self.invariant.counted counted (subst (λ (r : Run). IsInside (configuration_of r)) (sym c.self.view_is) c.requires.inside) c.self.inside.noted c.self.invariant.noted_is;
     }
 
 pub invariant_of-self-in-Calls : goal.invariant_of-self-in-Calls
@@ -105,7 +100,6 @@ invariant_of-self-in-Calls c = record {
   counted = c.self.invariant.counted;
   functions_are = c.self.invariant.functions_are;
   table_is = c.self.invariant.table_is;
-  noted_is = c.self.invariant.noted_is;
 }
 
 pub call-requires : goal.call-requires

@@ -3,12 +3,10 @@ use Rattle.wasm_sem.specs.Execution.{instance, step, traps}
 use Rattle.wasm_sem.specs.declared.Answer.TheVariants.{Trapped}
 use Rattle.run_stack.specs.Flat.{Flat}
 use Rattle.wasm_run.specs.Moves.{EndsWith}
-use Rattle.run_stack.specs.Advances.{IsAtCall}
-use Rattle.wasm_run.specs.Running.{Run, one_more, configuration_of, Innermost}
+use Rattle.wasm_run.specs.Running.{Run, one_more, configuration_of}
 use Rattle.wasm_run.proofs.Hosts.{trap_hosts}
 use Rattle.wasm_run.proofs.Moments.{trap_ends, trap_running}
 use Rattle.wasm_run.proofs.Rooms.{next_state}
-use Rattle.wasm_run.proofs.Noting.{quiet_note, innermost_inside}
 use Rattle.wasm_run.proofs.running.Running.trap.Goals as goal
 
 pub invariant_of-self : goal.invariant_of-self
@@ -20,8 +18,6 @@ invariant_of-self c =
       counted = counted;
       functions_are = c.self.invariant.functions_are;
       table_is = c.self.invariant.table_is;
-      noted_is = quiet_note c.self.inside.module.now c.self.inside.script.now c.self.inside.made c.self.inside.hosts c.self.invariant.running.linked c.self.invariant.counted counted
-          (innermost_inside IsAtCall (configuration_of (record { «module» = c.self.inside.module.now; script = c.self.inside.script.now; made = c.self.inside.made })) (subst (λ (r : Run). Innermost IsAtCall (configuration_of r)) (sym c.self.view_is) c.requires.at)) c.self.inside.noted c.self.invariant.noted_is;
     }
 
 pub returns : goal.returns
