@@ -82,7 +82,7 @@ ends = (function_scope code, at 3 true (closes (function_scope code)) [], stands
 -- there are such instructions in the module that stores 1
 shown : AreShown storing_one told
 shown = (
-  (record { params = []; results = [] }, [], code, refl),
+  (record { params = []; results = [] }, [], code, refl, refl),
   (
     (pos 0, acts_there 0 (i32_const (pos 0)) refl),
     (

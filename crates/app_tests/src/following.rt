@@ -54,7 +54,11 @@ const STORING_TWO: [u8; 43] = [
 const LONGEST_OUTPUT: u64 = 268_435_456;
 
 // The valid module with these bytes.
-fn read<R: Threads + Sync>(rt: &R, alloc: Global, file: &[u8]) -> Result<ValidModule, NoMemory>
+pub(crate) fn read<R: Threads + Sync>(
+    rt: &R,
+    alloc: Global,
+    file: &[u8],
+) -> Result<ValidModule, NoMemory>
     requires short { length file.now ≤ longest_output }
     ensures fit { IfOk result (λ v. IsFit wide file.now v) }
     ensures valid { IfOk result (λ v. IsValid v) }

@@ -23,8 +23,12 @@ mod hook_calls;
 #[cfg(test)]
 mod hooks;
 #[cfg(test)]
+mod made_outputs;
+#[cfg(test)]
 mod places;
 #[cfg(test)]
 mod reports;
+#[cfg(test)]
+mod shadows;
 #[cfg(test)]
 mod together;

@@ -5,7 +5,7 @@ ghost use Rattle.analyses.specs.Tools.{fresh_tool};
 ghost use Rattle.analyses.specs.declared.Kind.TheVariants as kinds;
 ghost use Rattle.app_plan.specs.Feeding.{fresh_tools};
 
-use crate::commands::{CALL, ONE_NOP, fails_of, status_of, taken_by, words_of};
+use crate::commands::{CALL, fails_of, status_of, taken_by, words_of};
 use analyses::{Analysis, Blocks, Branches, CallGraph, Kind, MemoryUse, Row};
 use hook_select::Event;
 use outside_io::{Fail, MemoryShelf, MemorySink};
@@ -15,13 +15,34 @@ use std::test;
 use std::thread::Threads;
 use wasabi_app::run_app;
 
-const INSTRUMENT: &str = "instrument a.wasm --out b.wasm --info b.json";
+// One function `f`, whose loop turns three times.
+const LOOP: [u8; 49] = [
+    0x00, 0x61, 0x73, 0x6D, 0x01, 0x00, 0x00, 0x00, // header
+    0x01, 0x04, 0x01, 0x60, 0x00, 0x00, // types
+    0x03, 0x02, 0x01, 0x00, // functions
+    0x07, 0x05, 0x01, 0x01, 0x66, 0x00, 0x00, // exports
+    0x0A, 0x16, 0x01, 0x14, 0x01, 0x01, 0x7F, 0x41, 0x03, 0x21, 0x00, 0x03, 0x40, 0x20, 0x00, 0x41,
+    0x01, 0x6B, 0x22, 0x00, 0x0D, 0x00, 0x0B, 0x0B, // code
+];
 
-const REPORT: &str = "report b.wasm --info b.json --script s.json --reports blocks,calls";
+const INSTRUMENT: &str = "instrument a.wasm --out b.wasm --info b.json --hooks begin,end,br_if";
+
+const REPORT: &str = "report b.wasm --info b.json --script s.json";
 
 // What the report prints.
-const WHOLE: &str =
-    "call 0 f: ok\npages 0\nhost 0\nreport blocks 1\nblock 0:-1 function 1\nreport calls 0\nevents 4 stray 0\n";
+const WHOLE: &str = "call 0 f: ok
+pages 0
+host 0
+report blocks 2
+block 0:-1 function 1
+block 0:2 loop 3
+report branches 2
+branch 0:7 br_if 0 1
+branch 0:7 br_if 1 2
+report calls 0
+report memory 0
+events 11 stray 0
+";
 
 // An analysis of calls that has no memory for a third event.
 #[derive(Drop)]
@@ -62,15 +83,15 @@ impl Analysis for TwoEvents {
     }
 }
 
-// A shelf with the function of one nop, a script that calls it, and its output and information for all groups. Three calls of
-// it are made then, and one of the others fails.
+// A shelf with the loop, a script that calls it, and its output and information for three groups. Three calls of it are made
+// then, and one of the others fails.
 fn shelf_of<R: Threads + Sync>(
     rt: &R,
     alloc: Global,
     fail: Option<Fail>,
 ) -> Result<MemoryShelf, AllocError> {
     let mut shelf = MemoryShelf::new(alloc, fails_of(alloc, fail)?);
-    shelf.add("a.wasm", &ONE_NOP)?;
+    shelf.add("a.wasm", &LOOP)?;
     shelf.add("s.json", CALL.as_bytes())?;
     let mut sink = MemorySink::new(alloc, fails_of(alloc, None)?);
     status_of(rt, alloc, INSTRUMENT, &mut shelf, &mut sink)?;
@@ -98,8 +119,8 @@ fn the_sink_fails_at_each_print(rt: HostRuntime) -> Result<(), test::Fail> {
     let alloc = rt.alloc();
     let mut shelf = shelf_of(&rt, alloc, None)?;
     try_report(&rt, alloc, &mut shelf, None, 0, WHOLE)?;
-    for (call, status, printed) in [(0, 15, "ca"), (1, 0, WHOLE)] {
-        let fail = Some(Fail { call, kept: 2 });
+    for (call, status, printed) in [(0, 15, "cal"), (1, 0, WHOLE)] {
+        let fail = Some(Fail { call, kept: 3 });
         try_report(&rt, alloc, &mut shelf, fail, status, printed)?;
     }
     Ok(())
@@ -156,6 +177,6 @@ fn an_analysis_has_no_memory(rt: HostRuntime) -> Result<(), test::Fail> {
     let mut shelf = shelf_of(&rt, alloc, None)?;
     let words = words_of(alloc, REPORT)?;
     let taken = try_two_events(&rt, alloc, &words, &mut shelf)?;
-    assert_eq!(rt; taken.as_slice(), [3, 0, 2, 0].as_slice());
+    assert_eq!(rt; taken.as_slice(), [3, 3, 2, 2].as_slice());
     Ok(())
 }

@@ -23,6 +23,8 @@ mod parts;
 #[cfg(test)]
 mod remaps;
 #[cfg(test)]
+mod saving;
+#[cfg(test)]
 mod stacks;
 #[cfg(test)]
 mod texts;

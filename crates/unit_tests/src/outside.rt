@@ -5,7 +5,8 @@ use outside_io::{
     WriteFault,
 };
 use std::alloc::{AllocError, Global};
-use std::{fs, test};
+use std::os::unix::fs::{PermissionsExt, symlink};
+use std::{fs, io, test};
 
 // Whether a shelf has these bytes under a name, where at most so many are asked for.
 fn has<S: Shelf>(alloc: Global, shelf: &mut S, name: &str, cap: u64, bytes: &[u8]) -> bool {
@@ -38,6 +39,49 @@ fn host_shelf_has_a_file(rt: HostRuntime) {
     assert!(rt; fs::remove_file(&rt, name).is_ok());
     assert!(rt; refuses(rt.alloc(), &mut shelf, name, 12, ReadFault::Missing));
     assert!(rt; shelf.write("no such folder/name", b"") == Err(WriteFault::Failed));
+}
+
+// Whether nothing is left beside a file that was written in the folder of the test.
+fn left_nothing(rt: &HostRuntime) -> bool {
+    fs::symlink_metadata(rt, ".wasabi-0.new").is_err()
+}
+
+// The permissions of a name, and whether it is a link.
+fn mode_of(rt: &HostRuntime, name: &str) -> io::Result<(u32, bool)> {
+    let mode = fs::metadata(rt, name)?.permissions().mode() & 0o777;
+    Ok((mode, fs::symlink_metadata(rt, name)?.is_symlink()))
+}
+
+#[test]
+fn host_shelf_replaces_the_file_behind_a_link(rt: HostRuntime) -> Result<(), test::Fail> {
+    let mut shelf = HostShelf::new(&rt);
+    assert!(rt; shelf.write("whole.bin", b"before").is_ok());
+    fs::set_permissions(&rt, "whole.bin", fs::Permissions::from_mode(0o640))?;
+    symlink(&rt, "whole.bin", "link.bin")?;
+    assert!(rt; keeps(rt.alloc(), &mut shelf, "link.bin"));
+    assert_eq!(rt; mode_of(&rt, "link.bin")?, (0o640, true));
+    fs::remove_file(&rt, "whole.bin")?;
+    assert!(rt; keeps(rt.alloc(), &mut shelf, "link.bin"));
+    assert!(rt; has(rt.alloc(), &mut shelf, "whole.bin", 12, b"twelve bytes"));
+    fs::remove_file(&rt, "link.bin")?;
+    fs::remove_file(&rt, "whole.bin")?;
+    assert!(rt; left_nothing(&rt));
+    Ok(())
+}
+
+#[test]
+fn host_shelf_leaves_what_it_cannot_write(rt: HostRuntime) -> Result<(), test::Fail> {
+    let mut shelf = HostShelf::new(&rt);
+    assert!(rt; shelf.write("/dev/null", b"gone").is_ok());
+    assert!(rt; shelf.write("/dev/full", b"too much") == Err(WriteFault::Failed));
+    assert!(rt; !fs::metadata(&rt, "/dev/full")?.is_file());
+    symlink(&rt, "loop.bin", "loop.bin")?;
+    assert!(rt; shelf.write("loop.bin", b"nowhere") == Err(WriteFault::Failed));
+    fs::remove_file(&rt, "loop.bin")?;
+    assert!(rt; shelf.write(".", b"a folder") == Err(WriteFault::Failed));
+    assert!(rt; shelf.write("no_folder/", b"a folder") == Err(WriteFault::Failed));
+    assert!(rt; left_nothing(&rt));
+    Ok(())
 }
 
 #[test]

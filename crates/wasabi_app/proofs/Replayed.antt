@@ -93,7 +93,7 @@ module _ (kinds : Kinds) (es : List Event) (at : ShelfState) (first now : List T
       → Yields (Some (replayed_plan kinds es)) at at first now (Err refusal)
   replay_no_memory refusal none part =
       subst (λ r. Yields (Some (replayed_plan kinds es)) at at first now (Err r)) (sym none)
-      (memory_ended (inl (unchanged_same at.contents)) (inr (replay_effect kinds es, refl, part)))
+      (memory_ended (unchanged_same at.contents) (inr (replay_effect kinds es, refl, part)))
 
   -- where a text could not be made of what all events tell
   pub untold_replay : (refusal : Refusal) → refusal ≡ NoMemory → now ≡ fed kinds es first

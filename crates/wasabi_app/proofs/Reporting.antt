@@ -40,7 +40,7 @@ took_part : (kinds : Kinds) (keeps : Bool) (names : Names) (info : Info) (m : Mo
 took_part kinds keeps names info m s at first now refusal none l part =
     subst (λ r. Yields (Some (reported_plan kinds keeps m names info s)) at at first now (Err r)) (sym none)
     (subst (λ p. Yields (Some p) at at first now (Err refusals.NoMemory)) (sym (played_links m s (ends (does (report_effect kinds keeps m names info s))) l))
-    (memory_ended (inl (unchanged_same at.contents)) (inr (report_effect kinds keeps m names info s, refl, part))))
+    (memory_ended (unchanged_same at.contents) (inr (report_effect kinds keeps m names info s, refl, part))))
 
 -- ---- the run
 

@@ -209,7 +209,7 @@ known_leads : (held : Option Contents) (unknown : Option (List ℕ)) (plan : Pla
 known_leads held None plan e k = k
 known_leads held (Some name) plan e k = cc
 
-played_leads : (held : Option Contents) (s : Script) (o : Option linking.Refusal) (plan : Plan) (e : Effect) → LeadsTo held (linked s o plan) (does e)
+pub played_leads : (held : Option Contents) (s : Script) (o : Option linking.Refusal) (plan : Plan) (e : Effect) → LeadsTo held (linked s o plan) (does e)
     → (o ≡ None) × LeadsTo held plan (does e)
 played_leads held s None plan e k = (refl, k)
 played_leads held s (Some why) plan e k = cc

@@ -1,14 +1,11 @@
 -- A trial tells of the original.
-use Rattle.std.proofs.Common.{◌≡◌, ◌∙◌, ℕ, ◌+◌, ◌≤◌, List, [], ◌∷◌, length, map, true, not, Option, refl, sym, ap, ap₂, subst, arith, All, IsTrue, is_some}
+use Rattle.std.proofs.Common.{◌≡◌, ◌∙◌, ℕ, ◌≤◌, List, [], ◌∷◌, length, map, true, refl, sym, ap, ap₂, subst, arith, All, IsTrue, is_some}
 use Rattle.wasm_sem.specs.Types.{Module, Event, Hooks}
 use Rattle.module_ast.specs.Binary.{module_bytes}
-use Rattle.module_ast.specs.Memory.{pages}
 use Rattle.hook_select.specs.Events.{group_of}
-use Rattle.wasm_sem.specs.declared.Answer.{Answer}
 use Rattle.wasm_sem.specs.declared.Script.{Script}
-use Rattle.wasm_sem.specs.Execution.{Summary, start_answer, call_answers, summary, summary_of, Configuration, configuration, Env, Phase, over, is_last, is_over, run_of}
-use Rattle.wasm_sem.proofs.Ended.{stays_over}
-use Rattle.instrument.specs.Same.{IsOver, IsPrefix, SameRuns, env_in, env_of}
+use Rattle.wasm_sem.specs.Execution.{summary, summary_of, run_of}
+use Rattle.instrument.specs.Same.{IsOver, IsPrefix, SameRuns, env_in}
 use Rattle.instrument.proofs.OutputSame.{same}
 use Rattle.instrument.proofs.Reports as runs
 use Rattle.module_gen.specs.Made.{made}
@@ -25,45 +22,18 @@ use Rattle.app_runs.specs.RunTexts.{run_text}
 use Rattle.wasabi_app.specs.Composing.{TrialTells, selected_events}
 use Rattle.wasabi_app.specs.Modes.Trial.{all_hooks, first_steps, second_steps, trial_events, trial_output, trial_script}
 use Rattle.app_plan.proofs.Fed.{book_after, fed_takes}
+use Rattle.wasabi_app.proofs.Alike.{over_alike}
 use Rattle.wasabi_app.proofs.Composed.{same_events}
 use Rattle.wasabi_app.proofs.TrialLinks.{made_free, same_steps, trial_in_range, trial_links}
 
 -- ---- what is told of a run when it stops
 
-abbrev summary_with : Phase → Option Answer → List Answer → (memory : List ℕ) → (hosts : ℕ) → Summary
-summary_with phase started answers memory hosts = record {
-  start = start_answer phase started;
-  calls = call_answers phase answers;
-  pages = pages memory;
-  hosts = hosts;
-  running = not (is_last phase);
-}
-
-summary_is : (c : Configuration) → summary c ≡ summary_with (env_in c).phase (env_in c).started (env_in c).answers (env_in c).store.memory (env_in c).store.hosts
-summary_is (configuration e frames) = refl
-
-same_summary : (a b : Env) → b.phase ≡ a.phase → b.started ≡ a.started → b.answers ≡ a.answers → b.store.memory ≡ a.store.memory → b.store.hosts ≡ a.store.hosts
-    → summary_with b.phase b.started b.answers b.store.memory b.store.hosts ≡ summary_with a.phase a.started a.answers a.store.memory a.store.hosts
-same_summary a b phase started answers memory hosts =
-    ap (λ p. summary_with p b.started b.answers b.store.memory b.store.hosts) phase ∙ ap (λ s. summary_with a.phase s b.answers b.store.memory b.store.hosts) started
-    ∙ ap (λ x. summary_with a.phase a.started x b.store.memory b.store.hosts) answers
-    ∙ ap (λ x. summary_with a.phase a.started a.answers x b.store.hosts) memory ∙ ap (summary_with a.phase a.started a.answers a.store.memory) hosts
-
-over_is : (c : Configuration) → (env_in c).phase ≡ over → is_over c ≡ true
-over_is (configuration e frames) h = ap is_last h
-
--- Where the first run is over, and the second after more steps, both are told alike.
-texts_alike : (m o : Module) (hooks : Hooks) (s t : Script) (n more k : ℕ) → SameRuns m hooks o t → ((i : ℕ) → run_of m s i ≡ run_of m t i) → s.calls ≡ t.calls
-    → n + more ≡ k → IsOver m s n → IsOver o t k → run_text s.calls (summary_of m s n) ≡ run_text t.calls (summary_of o t k)
-texts_alike m o hooks s t n more k alike steps calls sum over_m over_o =
-    let stays : summary_of m s k ≡ summary_of m s n =
-    ap (λ i. summary_of m s i) (sym sum) ∙ ap summary (stays_over m s n more (over_is (run_of m s n) over_m)) in
-    let match = (alike.ends k over_o).1 in
-    let end : summary_of o t k ≡ summary_of m t k =
-    summary_is (run_of o t k)
-    ∙ same_summary (env_of m t k) (env_of o t k) match.phase match.started match.answers (ap (λ st. st.memory) match.store) (ap (λ st. st.hosts) match.store)
-    ∙ sym (summary_is (run_of m t k)) in
-    ap (run_text s.calls) (sym stays ∙ ap summary (steps k) ∙ sym end) ∙ ap (λ cs. run_text cs (summary_of o t k)) calls
+-- Where the first run is over, and the second, both are told alike, whatever their steps are.
+texts_alike : (m o : Module) (hooks : Hooks) (s t : Script) (n k : ℕ) → SameRuns m hooks o t → ((i : ℕ) → run_of m s i ≡ run_of m t i) → s.calls ≡ t.calls
+    → IsOver m s n → IsOver o t k → run_text s.calls (summary_of m s n) ≡ run_text t.calls (summary_of o t k)
+texts_alike m o hooks s t n k alike steps calls over_m over_o =
+    let over_t : IsOver m t n = ap (λ c. (env_in c).phase) (sym (steps n)) ∙ over_m in
+    ap (run_text s.calls) (ap summary (steps n) ∙ sym (over_alike m hooks o t alike n k over_t over_o)) ∙ ap (λ cs. run_text cs (summary_of o t k)) calls
 
 -- ---- what the analyses hold
 
@@ -84,7 +54,7 @@ books_held es (k ∷ ks) =
 -- ---- a trial
 
 module _ (number : ℕ) where
-  runs_alike : SameRuns (made number) all_hooks (trial_output number) (trial_script number second_steps)
+  pub runs_alike : SameRuns (made number) all_hooks (trial_output number) (trial_script number second_steps)
   runs_alike =
       let short : length (module_bytes (made number)) ≤ 16777216 = made_short number in
       (same (made number) all_hooks (made_valid number) (made_narrow number) (omega (arith, short)) (made_fits number) (made_free number)).runs
@@ -103,6 +73,6 @@ module _ (number : ℕ) where
         begun = subst (λ es. IsPrefix es (selected_events m all_hooks s s.steps)) e told.some;
         no_stray = subst (All (λ (e : Event). IsTrue (is_some (group_of e)))) e told.no_stray;
         texts = λ over_m over_o.
-            texts_alike m o all_hooks (trial_script number first_steps) s first_steps 990000000 second_steps runs_alike
-            (λ i. same_steps m number first_steps second_steps i) refl (omega arith) over_m over_o;
+            texts_alike m o all_hooks (trial_script number first_steps) s first_steps second_steps runs_alike
+            (λ i. same_steps m number first_steps second_steps i) refl over_m over_o;
       }

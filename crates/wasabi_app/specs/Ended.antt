@@ -1,12 +1,30 @@
 -- How a command ends that is run with four fresh analyses.
-use Rattle.std.specs.Prelude.{ℕ, List}
+use Rattle.std.specs.Prelude.{◌≡◌, ℕ, ◌≤◌, ◌⊎◌, List, None}
 use Rattle.analyses.specs.Tools.{ToolState}
-use Rattle.app_plan.specs.Ends.{Ends}
+use Rattle.app_plan.specs.Ends.{DecidesEffects, DecidesReads, DecidesRefusals, Ends, Tells, class_of}
 use Rattle.app_plan.specs.Feeding.{fresh_tools}
 use Rattle.app_plan.specs.Printing.{ShelfState, PrintState}
+use Rattle.wasabi_app.specs.Making.{Line}
 use Rattle.wasabi_app.specs.Modes.{plan_of}
+use Rattle.wasabi_app.specs.Modes.Instrument.{IsDone, IsLine, IsWritten}
+use Rattle.wasabi_app.specs.Promised.{IsRecorded, IsReported, IsTreed, IsTried, IsWarnedOf}
 
--- by the plan of its words, whatever the analyses have taken then
+-- By the plan of its words, whatever the analyses have taken then. All that `run_app` ensures holds of it: what its status
+-- tells, what stands where the work of a mode was done, which status comes, and that counts of faults never fall.
 pub record IsEnded (words : List (List ℕ)) (old new : ShelfState) (before after : PrintState) (status : ℕ) : Type 0 where
   pub taken : List ToolState
   pub ends : Ends (plan_of words) old new fresh_tools taken before after status
+  pub tells : Tells (plan_of words) old new fresh_tools taken before after status (class_of status)
+  pub written : (line : Line) → IsLine words line → IsDone status → IsWritten line old.contents new.contents
+  pub reported : IsReported words old new fresh_tools taken before after status
+  pub recorded : IsRecorded words old new fresh_tools taken before after status
+  pub treed : IsTreed words old new fresh_tools taken before after status
+  pub tried : IsTried words old new fresh_tools taken before after status
+  pub warned : IsWarnedOf words old new fresh_tools taken before after status
+  pub refused_words : plan_of words ≡ None → (status ≡ 2) ⊎ (status ≡ 14)
+  pub reads : DecidesReads (plan_of words) old.contents status
+  pub refusals : DecidesRefusals (plan_of words) old.contents status
+  pub effects : DecidesEffects (plan_of words) old.contents status
+  pub read_count : old.reads ≤ new.reads
+  pub write_count : old.writes ≤ new.writes
+  pub print_count : before.faults ≤ after.faults

@@ -12,7 +12,7 @@ use outside_io::{Shelf, Sink};
 use std::alloc::{AllocError, Global};
 use std::thread::Threads;
 
-/// Runs a command with four fresh analyses and answers its status, as [`run_app`] does.
+/// Runs a command with four fresh analyses and answers its status, as [`run_app`] does: `IsEnded` has each of its clauses.
 ///
 /// # Errors
 ///
@@ -36,6 +36,22 @@ pub fn run_with_analyses<R: Threads + Sync, S: Shelf, K: Sink>(
     tools.push(Box::new(alloc, CallGraph::new(alloc))?)?;
     tools.push(Box::new(alloc, MemoryUse::new(alloc))?)?;
     Ok(run_fresh(rt, alloc, words, shelf, out, &mut tools))
+}
+
+/// Runs a command with four fresh analyses and answers its status, which is 14 where there is no memory for these.
+pub fn run_command<R: Threads + Sync, S: Shelf, K: Sink>(
+    rt: &R,
+    alloc: Global,
+    words: &[String],
+    shelf: &mut S,
+    out: &mut K,
+) -> u8
+    ensures { IsEnded (texts words.now)
+        (shelf_state (S.contents shelf.old) (S.read_faults shelf.old) (S.write_faults shelf.old))
+        (shelf_state (S.contents shelf.new) (S.read_faults shelf.new) (S.write_faults shelf.new))
+        (print_state (K.written out.old) (K.faults out.old)) (print_state (K.written out.new) (K.faults out.new)) result }
+{
+    run_with_analyses(rt, alloc, words, shelf, out).unwrap_or(14)
 }
 
 // Runs a command with analyses that are fresh.

@@ -1,11 +1,14 @@
 // What follows from the definitions.
 
+ghost use Rattle.wasabi_app.specs.Alike.{OutputsPrintAlike, RunsPrintAlike};
 ghost use Rattle.wasabi_app.specs.Composing.{KeptNamesComeBack, OutputsReport, SameRunsReport, TrialsTell};
 ghost use Rattle.wasabi_app.specs.KeptNames.{DroppedNamesLeaveNothing};
 ghost use Rattle.wasabi_app.specs.Laws.{SomeFeed, SomeMake, SomeWrite};
 ghost use Rattle.wasabi_app.specs.Nesting.{BadAreRefused, NodesCountPaths, OutputsNest};
+ghost use Rattle.wasabi_app.specs.ReadBack.{OnlyScriptsAreRefused, OutputsAreRead};
 ghost use Rattle.wasabi_app.specs.Replaying.{EventsHaveTrace, RecordingsReplay};
 ghost use Rattle.wasabi_app.specs.Tagging.{TaintsTell, WarningsAreTagged};
+ghost use Rattle.wasabi_app.specs.TrialEnds.{TrialsEnd};
 
 /// What holds of some modes alone: which of them write, which give events to the analyses, and which refuse an output. Each
 /// mode stands in the proof with what it does; a new one adds a line.
@@ -26,6 +29,24 @@ pub fn reports_compose()
     ensures outputs { OutputsReport }
 {}
 
+/// The output of each accepted file prints what the original prints. The output links with each script with which the
+/// original links, whatever its number of steps is. Where the original's run is over in the `n` steps of the script, the
+/// output's is over in `cost * (n + 1)`; whenever it is over, its text is the original's, and it ends in the same way. It is
+/// over in no steps in which the original is not. So the mode `run` has the same effect on both.
+pub fn outputs_print_alike()
+    ensures alike { OutputsPrintAlike }
+    ensures runs { RunsPrintAlike }
+{}
+
+/// What `instrument` wrote is taken by each mode that reads an output: `check` tells its counts, and `run` comes to no bad
+/// read but that of the script. Bytes that hold the information on its original, no more than are read, are taken with it
+/// by `report`, `record` and `tree`, which come to no other bad read either. So these never end in 6, 7, 8 or 16, and in 3 for
+/// the script alone. The information on a module of many wide types and blocks can be longer than what is read.
+pub fn outputs_are_read()
+    ensures read { OutputsAreRead }
+    ensures statuses { OnlyScriptsAreRefused }
+{}
+
 /// What `instrument` writes without names is the output alone. Where it is written with them, a report on it, with the
 /// information on its original, has the names of the original's functions as the original's file carries them.
 pub fn names_are_kept()
@@ -38,6 +59,13 @@ pub fn names_are_kept()
 /// runs are equal. None of the events is a stray.
 pub fn trials_tell()
     ensures tell { TrialsTell }
+{}
+
+/// Both runs of a trial are over in the steps that they are given, for each number. The call of the module returns a value,
+/// and the run of its output ends as done, so nothing traps. So what `trials_tell` says where runs are over holds of every
+/// number.
+pub fn trials_end()
+    ensures end { TrialsEnd }
 {}
 
 /// What `record` writes is the trace of the events of its run, since their numbers are of their sizes. A later `replay`

@@ -2,12 +2,18 @@
 #![tactic(auto)]
 
 ghost use Rattle.std.specs.Prelude.{◌≡◌, ◌≢◌};
+ghost use Rattle.std.specs.Process.{exit_status};
+ghost use Rattle.command_line.specs.Lines.{texts};
+ghost use Rattle.wasabi_cli.specs.Command.{HasEnded};
 
 use outside_io::{HostShelf, HostSink};
+use std::alloc::Global;
 use std::env;
 use std::io::ErrorKind;
 use std::process::ExitCode;
-use wasabi_app::run_with_analyses;
+use std::rt::Files;
+use std::thread::Threads;
+use wasabi_app::run_command;
 
 fn main(rt: HostRuntime) -> ExitCode {
     let words = match env::args(&rt) {
@@ -17,10 +23,21 @@ fn main(rt: HostRuntime) -> ExitCode {
     let Ok(words) = words.collect::<Vec<String>>(rt.alloc()) else {
         return ExitCode::from(14);
     };
-    let mut shelf = HostShelf::new(&rt);
-    let mut sink = HostSink::new(&rt);
-    let status = run_with_analyses(&rt, rt.alloc(), &words, &mut shelf, &mut sink);
-    ExitCode::from(status.unwrap_or(14))
+    command(&rt, rt.alloc(), &words)
+}
+
+// Runs the command of these words on the files of the machine and its standard output. The exit code is its status.
+fn command<R: Files + AllocGlobal + Print + Threads + Sync>(
+    rt: &R,
+    alloc: Global,
+    words: &[String],
+) -> ExitCode
+    ensures { HasEnded (texts words.now) (exit_status result) }
+{
+    let mut shelf = HostShelf::new(rt);
+    let mut sink = HostSink::new(rt);
+    let status = run_command(rt, alloc, words, &mut shelf, &mut sink);
+    ExitCode::from(status)
 }
 
 // The status where the words can't be read: 14 for want of memory, else 2.

@@ -51,7 +51,7 @@ module _ (number first second : ℕ) (m : Module) where
       → Yields (Some (pair_plan number first second m)) at at was is (Err NoMemory)
   tried_part at was is few part =
       subst (λ p. Yields (Some p) at at was is (Err NoMemory)) (sym (pair_well few))
-      (memory_ended (inl (unchanged_same at.contents)) (inr (pair_effect number first second m, refl, part)))
+      (memory_ended (unchanged_same at.contents) (inr (pair_effect number first second m, refl, part)))
 
   -- or there is no output
   pub untried : (at : ShelfState) (tools : List ToolState) (refusal : Refusal) → IsUntried m refusal

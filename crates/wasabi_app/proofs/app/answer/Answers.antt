@@ -11,4 +11,4 @@ returns-in_err-given-clause-ended g c =
     rw (p.1, p.2) (not_followed (texts c.args.words.now) _ _ c.in_err-given.field-0.0 c.in_err-given.ensures.refused)
 
 pub returns-clause-ended : goal.returns-clause-ended
-returns-clause-ended g c = followed (texts c.args.words.now) (given_of c.in_ok-given.given) _ _ _ _ _ c.in_ok-given.ensures.given c.follow.ensures.ended
+returns-clause-ended g c = followed (texts c.args.words.now) (given_of c.in_ok-given.given) _ _ _ _ _ c.in_ok-given.ensures.given c.follow_plan.ensures.ended

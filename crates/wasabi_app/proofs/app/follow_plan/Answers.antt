@@ -11,7 +11,7 @@ use Rattle.wasabi_app.specs.Modes.Tree.{tree_mode}
 use Rattle.wasabi_app.specs.Modes.Trial.{trial_mode}
 use Rattle.wasabi_app.specs.Modes.Taint.{taint_mode}
 use Rattle.wasabi_app.proofs.Modes.{by_name, no_mode}
-use Rattle.wasabi_app.proofs.app.follow.Goals as goal
+use Rattle.wasabi_app.proofs.app.follow_plan.Goals as goal
 
 pub returns-in-check-clause-ended : goal.returns-in-check-clause-ended
 returns-in-check-clause-ended g c =
