@@ -3,22 +3,26 @@
 
     wasabi report OUTPUT .. --reports blocks,branches | coverage_page.py MODULE INFORMATION SOURCE > PAGE
 
-What wasabi replay prints will do too. MODULE is the original, made by clang with -gdwarf-4, and INFORMATION that of its output, which has at least the GROUPS. How
-often parts began and branches were taken tells how often each instruction ran, also behind a branch that leaves a part. A line
-shows the greatest number of its instructions. A call that traps, or is out of steps, counts as if it went on to the next branch.
+What wasabi replay prints will do too. MODULE is the original, made by clang with -gdwarf-4 or -gdwarf-5, and INFORMATION that of
+its output, which has at least the groups begin, if, br, br_if and br_table. How often parts began and branches were taken tells how
+often each instruction ran, also behind a branch that leaves a part. A line shows the greatest number of its instructions. A call
+that traps, or is out of steps, counts as if it went on to the next branch.
 """
 import collections
 import html
 import json
 import os
 import re
-import sys
 
+import arguments
 from module_lines import BLOCK, BR, BR_IF, BR_TABLE, ELSE, END, IF, LOOP, RETURN, UNREACHABLE, bodies
 
 GROUPS = {"begin", "if", "br", "br_if", "br_table"}
+PARTS = {"block": BLOCK, "loop": LOOP, "if": IF, "else": ELSE}
+BRANCHES = {"if": IF, "br": BR, "br_if": BR_IF, "br_table": BR_TABLE}
 LEGEND = {"ran": "ran", "partly": "ran in part", "never": "never ran"}
 LONGEST_BAR = 60
+NOTE = "It is the greatest of the line's instructions; copies that a compiler made are not added up."
 STYLE = """
 body { font: 14px/1.5 sans-serif; margin: 16px 20px; color: #222 }
 h1 { font-size: 19px; margin: 0 }
@@ -60,12 +64,32 @@ def runs(body, times):
             reached = 0
 
 
-def counts_of_lines(module, imports, source, report):
+def check_module(told, known):
+    """Ends the script where the information is not of the module, whose bodies are known by their functions."""
+    functions = told["functions"]
+    opcodes = [None, *PARTS.values()]
+    is_there = len(functions) == told["imports"] + len(known) and all(
+        it[1] < len(known[func]) and known[func][it[1]].opcode == opcodes[it[0]]
+        for func in known for it in functions[func][2] if it[0] > 0)
+    if not is_there:
+        arguments.stop("the information is not of this module, which must be the original")
+
+
+def check_report(report, known):
+    """Ends the script where a row of the report is of a place that the module does not have."""
+    for word, func, at, what in re.findall(r"^(block|branch) (\d+):(-?\d+) (\w+)", report, re.M):
+        body, at = known.get(int(func), []), int(at)
+        wanted = (PARTS if word == "block" else BRANCHES).get(what)
+        if not (body and at == -1 and what == "function" or 0 <= at < len(body) and body[at].opcode == wanted):
+            arguments.stop("the report is of another module: it tells of %s at %s:%d, where this one has none" % (what, func, at))
+
+
+def counts_of_lines(known, source, report):
     """How often each instruction of each line of a source ran."""
     rows = re.findall(r"^(?:block|branch) (\d+):(-?\d+) \w+ (?:(\d+) )?(\d+)$", report, re.M)
     seen = collections.Counter({(int(function), int(at), choice): int(count) for function, at, choice, count in rows})
     counts = collections.defaultdict(list)
-    for function, body in enumerate(bodies(module), imports):
+    for function, body in known.items():
         times = lambda position, choice="": seen[function, position, str(choice)]
         for (opcode, _, file, line), count in zip(body, runs(body, times)):
             # a block, a loop, an else and an end do nothing, and may stand on any line; 0 is none
@@ -80,8 +104,8 @@ def page(name, lines, counts):
     most = {line: max(each) for line, each in counts.items()}
     legend = "".join('<b class="%s">%d %s</b>' % (kind, [*kinds.values()].count(kind), words) for kind, words in LEGEND.items())
     yield '<!doctype html>\n<meta charset="utf-8">\n<title>%s</title>\n<style>%s</style>' % (html.escape(name), STYLE)
-    yield "<h1>%s</h1>\n<p>Of %d lines with code: %s The number says how often.</p>\n<table>" % (
-        html.escape(name), len(kinds), legend)
+    yield "<h1>%s</h1>\n<p>Of %d lines with code: %s The number says how often.</p>\n<p>%s</p>\n<table>" % (
+        html.escape(name), len(kinds), legend, NOTE)
     for line, text in enumerate(lines, 1):
         width = LONGEST_BAR * most.get(line, 0) // max([1, *most.values()])
         yield '<tr class="%s"><td>%d</td><td>%s</td><td><i style="width:%dpx"></i></td><td>%s</td></tr>' % (
@@ -89,20 +113,34 @@ def page(name, lines, counts):
     yield "</table>"
 
 
+def information(name):
+    """The information under a name, with at least the GROUPS."""
+    try:
+        told = json.loads(arguments.text(name, "information"))
+        if GROUPS <= set(told["groups"]) and told["functions"] and told["imports"] >= 0:
+            return told
+    except (ValueError, KeyError, TypeError):
+        arguments.stop("%s is not what wasabi instrument writes under --info" % name)
+    arguments.stop("the output lacks hooks of some groups: instrument the module with --hooks " + ",".join(sorted(GROUPS)))
+
+
 def main():
-    path, information, source = sys.argv[1:]
-    with open(path, "rb") as file:
-        module = file.read()
-    with open(information, encoding="utf-8") as file:
-        told = json.load(file)
-    with open(source, encoding="utf-8") as file:
-        lines = file.read().splitlines()
-    report = sys.stdin.read()
-    kinds = re.findall(r"^report (\w+) ", report, re.M)
-    if not GROUPS <= set(told["groups"]) or not {"blocks", "branches"} <= set(kinds):
-        sys.exit("a report with blocks and branches is needed, of an output with the groups " + ",".join(sorted(GROUPS)))
-    name = os.path.basename(source)
-    print("\n".join(page(name, lines, counts_of_lines(module, told["imports"], name, report))))
+    path, told, source = arguments.words(__doc__, "MODULE", "INFORMATION", "SOURCE")
+    module, told = arguments.read(path, "module"), information(told)
+    if not module.startswith(b"\0asm"):
+        arguments.stop("%s, the module, is no WebAssembly" % path)
+    lines, name = arguments.text(source, "source").splitlines(), os.path.basename(source)
+    report = arguments.printed("wasabi report")
+    if not {"blocks", "branches"} <= set(re.findall(r"^report (\w+) ", report, re.M)):
+        arguments.stop("standard input must have the reports on blocks and branches, as wasabi report prints them")
+    known = dict(enumerate(bodies(module), told["imports"]))
+    check_module(told, known)
+    check_report(report, known)
+    counts = counts_of_lines(known, name, report)
+    if not counts:
+        others = sorted({it.file for body in known.values() for it in body if it.file})
+        arguments.stop("the module has no line of %s; it has those of %s" % (name, ", ".join(others)))
+    print("\n".join(page(name, lines, counts)))
 
 
 if __name__ == "__main__":

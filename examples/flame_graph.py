@@ -11,7 +11,8 @@ import collections
 import html
 import json
 import re
-import sys
+
+import arguments
 
 WIDTH, ROW, MARGIN, HEADING = 1000, 19, 12, 58
 LETTER = 7.2  # the width of a letter of 12px
@@ -32,7 +33,7 @@ def rows_of(text):
     tree = re.search(r"^tree (\d+)\n((?:node \d+ \d+ \d+\n)*)\Z", text, re.M)
     rows = [tuple(map(int, line.split()[1:])) for line in tree[2].splitlines()] if tree else []
     if not tree or len(rows) != int(tree[1]):
-        sys.exit("no tree: standard input must be what wasabi tree prints")
+        arguments.stop("no tree: standard input must be what wasabi tree prints")
     return rows
 
 
@@ -82,12 +83,17 @@ def picture(boxes, names):
     yield "</svg>"
 
 
+def names_in(text, file):
+    """The names in what wasabi report prints with --names keep, by their functions."""
+    if not re.search(r"^names? \d+\b", text, re.M):
+        arguments.stop("%s has no names: it must be what wasabi report prints with --names keep" % file)
+    return {int(func): json.loads(name) for func, name in re.findall(r'^name (\d+) (".*")$', text, re.M)}
+
+
 def main():
-    names = {}
-    if len(sys.argv) > 1:
-        with open(sys.argv[1], encoding="utf-8") as file:
-            names = {int(func): json.loads(name) for func, name in re.findall(r'^name (\d+) (".*")$', file.read(), re.M)}
-    print("\n".join(picture(list(boxes_of(rows_of(sys.stdin.read()))), names)))
+    file, = arguments.words(__doc__, "[NAMES]")
+    names = names_in(arguments.text(file, "names"), file) if file is not None else {}
+    print("\n".join(picture(list(boxes_of(rows_of(arguments.printed("wasabi tree")))), names)))
 
 
 if __name__ == "__main__":

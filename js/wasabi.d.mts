@@ -1,0 +1,2 @@
+// TypeScript looks for the types of wasabi.mjs under this name.
+export * from "./wasabi.js";
