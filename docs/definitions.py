@@ -1,7 +1,8 @@
 #!/usr/bin/env python3
-"""Writes the lists of docs/DEFINITIONS.md again: which definitions stand in which file, those first that the clauses of
-`run_app` reach. The texts, the groups, the order of files and the sections of the standard stay as they are; a new file is
-put behind the last one of its crate, with the first comment of the file as what it has."""
+"""Writes the lists of docs/DEFINITIONS.md again: which definitions stand in which file, those first that the clause `written`
+of `run_app` reaches, then what each mode adds, and then the others. The texts, the groups, the order of files and the sections
+of the standard stay as they are; a new file is put behind the last one of its crate, with the first comment of the file as
+what it has."""
 import os, re, sys, textwrap
 
 top = os.path.dirname(os.path.dirname(os.path.abspath(__file__)))
@@ -76,32 +77,49 @@ def reached_by(crate, file, body, names, aliases):
         if match[1] in aliases and (*aliases[match[1]], match[2]) in definitions:
             yield (*aliases[match[1]], match[2])
 
-def main():
-    app = open(f"{top}/crates/wasabi_app/src/lib.rt", encoding="utf-8").read()
-    for name in ("app", "lib"):
-        text = open(f"{top}/crates/wasabi_app/src/{name}.rt", encoding="utf-8").read()
-        if "pub fn run_app" in text:
-            app = text
-    names, aliases = imports_of(app)
-    clauses = app[app.index("pub fn run_app"):]
-    clauses = clauses[:clauses.index("\n{")]
-    todo = list(reached_by("", "", clauses, names, aliases))
-    reached = set()
+MODES = ["instrument", "check", "run", "report", "record", "replay", "tree", "trial", "taint"]
+ADDED, INNER = "## What the modes add", "## Inner"
+
+def closure(start):
+    """What these definitions reach, and they."""
+    todo, reached = list(start), set()
     while todo:
         key = todo.pop()
-        if key in reached:
-            continue
-        reached.add(key)
-        todo += reached_by(key[0], key[1], definitions[key], *scopes[key[0], key[1]])
+        if key not in reached:
+            reached.add(key)
+            todo += reached_by(key[0], key[1], definitions[key], *scopes[key[:2]])
+    return reached - private
+
+def parts():
+    """What `run_app` reaches: by the clause `written`, then what the plan of each mode adds, then the rest, each with a title."""
+    app = open(f"{top}/crates/wasabi_app/src/app.rt", encoding="utf-8").read()
+    scope = imports_of(app)
+    clauses = app[app.index("pub fn run_app"):]
+    clauses = clauses[:clauses.index("\n{")]
+    written = next(it for it in re.split(r"\n    (?=ensures|requires)", clauses) if it.startswith("ensures written"))
+    all_of_them = closure(reached_by("", "", clauses, *scope))
+    found, seen = [], set()
+    def add(title, keys):
+        found.append((title, (keys & all_of_them) - seen))
+        seen.update(keys)
+    add("", closure(reached_by("", "", written, *scope)))
+    for mode in MODES:
+        add(f"`{mode}`", closure(key for key in definitions if key[:2] == ("wasabi_app", "Modes." + mode.capitalize())))
+    add("How a command ends, whatever its mode", all_of_them)
+    return found
+
+def main():
+    groups = parts()
+    reached = set().union(*(keys for _, keys in groups))
     shown = [key for key in definitions if key not in private]
     path = f"{top}/docs/DEFINITIONS.md"
-    out, inner, texts = [], False, {}
+    texts = {}
     def only_key(m):
         texts.setdefault((m[1], m[2]), (" ".join(m[4].split()), m[3] or ""))
         return f"- `{m[1]}` `{m[2]}`"
     lines = ENTRY.sub(only_key, open(path, encoding="utf-8").read()).split("\n")
-    def entry(crate, file, inner):
-        kept = [n for (c, f, n) in shown if (c, f) == (crate, file) and ((c, f, n) in reached) != inner]
+    def entry(crate, file, keys):
+        kept = [n for (c, f, n) in shown if (c, f) == (crate, file) and (c, f, n) in keys]
         what, section = texts.get((crate, file)) or (head_of(crate, file), "")
         head = f"- `{crate}` `{file}`{section and f' ({section})'}: {what}"
         return f"{filled(head, '  ')}\n{filled('  - ' + ', '.join(f'`{n}`' for n in kept), '    ')}" if kept else None
@@ -110,30 +128,34 @@ def main():
         words = re.sub(r"\s*\n?-- ?", " ", head[1]).strip() if head else ""
         words = re.split(r"(?<=[a-z0-9])\. ", words)[0].rstrip(".")
         return words[:1].lower() + words[1:]
-    files = list(dict.fromkeys((c, f) for (c, f, n) in definitions))
-    keys = [(i, KEY.match(l)) for i, l in enumerate(lines)]
-    middle = next(i for i, l in enumerate(lines) if l.startswith("## Inner"))
-    for is_inner in (False, True):
-        listed = {(m[1], m[2]) for i, m in keys if m and (i > middle) == is_inner}
-        missing = [k for k in files if k not in listed and entry(*k, is_inner)]
-        for crate, file in missing:
-            last = max((i for i, m in keys if m and (i > middle) == is_inner and m[1] == crate), default=None)
-            if last is None:
-                last = max(i for i, m in keys if m and (i > middle) == is_inner and m[1] in ("hook_mono", "wasm_sem", "rewrite"))
-            lines[last] += f"\n- `{crate}` `{file}`"
-    for line in "\n".join(lines).split("\n"):
-        inner = inner or line.startswith("## Inner")
-        m = KEY.match(line)
-        if m:
-            line = entry(m[1], m[2], inner)
-            if line is None:
-                continue
-        out.append(line)
-    count = len(reached - private)
+    added = next(i for i, l in enumerate(lines) if l.startswith(ADDED))
+    inner = next(i for i, l in enumerate(lines) if l.startswith(INNER))
+    files = list(dict.fromkeys([m.groups() for m in map(KEY.match, lines) if m] + [key[:2] for key in shown]))
+    def listed(some, keys):
+        """These lines with their entries, and an entry for each file that is missing behind the last one of its crate."""
+        stand = [KEY.match(l) for l in some]
+        for crate, file in files:
+            if entry(crate, file, keys) and (crate, file) not in [m.groups() for m in stand if m]:
+                for of in ((crate,), ("hook_mono", "wasm_sem", "rewrite")):
+                    last = max((i for i, m in enumerate(stand) if m and m[1] in of), default=None)
+                    if last is not None:
+                        some[last] += f"\n- `{crate}` `{file}`"
+                        break
+        some = "\n".join(some).split("\n")
+        entries = [(l, KEY.match(l)) for l in some]
+        return [it for it in (entry(m[1], m[2], keys) if m else l for l, m in entries) if it is not None]
+    def section(title, keys):
+        return [f"### {title}", "", f"{len(keys)} definitions.", ""] + list(filter(None, (entry(*it, keys) for it in files))) + [""]
+    words = lines[added:inner]
+    words = "\n".join(words).partition("\n### ")[0].strip().split("\n") + [""]
+    out = listed(lines[:added], groups[0][1]) + words
+    for title, keys in groups[1:]:
+        out += section(title, keys)
+    out += listed(lines[inner:], set(shown) - reached)
     text = "\n".join(out)
-    text = re.sub(r"The \d+ definitions that the clauses", f"The {count} definitions that the clauses", text)
-    text = re.sub(r"The \d+ others, which", f"The {len(shown) - count} others, which", text)
+    for before, after, keys in (("The ", " definitions that the headline", groups[0][1]), ("`run_app` reach\n", " definitions", reached), ("The ", " others, which", set(shown) - reached)):
+        text = re.sub(rf"{before}\d+{after}", f"{before}{len(keys)}{after}", text)
     open(path, "w", encoding="utf-8").write(text)
-    print(count, "reached,", len(shown) - count, "others")
+    print(len(groups[0][1]), "by the headline,", len(reached), "reached,", len(set(shown) - reached), "others")
 
 main()
