@@ -3,16 +3,16 @@
 use crate::Block;
 use module_ast::code::Instr;
 
-/// What stands at a position.
+/// What is at a position of a body.
 #[derive(Clone, Copy)]
 pub enum Opcode<'m> {
     /// The entry of the function.
     Enters,
-    /// An instruction with no sequence in it.
+    /// An instruction without a nested sequence.
     Acts(&'m Instr),
     /// The opcode of a block, a loop or an `if`.
     Opens(Block),
-    /// An `else`: the sides of its `if`, and whether the end of the first is live.
+    /// An `else`: the two branches of its `if`, and whether the end of the first branch is live.
     Alternates {
         then_part: Block,
         else_part: Block,
@@ -22,11 +22,14 @@ pub enum Opcode<'m> {
     Closes(Block),
 }
 
-/// A place of a body: its position, -1 at the entry of the function and counted from 0 at opcodes in the order of the
-/// bytes, `else` and `end` included; whether it is live (Standard, 3.3.5); and what stands there.
+/// A place of a body.
 #[derive(Clone, Copy)]
 pub struct Place<'m> {
+    /// -1 at the entry of the function; opcodes are counted from 0 in the order of the bytes, `else` and `end`
+    /// included.
     pub position: i32,
+    /// Whether the place can be reached by the rules of typing. (Standard, 3.3.5)
     pub live: bool,
+    /// What is at the position.
     pub opcode: Opcode<'m>,
 }

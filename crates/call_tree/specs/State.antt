@@ -48,7 +48,7 @@ state_code =
 
 -- ---- one item more
 
--- nothing yet
+-- the state before the first item
 abbrev pub fresh_tree : TreeState
 fresh_tree = record { brackets = []; counts = empty; taken = 0 }
 
@@ -62,11 +62,11 @@ counted_from counts ps = fold with_path counts ps
 abbrev pub taken_by : TreeState → Event → List Bracket → TreeState
 taken_by s e brackets = record { brackets = brackets; counts = counted_from s.counts (path_begun s.brackets (event e)); taken = s.taken + 1 }
 
--- none where the event is an end that does not close the latest begin
+-- the state after an event; `None` if the event is an end that does not close the latest begin
 abbrev pub tree_after : TreeState → Event → Option TreeState
 tree_after s e = option_map (taken_by s e) (open_after s.brackets (event e))
 
--- only such an end is not nested, at its location, and only at a begin memory may run out
+-- only such an end is refused, with its location; and only at a begin memory may run out
 abbrev pub IsTreeRefusal : TreeState → Event → TreeFault → Type 0
 IsTreeRefusal s (events.End p kind begin) (faults.NotNested loc) = (closed_by (bracket p.func kind begin) s.brackets ≡ None) × (loc ≡ p)
 IsTreeRefusal s (events.Begin p kind) faults.NoMemory = Unit {0}
@@ -74,7 +74,7 @@ IsTreeRefusal s e fault = ⊥
 
 -- ---- of a list of items
 
--- how often each path comes
+-- how often each path is in the list
 abbrev pub path_counts_in : List (List ℕ) → PathCounts
 path_counts_in ps = from_entries (map (λ p. (p, count_by (eq_by_cmp (slice_cmp nat_cmp) p) ps)) ps)
 
@@ -88,7 +88,7 @@ event_count (hook_call h ∷ is) = event_count is
 abbrev pub state_with : List TraceItem → List Bracket → TreeState
 state_with is brackets = record { brackets = brackets; counts = path_counts_in (paths is); taken = event_count is }
 
--- none for a bad list
+-- the state of a list of items; `None` if the list is bad
 abbrev pub state_of : List TraceItem → Option TreeState
 state_of is = option_map (state_with is) (open_after_all (Some []) is)
 
@@ -99,23 +99,23 @@ state_behind (event e) s = tree_after s e
 state_behind (host_call f vs rs ws) s = Some s
 state_behind (hook_call h) s = Some s
 
--- items one by one
+-- the state after items, taken one by one
 abbrev pub tree_behind : List TraceItem → TreeState → Option TreeState
 tree_behind [] s = Some s
 tree_behind (i ∷ is) s = option_and_then (tree_behind is) (state_behind i s)
 
--- items, one by one, bring a tree to the state of the list; where one is refused the list is bad, and stays so
+-- items, taken one by one, bring a tree to the state of their list; if one is refused the list is bad, and stays bad
 pub record TakesMakeTree : Type 0 where
   pub fresh : state_of [] ≡ Some fresh_tree
   pub behind : (is : List TraceItem) (i : TraceItem) → state_of (is ++ i ∷ []) ≡ option_and_then (state_behind i) (state_of is)
   pub bad : (is js : List TraceItem) → state_of is ≡ None → HasBadEnd (is ++ js)
 
--- ---- how a tree holds it
+-- ---- how a tree keeps the state
 
 abbrev pub bracket_of : Open → Bracket
 bracket_of o = bracket o.func o.kind o.begin
 
--- the latest first
+-- the brackets of open begins, the latest first
 abbrev pub brackets_of : List Open → List Bracket
 brackets_of opens = map bracket_of (reverse opens)
 

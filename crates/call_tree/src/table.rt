@@ -1,4 +1,4 @@
-// Paths with how often each came, as a tree of places.
+// Paths, and how often each came, as a tree of places.
 
 ghost use Rattle.std.specs.Prelude.{◌≡◌, ◌+◌, ◌-◌, ◌^◌, ◌<◌, ◌≤◌, ℕ, List, [], ◌∷◌, ◌++◌, length, reverse, cond, slice_index, Some, IfOk, OnOk, OnErr};
 ghost use Rattle.std.specs.Ordering.{nat_cmp};
@@ -12,8 +12,8 @@ use std::alloc::{AllocError, Global};
 use std::collections::BTreeMap;
 use std::marker::Model;
 
-// A path that came: the place that it goes on from, its last function, how many it has before that, how often it came, and the
-// places that go on from it, by their function.
+/// The place of a path: the place of the path without its last function, the last function, how many functions are
+/// before it, how often the path came, and the places of the paths that are one function longer, by that function.
 #[derive(Drop)]
 pub struct Place {
     pub from: usize,
@@ -23,8 +23,8 @@ pub struct Place {
     pub next: BTreeMap<u32, usize>,
 }
 
-// The paths that came, in the order in which they came first, each with how often it came. Place 0 is that of no function;
-// the path at place n is the n-th. The roots go on from place 0.
+/// The paths that came, in the order in which each came first, with how often each came. Place 0 is that of the empty
+/// path, and place n that of the n-th path. `roots` has the places of the paths of one function.
 #[derive(Drop)]
 pub struct Table {
     alloc: Global,
@@ -43,7 +43,7 @@ impl Model for Table {
     ghost invariant = { λ t. IsNodeTable (links_of t.places.items) (depths_of t.places.items) (nexts_of t.roots.entries t.places.items) };
 }
 
-// How many functions a path has that goes on from a place, before its last.
+// How many functions are before the last one in a path that is one function longer than the path of `place`.
 fn depth_from(places: &[Place], place: usize) -> u64
     requires known { place ≤ length places.now }
     requires deep { (i : ℕ) → i < length places.now → slice_index (depths_of places.now) i ≤ i }
@@ -56,7 +56,7 @@ fn depth_from(places: &[Place], place: usize) -> u64
     }
 }
 
-// The place that goes on from a place by a function.
+// The place of the path that is longer by `func` than the path of `place`, if there is one.
 fn next_place(
     roots: &BTreeMap<u32, usize>,
     places: &[Place],
@@ -73,7 +73,8 @@ fn next_place(
     }
 }
 
-// Lets a function lead from a place to another. An `Err` comes where there is no memory, and changes nothing.
+// Makes `fresh` the place of the path that is longer by `func` than the path of `place`. An `AllocError` if memory runs
+// out; nothing has then changed.
 fn put_next(
     roots: &mut BTreeMap<u32, usize>,
     places: &mut [Place],
@@ -99,7 +100,7 @@ fn put_next(
     Ok(())
 }
 
-// Puts the places that are reached from a place, the last function first.
+// Appends the places in `next`, the one of the last function first.
 fn put_kids(waiting: &mut Vec<usize>, next: &BTreeMap<u32, usize>) -> Result<(), AllocError>
     ensures { OnOk result (waiting.new.items ≡ waiting.old.items ++ reverse (values_of next.now.entries)) }
 {
@@ -108,7 +109,7 @@ fn put_kids(waiting: &mut Vec<usize>, next: &BTreeMap<u32, usize>) -> Result<(),
 }
 
 impl Table {
-    // No path.
+    /// A table without paths.
     pub fn new(alloc: Global) -> Self
         ensures { result ≡ [] }
     {
@@ -119,8 +120,8 @@ impl Table {
         }
     }
 
-    // Counts the path that goes on from a place by a function, and answers its place. An `Err` comes where there is no memory
-    // for a new path, and changes nothing.
+    /// Counts the path that is longer by `func` than the path of `place`, and answers its place. An `AllocError` if
+    /// memory for a new path runs out; nothing has then changed.
     pub fn visit(&mut self, place: usize, func: u32) -> Result<usize, AllocError>
         requires known { place ≤ length self.old }
         requires room { (n : ℕ) × (n + 1 < 2 ^ 64) × CountsPathsUpTo n self.old }
@@ -154,7 +155,7 @@ impl Table {
         Ok(fresh)
     }
 
-    // The place that a place goes on from, by the last function of its path.
+    /// The place of the path without its last function.
     pub fn back(&self, place: usize) -> usize
         requires { (0 < place) × (place ≤ length self.now) }
         ensures known { result ≤ length self.now }
@@ -163,7 +164,7 @@ impl Table {
         self.places[place - 1].from
     }
 
-    // A node for each path, in the order of paths.
+    /// A node for each path: a path is before the longer ones that begin with it, and these are by rising function.
     pub fn nodes(&self) -> Result<Vec<Node>, AllocError>
         ensures { IfOk result (λ nodes. nodes.items ≡ nodes_of (path_counts self.now)) }
     {

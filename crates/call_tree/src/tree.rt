@@ -20,7 +20,7 @@ use wasm_num::{BlockKind, NoMemory};
 pub enum TreeFault {
     /// An end, at this location, does not close the latest begin that is open.
     NotNested { loc: Loc },
-    /// There was no memory for a begin; no other event asks for any.
+    /// Memory ran out at a begin. No other event takes memory.
     NoMemory,
 }
 
@@ -32,7 +32,7 @@ impl From<AllocError> for TreeFault {
     }
 }
 
-// A begin that is open.
+/// A begin that is open.
 #[derive(Clone, Copy)]
 pub struct Open {
     pub func: u32,
@@ -40,8 +40,8 @@ pub struct Open {
     pub begin: i32,
 }
 
-// Opens a begin, and answers the place of the functions that are open then, where they were at a place. The path of a function
-// is counted. After an `Err` all is as before.
+// Opens a begin, and counts the path if it is a function's. `at` is the place of the functions that are open; answers
+// their place after the begin. After an `Err` all is as before.
 fn begin(
     table: &mut Table,
     opened: &mut Vec<Open>,
@@ -72,15 +72,15 @@ fn begin(
     Ok(place)
 }
 
-// Whether an end is that of a begin.
+// Whether an end closes this begin.
 fn closes(latest: &Open, loc: Loc, kind: BlockKind, begin: i32) -> bool
     ensures { result ≡ same_bracket (bracket_of latest.now) (bracket loc.func kind begin) }
 {
     latest.func == loc.func && latest.kind == kind && latest.begin == begin
 }
 
-// Closes the latest begin, if this is its end, and answers the place of the functions that are open then, where they were at a
-// place. Else nothing changes.
+// Closes the latest begin, if this is its end. `at` is the place of the functions that are open; answers their place
+// after the end. `None` if this is not its end; nothing has then changed.
 fn end(
     table: &Table,
     opened: &mut Vec<Open>,
@@ -108,13 +108,13 @@ fn end(
     }
 }
 
-/// How often each path of calls came in the entries and events so far. Contracts see it as a state: the begins that are open,
+/// How often each path of calls came in the entries and events so far. Contracts see a state: the begins that are open,
 /// the paths with their counts, and the number of events.
 #[derive(Drop)]
 pub struct Tree {
     table: Table,
     opened: Vec<Open>,
-    // the place of the functions that are open
+    // The place of the functions that are open.
     at: usize,
     taken: u64,
 }
@@ -133,7 +133,7 @@ impl Model for Tree {
 }
 
 impl Tree {
-    /// No entry or event yet. It takes no memory, and keeps the allocator.
+    /// A tree before the first entry or event. Takes no memory, and keeps the allocator for later.
     pub fn new(alloc: Global) -> Tree
         ensures { result ≡ fresh_tree }
     {
@@ -145,7 +145,7 @@ impl Tree {
         }
     }
 
-    /// An entry of the start or of a script's call: it closes all that is open, and takes no memory.
+    /// Takes an entry of the start or of a call of the script, which closes all that is open. Takes no memory.
     pub fn enter(&mut self)
         ensures { self.new ≡ entered self.old }
     {
@@ -153,8 +153,9 @@ impl Tree {
         self.at = 0;
     }
 
-    /// An event. `NotNested` comes exactly where it is an end that differs from the latest begin in function, kind or begin, or
-    /// none is open; `NoMemory` at a begin alone. After an `Err` the tree is as before.
+    /// Takes an event. `NotNested` exactly if the event is an end that differs from the latest begin in function, kind
+    /// or position of the begin, or if no begin is open. `NoMemory` only at a begin. After an `Err` the tree is as
+    /// before.
     pub fn take(&mut self, event: &Event) -> Result<(), TreeFault>
         requires { self.old.taken < 2 ^ 63 }
         ensures taken { OnOk result (tree_after self.old event.now ≡ Some self.new) }
@@ -177,15 +178,15 @@ impl Tree {
         Ok(())
     }
 
-    /// How many events it has taken.
+    /// How many events were taken.
     pub fn taken(&self) -> u64
         ensures { result ≡ self.now.taken }
     {
         self.taken
     }
 
-    /// A node for each path that came: a path before those that go on from it, and these by rising function. An `Err` comes where
-    /// there is no memory for them.
+    /// A node for each path that came: a path is before the longer ones that begin with it, and these are by rising
+    /// function. `NoMemory` if memory runs out.
     pub fn rows(&self) -> Result<Vec<Node>, NoMemory>
         ensures { IfOk result (λ nodes. nodes.items ≡ nodes_of self.now.counts) }
     {

@@ -8,7 +8,8 @@ use Rattle.module_ast.specs.Places.{code_nesting}
 use Rattle.code_decode.specs.declared.expr.Expr.{Expr}
 use Rattle.code_decode.specs.declared.expr.Expr.TheVariants.{Built, Floats, Deep}
 
--- the expression at the front of the bytes: its tree, or one with a floating node, or one whose nesting is above the bound
+-- the expression at the front of the bytes: its tree, or one with a floating-point node, or one that nests deeper than
+-- the bound
 abbrev pub IsExprAnswer : (bound : ℕ) → Expr → (bytes rest : List ℕ) → Type 0
 IsExprAnswer bound (Built t) bytes rest = IsFront IsExpr bytes rest (code_node t) × (code_nesting t ≤ bound)
 IsExprAnswer bound Floats bytes rest = (t : grammar.CodeNode) × IsFront IsExpr bytes rest t × (code_floats t ≡ true)

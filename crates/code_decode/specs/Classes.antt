@@ -19,7 +19,7 @@ use Rattle.code_decode.specs.declared.class.Opening.TheVariants as openings
 use Rattle.code_decode.specs.declared.class.Class.{Class}
 use Rattle.code_decode.specs.declared.class.Class.TheVariants as classes
 
--- the instruction
+-- the instruction of a class
 abbrev pub bare_plain : Bare → Plain
 bare_plain bares.Unreachable = unreachable
 bare_plain bares.Nop = nop
@@ -44,7 +44,7 @@ abbrev pub access_plain : Access → MemArg → Plain
 access_plain (accesses.Load op) m = load op m
 access_plain (accesses.Store op) m = store op m
 
--- what follows the opcode
+-- what follows the opcode of an instruction of a class
 abbrev pub plain_shape : Operands → Shape
 plain_shape (operands.Bare b) = tokens.bare (bare_plain b)
 plain_shape (operands.Index i) = tokens.index (index_plain i)

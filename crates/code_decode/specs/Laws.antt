@@ -7,6 +7,6 @@ use Rattle.module_ast.specs.Binary.{CodeNode, BodyNode, IsBody, IsExpr}
 abbrev pub BodiesAreUnique : Type 0
 BodiesAreUnique = (bytes : List ℕ) (b c : BodyNode) → IsBody bytes b → IsBody bytes c → b ≡ c
 
--- at most one expression stands at the front of bytes, and what follows it is the same
+-- bytes begin with at most one expression, and what is behind it is determined
 abbrev pub ExpressionsAreUnique : Type 0
 ExpressionsAreUnique = (bytes r s : List ℕ) (t u : CodeNode) → IsFront IsExpr bytes r t → IsFront IsExpr bytes s u → (r ≡ s) × (t ≡ u)

@@ -1,4 +1,4 @@
--- What a sequence that is open becomes at its end.
+-- What an open sequence becomes at its end.
 use Rattle.module_ast.specs.Structure.{Tree}
 use Rattle.module_ast.specs.declared.code.Instr.{Instr}
 use Rattle.module_ast.specs.declared.code.Instr.TheVariants as instrs

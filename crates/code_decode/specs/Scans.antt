@@ -1,4 +1,4 @@
--- What tokens make of what was read so far.
+-- How tokens change what was read so far.
 use Rattle.std.specs.Prelude.{◌≡◌, ℕ, ◌+◌, ◌<◌, ◌≤◌, [], ◌∷◌, ◌++◌, length, take, drop, max, Bool, ◌||◌}
 use Rattle.module_ast.specs.Structure.{code_of}
 use Rattle.module_ast.specs.declared.code.BlockType.{BlockType}
@@ -8,14 +8,14 @@ use Rattle.code_decode.specs.declared.token.Kind.TheVariants.{Then, Else}
 use Rattle.code_decode.specs.declared.expr.Frame.{Frame}
 use Rattle.code_decode.specs.declared.expr.Scan.{Scan}
 
--- a sequence begins, behind the instructions so far
+-- a sequence opens, behind the instructions so far
 pub record OpensSequence (old new : Scan) (kind : Kind) (floating : Bool) : Type 0 where
   pub stack : new.stack.items ≡ old.stack.items ++ (record { start = length old.items.items; kind = kind }) ∷ []
   pub items : new.items ≡ old.items
   pub floats : new.floats ≡ (old.floats || floating)
   pub nesting : new.nesting ≡ old.nesting
 
--- `else`: the frame, which was the innermost, was of the first part of an `if`, and the innermost is now of the second
+-- `else`: the innermost frame, which is that of the first branch of an `if`, becomes that of the second
 pub record TurnsToElse (old new : Scan) (frame : Frame) : Type 0 where
   pub ty : BlockType
   pub first : frame.kind ≡ Then ty
@@ -24,12 +24,12 @@ pub record TurnsToElse (old new : Scan) (frame : Frame) : Type 0 where
   pub floats : new.floats ≡ old.floats
   pub nesting : new.nesting ≡ max old.nesting (length old.stack.items + 1)
 
--- no first part of an `if`
+-- the sequence is not the first branch of an `if`
 abbrev pub IsNoThen : Kind → Type 0
 IsNoThen kind = (ty : BlockType) → kind ≡ Then ty → ⊥
 
--- `end`: the instructions of the frame, which was the innermost, become one instruction that closes, or are dropped where
--- it nests too deep
+-- `end`: the instructions of the frame, which was the innermost, become one instruction, or are dropped if that nests
+-- deeper than the bound
 pub record ClosesSequence (old new : Scan) (frame : Frame) (bound : ℕ) : Type 0 where
   pub stack : new.stack.items ≡ old.stack.items
   pub floats : new.floats ≡ old.floats

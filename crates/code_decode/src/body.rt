@@ -1,8 +1,9 @@
-// Bodies of functions.
+// The decoder of function bodies.
 
 ghost use Rattle.std.specs.Prelude.{◌≡◌, ◌≤◌, ℕ, length, IfOk, IsErrOf};
 ghost use Rattle.module_ast.specs.Binary.{GramBody, IsNoBody, BodyFloats, BodyExceeds};
 ghost use Rattle.module_ast.specs.Places.{code_nesting};
+ghost use Rattle.module_ast.specs.Validation.Limits.{deepest, longest_file};
 ghost use Rattle.code_decode.specs.Locals.{body_fault};
 
 use crate::expr::{Expr, read_expr};
@@ -13,16 +14,17 @@ use module_ast::module::Body;
 use module_ast::seq::Seq;
 use std::alloc::Global;
 
-/// Why bytes give no body. The first that holds is told.
+/// Why bytes are no body that is accepted. The first cause that applies is the answer.
 #[derive(Debug, Drop)]
 pub enum BodyFault {
-    /// The bytes are in no way a body of the grammar.
+    /// The bytes are no body of the grammar.
     Malformed,
-    /// They are one with a floating node: the type of a group, or in the code.
+    /// The bytes are a body with a floating-point type among its locals, or a floating-point type or instruction in its
+    /// code.
     Float,
-    /// They are one whose code has this nesting, which is above the bound.
+    /// The bytes are a body whose code nests `found` deep, which is above the bound.
     Nesting { found: u32 },
-    /// An allocation failed.
+    /// Memory ran out.
     NoMemory,
 }
 
@@ -37,13 +39,13 @@ impl From<Fault> for BodyFault {
     }
 }
 
-/// The body with these bytes, as a code entry holds them behind its size (5.5.13).
+/// The body that is these bytes, as an entry of the code section has them behind the size (5.5.13).
 ///
-/// At most 268,435,456 bytes, and a bound for the nesting of at most 1,002. Each answer but `NoMemory` says what the
-/// bytes are, and these exclude each other, so it is the only one that can come.
+/// There are at most 268,435,456 bytes, and the bound for the nesting is at most 1,002. Each answer except `NoMemory`
+/// says what the bytes are, and no two of these answers are true of the same bytes.
 pub fn decode_body(alloc: Global, bytes: &[u8], nesting: u32) -> Result<Body, BodyFault>
-    requires bytes { length bytes.now ≤ 268435456 }
-    requires nesting { nesting ≤ 1002 }
+    requires bytes { length bytes.now ≤ longest_file }
+    requires nesting { nesting ≤ deepest }
     ensures ok { IfOk result (λ b. GramBody bytes.now b) }
     ensures within { IfOk result (λ b. code_nesting b.code ≤ nesting) }
     ensures malformed { IsErrOf result BodyFault.Malformed → IsNoBody bytes.now }

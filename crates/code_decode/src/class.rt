@@ -1,4 +1,4 @@
-// What follows an opcode.
+// Opcodes, by what follows them.
 
 ghost use Rattle.std.specs.Prelude.{◌≡◌};
 ghost use Rattle.module_ast.specs.Binary.{listed_shape, shape_at};
@@ -9,7 +9,7 @@ use module_ast::code::Instr;
 use module_ast::ops::{LoadOp, MemArg, StoreOp};
 use wasm_num::NumOp;
 
-/// An instruction without operands. That of a memory has a zero byte behind its opcode.
+/// An instruction without operands behind its opcode. A memory instruction of this kind has a zero byte there.
 #[derive(Clone, Copy)]
 pub enum Bare {
     Unreachable,
@@ -22,7 +22,7 @@ pub enum Bare {
     Num(NumOp),
 }
 
-/// An instruction with an index.
+/// An instruction with an index behind its opcode.
 #[derive(Clone, Copy)]
 pub enum Indexed {
     Br,
@@ -35,14 +35,14 @@ pub enum Indexed {
     GlobalSet,
 }
 
-/// An instruction on memory.
+/// A load or store.
 #[derive(Clone, Copy)]
 pub enum Access {
     Load(LoadOp),
     Store(StoreOp),
 }
 
-/// A plain instruction, by what follows its opcode.
+/// An instruction without a nested sequence, by what follows its opcode.
 #[derive(Clone, Copy)]
 pub enum Operands {
     Bare(Bare),
@@ -55,7 +55,7 @@ pub enum Operands {
     Wide,
 }
 
-/// A floating instruction, by what follows its opcode.
+/// A floating-point instruction, by what follows its opcode.
 #[derive(Clone, Copy)]
 pub enum FloatOperands {
     Nothing,
@@ -64,7 +64,7 @@ pub enum FloatOperands {
     EightBytes,
 }
 
-/// What opens a sequence. The type of a block follows.
+/// An instruction that opens a sequence. A block type follows its opcode.
 #[derive(Clone, Copy)]
 pub enum Opening {
     Block,
@@ -72,7 +72,7 @@ pub enum Opening {
     If,
 }
 
-/// What an opcode begins, and so what follows it. `Nothing` has no such opcode.
+/// What begins with an opcode, and so what follows the opcode. `Nothing` is the class of bytes that are no opcode.
 #[derive(Clone, Copy)]
 pub enum Class {
     Nothing,
@@ -84,6 +84,7 @@ pub enum Class {
 }
 
 impl Bare {
+    /// The instruction as the program has it.
     pub fn instr(self) -> Instr
         ensures { result ≡ instr_of (bare_plain self) }
     {
@@ -101,6 +102,7 @@ impl Bare {
 }
 
 impl Indexed {
+    /// The instruction with this index, as the program has it.
     pub fn instr(self, index: u32) -> Instr
         ensures { result ≡ instr_of (index_plain self index) }
     {
@@ -118,6 +120,7 @@ impl Indexed {
 }
 
 impl Access {
+    /// The instruction with this alignment and offset, as the program has it.
     pub fn instr(self, arg: MemArg) -> Instr
         ensures { result ≡ instr_of (access_plain self arg) }
     {
@@ -128,7 +131,7 @@ impl Access {
     }
 }
 
-/// What this opcode begins. (Standard, 5.4)
+/// What begins with this opcode. (Standard, 5.4)
 pub fn class_of(opcode: u8) -> Class
     ensures { shape_at opcode ≡ shape_of result }
 {
@@ -150,7 +153,7 @@ pub fn class_of(opcode: u8) -> Class
     }
 }
 
-// The opcodes of neither loads nor stores nor number instructions.
+// The class of an opcode that is of no load, store or number instruction.
 fn listed(opcode: u8) -> Class
     ensures { listed_shape opcode ≡ shape_of result }
 {

@@ -1,9 +1,10 @@
-// Expressions.
+// The decoder of expressions.
 
 ghost use Rattle.std.specs.Prelude.{◌≡◌, ◌≤◌, ◌<◌, ◌^◌, ℕ, [], true, false, length, take, drop, IfOk, OnOk, IsErrOf};
 ghost use Rattle.leb_binary.specs.Leb.{HasNoFront};
 ghost use Rattle.module_ast.specs.Binary.{IsExpr};
 ghost use Rattle.module_ast.specs.Structure.{code_of};
+ghost use Rattle.module_ast.specs.Validation.Limits.{deepest, longest_file};
 ghost use Rattle.code_decode.specs.Answers.{IsExprAnswer};
 ghost use Rattle.code_decode.specs.Opened.{closed_instr};
 ghost use Rattle.code_decode.specs.Scans.{OpensSequence, TurnsToElse, IsNoThen, ClosesSequence};
@@ -14,7 +15,8 @@ use leb_binary::Cursor;
 use module_ast::code::{Code, Instr};
 use std::alloc::{AllocError, Global};
 
-/// An expression that was read: its tree, or that it has a floating node, or its nesting where that is above the bound.
+/// An expression that was read: its code; or that it has a floating-point type or instruction; or its nesting, if that
+/// is above the bound.
 #[derive(Drop)]
 pub enum Expr {
     Built(Code),
@@ -22,15 +24,15 @@ pub enum Expr {
     Deep { found: u32 },
 }
 
-// A sequence that is open, and the place on the stack of instructions where its own begin.
+// An open sequence, and where its instructions begin on the stack of instructions.
 #[derive(Drop)]
 struct Frame {
     start: usize,
     kind: Kind,
 }
 
-// What was read so far: the open sequences, the instructions of all of them on one stack, those of the outermost first,
-// whether a node was floating, and the nesting.
+// What was read so far: the open sequences; the instructions of all of them on one stack, those of the outermost
+// sequence first; whether anything was floating-point; and the nesting.
 #[derive(Drop)]
 struct Scan {
     stack: Vec<Frame>,
@@ -65,7 +67,6 @@ impl Scan {
         }
     }
 
-    // A sequence begins.
     fn open(&mut self, kind: Kind, floating: bool) -> Result<(), AllocError>
         ensures { OnOk result (OpensSequence self.old self.new kind floating) }
     {
@@ -75,7 +76,7 @@ impl Scan {
         Ok(())
     }
 
-    // The instructions from this place on leave the stack, in a list without spare room.
+    // Takes the instructions from `start` on off the stack, in a list without spare room.
     fn take(&mut self, alloc: Global, start: usize) -> Result<Code, AllocError>
         requires { start ≤ length self.old.items.items }
         ensures code { IfOk result (λ code. code ≡ code_of (drop start self.old.items.items)) }
@@ -88,7 +89,8 @@ impl Scan {
         Code::from_vec(alloc, items)
     }
 
-    // The first part of an `if` ends, whose frame was the innermost, and its second begins.
+    // Ends the first branch of an `if`, whose frame was the innermost, and begins the second. `Malformed` if the frame
+    // is of anything else.
     fn turn(&mut self, alloc: Global, frame: Frame) -> Result<(), Fault>
         requires { frame.start ≤ length self.old.items.items }
         ensures ok { OnOk result (TurnsToElse self.old self.new frame) }
@@ -104,7 +106,8 @@ impl Scan {
         Ok(())
     }
 
-    // The sequence of this frame ends, which was the innermost. It is dropped where it nests deeper than the bound.
+    // Ends the sequence of this frame, which was the innermost. The sequence is dropped if it nests deeper than the
+    // bound.
     fn end(&mut self, alloc: Global, frame: Frame, bound: u32) -> Result<(), AllocError>
         requires { frame.start ≤ length self.old.items.items }
         ensures { OnOk result (ClosesSequence self.old self.new frame bound) }
@@ -118,7 +121,7 @@ impl Scan {
         Ok(())
     }
 
-    // What the whole is, behind its last token. Code has no spare room.
+    // The whole expression, behind its last token. Its code has no spare room.
     fn answer(mut self, alloc: Global, bound: u32) -> Result<Expr, AllocError>
         requires { self.nesting < 2 ^ 32 }
         ensures floats { self.floats ≡ true → IfOk result (λ e. e ≡ Expr.Floats) }
@@ -137,15 +140,15 @@ impl Scan {
     }
 }
 
-/// Takes the expression at the front (5.4.6), of at most 268,435,456 bytes. The bound is at most 1,002, the nesting that
-/// what drops or walks a tree stands.
+/// Takes the expression at the front (5.4.6), of at most 268,435,456 bytes. `bound` is the greatest nesting that is
+/// accepted, at most 1,002, because functions that drop or walk a tree recurse as deep as it nests.
 ///
-/// It goes over the tokens once, with two stacks of its own, and recurses nowhere. What is nested deeper than the bound is
-/// dropped as it closes, so no tree is ever deeper. `Malformed` comes before a floating node, and that before the nesting.
-/// After an `Err` it is not told where the cursor stands.
+/// One pass over the tokens with two stacks and no recursion. A sequence that nests deeper than the bound is dropped
+/// when it closes, so no tree is ever deeper. `Malformed` takes precedence over `Floats`, and `Floats` over `Deep`.
+/// After an `Err` the cursor may be anywhere.
 pub fn read_expr(alloc: Global, cursor: &mut Cursor, bound: u32) -> Result<Expr, Fault>
-    requires bytes { length cursor.now.left ≤ 268435456 }
-    requires bound { bound ≤ 1002 }
+    requires bytes { length cursor.now.left ≤ longest_file }
+    requires bound { bound ≤ deepest }
     ensures ok { IfOk result (λ e. IsExprAnswer bound e cursor.old.left cursor.new.left) }
     ensures malformed { IsErrOf result Fault.Malformed → HasNoFront IsExpr cursor.old.left }
 {

@@ -1,4 +1,4 @@
-// Why reading stops.
+// Why an item is not read.
 
 ghost use Rattle.std.specs.Prelude.{◌≡◌};
 ghost use Rattle.code_decode.specs.declared.fault.Fault.TheVariants.{Malformed, NoMemory};
@@ -6,12 +6,12 @@ ghost use Rattle.code_decode.specs.declared.fault.Fault.TheVariants.{Malformed, 
 use leb_binary::Bad;
 use std::alloc::{AllocError, AllocFailed};
 
-/// Why an item of the grammar could not be read.
+/// Why an item of the grammar is not read.
 #[derive(Debug, Drop)]
 pub enum Fault {
     /// No front of the bytes is in the grammar of the item.
     Malformed,
-    /// An allocation failed.
+    /// Memory ran out.
     NoMemory,
 }
 

@@ -1,4 +1,4 @@
-// The decoder of bodies, constant expressions and types: exact both ways.
+// The decoder of bodies, constant expressions and types: it accepts exactly what the grammar has.
 #![tactic(auto)]
 
 mod body;

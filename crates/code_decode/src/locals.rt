@@ -14,7 +14,7 @@ use module_ast::module::Group;
 use std::alloc::Global;
 use wasm_num::ValType;
 
-// So many locals of one type; none is a floating one.
+// Takes a group: how many locals it has, and their type; `None` is a floating-point type.
 fn read_group(cursor: &mut Cursor) -> Result<(u32, Option<ValType>), Bad>
     ensures ok { IfOk result (λ p. (g : grammar.GroupNode) × IsFront IsGroup cursor.old.left cursor.new.left g × (g.count ≡ p.0) × StandsFor is_floating integer p.1 g.ty) }
     ensures bad { OnErr result (HasNoFront IsGroup cursor.old.left) }
@@ -28,8 +28,8 @@ fn read_group(cursor: &mut Cursor) -> Result<(u32, Option<ValType>), Bad>
     Ok((count, ty))
 }
 
-/// Takes the groups of a body's locals, fewer than 2^32 locals together (5.4.6); `None` has a floating one.
-/// After an `Err` it is not told where the cursor stands.
+/// Takes the groups of a body's locals (5.5.13), which are fewer than 2^32 locals together; `None` if one has a
+/// floating-point type. After an `Err` the cursor may be anywhere.
 pub fn read_locals(alloc: Global, cursor: &mut Cursor) -> Result<Option<Vec<Group>>, Fault>
     ensures ok { IfOk result (λ o. (gs : List grammar.GroupNode) × IsFront AreLocals cursor.old.left cursor.new.left gs × MatchOption o (some_in group_floats gs ≡ true) (λ v. gs ≡ map group_node v.items)) }
     ensures malformed { IsErrOf result Fault.Malformed → HasNoFront AreLocals cursor.old.left }

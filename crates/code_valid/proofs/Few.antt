@@ -8,7 +8,7 @@ use Rattle.module_ast.specs.declared.module.Module.{Module}
 use Rattle.leb_binary.specs.Shortest.{unsigned_bytes}
 use Rattle.module_ast.specs.Binary.{header, items_bytes, vec_bytes, sized_bytes, vec_section, start_bytes, module_bytes, func_type_bytes, import_bytes, table_bytes, limits_bytes, global_bytes, export_bytes, element_bytes, body_bytes, segment_bytes}
 use Rattle.module_ast.specs.Structure.{imported_funcs}
-use Rattle.module_ast.specs.Validation.{IsWhole}
+use Rattle.module_ast.specs.Validation.{IsWhole, longest_file}
 use Rattle.module_ast.proofs.Writers.{unsigned_some, items_many}
 use Rattle.module_ast.proofs.WrittenEntries.{import_writes, memory_writes}
 
@@ -46,7 +46,7 @@ entries_few m =
     omega (arith, whole)
 
 -- in a whole module
-pub entries_fit : (m : Module) → IsWhole m → entries m ≤ 268435456
+pub entries_fit : (m : Module) → IsWhole m → entries m ≤ longest_file
 entries_fit m w = omega (arith, entries_few m, w.size)
 
 imported_one : (i : Import) (item : Item) (is : List Import) → length (imported_funcs is) ≤ length is → (let j = record i { item = item } in length (imported_funcs (j ∷ is)) ≤ length (j ∷ is))

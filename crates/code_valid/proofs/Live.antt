@@ -9,7 +9,7 @@ use Rattle.module_ast.specs.declared.module.FuncType.{FuncType}
 use Rattle.module_ast.specs.Structure.{Tree, done, plain, block, loop, if_then, if_else, Plain, unreachable, br_table, br_if, br, return_, call_indirect, call, drop_, select, local_get, local_set, local_tee, global_get, global_set, load, store, memory_size, memory_grow}
 use Rattle.module_ast.specs.Places.{goes_on, code_size, ends_live, Mark, marks_at, HasMarks}
 use Rattle.module_ast.specs.Validation.{load_type, load_width, store_type, store_width, Context, inside, block_type, push, TypesPlain, TypesCode}
-use Rattle.code_valid.specs.Checking.{BlockStack, take_type, take_types, put_types, Effect, refuses, turns, stops, drops, selects, with_some, effect_if, is_some_list, is_aligned, stack_effect, apply, same_types, only_if, ends_with, starting, block_effect, if_effect, check, place_marks, option_or, block_takes, if_takes, marks_of, height_of}
+use Rattle.code_valid.specs.Checking.{BlockStack, take_type, take_types, put_types, OperandEffect, refuses, turns, stops, drops, selects, with_some, effect_if, is_some_list, is_aligned, stack_effect, apply, same_types, only_if, ends_with, starting, block_effect, if_effect, check, place_marks, option_or, block_takes, if_takes, marks_of, height_of}
 use Rattle.code_valid.specs.Instance.{known_types}
 use Rattle.code_valid.proofs.Exact.{Typed, same_types_by, push_last, effect_sound, body_sound, check_exact}
 
@@ -27,7 +27,7 @@ push_all_known : (ts s : List ValType) → put_types ts (known_types s) ≡ know
 push_all_known [] s = refl
 push_all_known (t ∷ ts) s = push_all_known ts (t ∷ s)
 
-abbrev is_stop : Effect → Bool
+abbrev is_stop : OperandEffect → Bool
 is_stop refuses = false
 is_stop (turns takes leaves) = false
 is_stop (stops takes) = true
@@ -38,7 +38,7 @@ select_known : (t : ValType) (below : List ValType) → apply selects (known_typ
 select_known I32 below = refl
 select_known I64 below = refl
 
-apply_known : (e : Effect) (s u : List ValType) → is_stop e ≡ false → Typed e s u → apply e (known_types s) ≡ Some (known_types u)
+apply_known : (e : OperandEffect) (s u : List ValType) → is_stop e ≡ false → Typed e s u → apply e (known_types s) ≡ Some (known_types u)
 apply_known refuses s u n h = absurd h
 apply_known (turns takes leaves) s u n (below, r, q) =
     ap (λ z. apply (turns takes leaves) (known_types z)) r ∙ ap (option_map (put_types leaves)) (pop_all_known takes below)
@@ -47,11 +47,11 @@ apply_known (stops takes) s u n h = cc
 apply_known drops s u n (t, r) = ap (λ z. apply drops (known_types z)) r
 apply_known selects s u n (t, (below, r, q)) = ap (λ z. apply selects (known_types z)) r ∙ select_known t below ∙ ap (λ z. Some (known_types z)) (sym q)
 
-some_goes : {A : Type 0} (f : A → Effect) (o : Option A) → ((x : A) → is_stop (f x) ≡ false) → is_stop (with_some f o) ≡ false
+some_goes : {A : Type 0} (f : A → OperandEffect) (o : Option A) → ((x : A) → is_stop (f x) ≡ false) → is_stop (with_some f o) ≡ false
 some_goes f None h = refl
 some_goes f (Some x) h = h x
 
-guarded_goes : (b : Bool) (e : Effect) → is_stop e ≡ false → is_stop (effect_if b e) ≡ false
+guarded_goes : (b : Bool) (e : OperandEffect) → is_stop e ≡ false → is_stop (effect_if b e) ≡ false
 guarded_goes true e h = h
 guarded_goes false e h = refl
 

@@ -1,17 +1,17 @@
--- The check answers exactly what the rules type, and what it notes is what a typed body has.
+-- The check answers exactly what the rules type, and notes what a typed body has.
 use Rattle.std.specs.Prelude.{◌≡◌, ◌↔◌, ℕ, List, [], Some, true}
 use Rattle.module_ast.specs.Places.{ends_live, Mark, code_marks, code_height, HasMarks}
 use Rattle.wasm_num.specs.declared.ValType.{ValType}
 use Rattle.module_ast.specs.Structure.{Tree}
 use Rattle.module_ast.specs.Validation.{Context, push, TypesCode}
 use Rattle.code_valid.specs.Checking.{BlockStack, check, accepts, marks_of, height_of}
-use Rattle.code_valid.specs.Instance.{IsInstance, Gives, known_types}
+use Rattle.code_valid.specs.Instance.{IsInstance, HasInstance, known_types}
 
--- what check answers stands for what the rules reach from what it was given
+-- the answer of the check admits exactly what the rules reach from the operands that were given
 abbrev pub CheckIsExact : Type 0
 CheckIsExact =
     (c : Context) (k : Tree) (a : BlockStack) (after : List ValType)
-    → ((before : List ValType) × IsInstance a before × TypesCode c k before after) ↔ Gives (check c k a) after
+    → ((before : List ValType) × IsInstance a before × TypesCode c k before after) ↔ HasInstance (check c k a) after
 
 abbrev pub AcceptsWhatIsTyped : Type 0
 AcceptsWhatIsTyped = (c : Context) (k : Tree) (results : List ValType) → (accepts c k results ≡ true) ↔ TypesCode c k [] (push results [])
@@ -26,7 +26,7 @@ MarksAreUnique =
     (c : Context) (below p : ℕ) (k : Tree) (before : List ValType) (marks : List Mark) (height : ℕ) → HasMarks c below p k before marks height
     → (marks ≡ marks_of c true p k (known_types before)) × (height ≡ height_of c true below k (known_types before))
 
--- from known operands, up to a live end, each type is known
+-- from known operands each type is known up to a live end
 abbrev pub LiveTypesAreKnown : Type 0
 LiveTypesAreKnown =
     (c : Context) (k : Tree) (before after : List ValType) → TypesCode c k before after → ends_live true k ≡ true

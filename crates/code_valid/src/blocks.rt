@@ -13,7 +13,10 @@ use std::alloc::Global;
 use std::marker::Model;
 use wasm_num::{BlockKind, NoMemory, ValType};
 
-/// The open blocks of a body, of which contracts see the innermost one with its operands apart.
+/// The open blocks of a body. Contracts see the operands of the innermost block apart from the others.
+///
+/// A call that takes operands answers `Invalid` if they are not there or are of other types, and `NoMemory` if memory
+/// runs out.
 #[derive(Drop)]
 pub(crate) struct OpenBlocks {
     stack: CtrlStack,
@@ -30,7 +33,7 @@ impl Model for OpenBlocks {
 }
 
 impl OpenBlocks {
-    /// A function with these results, before its first instruction.
+    /// The blocks of a function with these results, before its first instruction.
     pub fn new(alloc: Global, results: Types) -> Result<OpenBlocks, NoMemory>
         ensures { IfOk result (λ s. s ≡ control_of (function_stack results)) }
     {
@@ -39,14 +42,14 @@ impl OpenBlocks {
         })
     }
 
-    /// How many operands there are, those of the blocks around counted.
+    /// How many operands there are in all blocks together.
     pub fn height(&self) -> usize
         ensures { result ≡ height_here self.now }
     {
         self.stack.height()
     }
 
-    /// The types that a branch to this label takes.
+    /// The types that a branch to this label takes; `None` if there is no such label.
     pub fn label(&self, label: u32) -> Option<&[ValType]>
         ensures { MatchOption result (slice_get (labels_of self.now) label ≡ None) (λ ts. slice_get (labels_of self.now) label ≡ Some ts.now) }
     {
@@ -56,7 +59,7 @@ impl OpenBlocks {
         }
     }
 
-    /// A copy of the types that a branch to this label takes; `Invalid` where there is no such label.
+    /// A copy of the types that a branch to this label takes; `Invalid` if there is no such label.
     pub fn label_copy(&self, alloc: Global, label: u32) -> Result<Vec<ValType>, BodyInvalid>
         ensures { MatchResult result (λ ts. slice_get (labels_of self.now) label ≡ Some ts.items) (λ e. OnRefusal e (slice_get (labels_of self.now) label ≡ None)) }
     {
@@ -66,7 +69,8 @@ impl OpenBlocks {
         }
     }
 
-    /// Opens a block, which finds its starts above the operands here.
+    /// Opens a block above the operands here. Its own operands begin with its start types. Fails only if memory runs
+    /// out.
     pub fn push_block(
         &mut self,
         kind: BlockKind,
@@ -81,7 +85,8 @@ impl OpenBlocks {
         Ok(())
     }
 
-    /// Takes the results of the innermost block and closes it, where nothing else is left in it.
+    /// Takes the results of the innermost block and closes it; `Invalid` if they are not there, or if more is left in
+    /// the block.
     pub fn pop_block(&mut self) -> Result<(), BodyInvalid>
         requires { HasFrame self.old.outer }
         ensures ends { EndsBlock result self.old }
@@ -91,7 +96,7 @@ impl OpenBlocks {
         Ok(())
     }
 
-    /// Ends the function, where its results are left and nothing more.
+    /// Ends the function; `Invalid` if its results are not there, or if more is left.
     pub fn end(self) -> Result<(), BodyInvalid>
         ensures { EndsBlock result self }
     {
@@ -107,21 +112,21 @@ impl OpenBlocks {
         Ok(())
     }
 
-    // Takes the topmost operand, where one of this type, or of any, is expected.
+    // Takes the topmost operand, which must have the type `expected`; `None` is any type.
     fn pop(&mut self, expected: Option<ValType>) -> Result<Option<ValType>, BodyInvalid>
         ensures { Pops result expected self.old self.new }
     {
         Ok(self.stack.pop(expected)?)
     }
 
-    // Drops the operands of the innermost block, whose code goes on no further.
+    // Drops the operands of the innermost block, because the rest of its code is never reached.
     fn mark_dead(&mut self)
         ensures { self.new ≡ with_innermost_stack dead_stack self.old }
     {
         self.stack.mark_dead();
     }
 
-    /// Takes these, the last first.
+    /// Takes operands of these types, the last first.
     pub fn pop_all(&mut self, types: &[ValType]) -> Result<(), BodyInvalid>
         ensures { Moves result (take_types types.now (innermost_stack self.old)) self.old self.new }
     {
@@ -133,7 +138,7 @@ impl OpenBlocks {
         Ok(())
     }
 
-    /// Puts these, the first first.
+    /// Puts operands of these types, the first one first. Fails only if memory runs out.
     pub fn push_all(&mut self, types: &[ValType]) -> Result<(), BodyInvalid>
         ensures { OnlyMemory result (self.new ≡ with_innermost_stack (put_types types.now (innermost_stack self.old)) self.old) }
     {
@@ -143,7 +148,7 @@ impl OpenBlocks {
         Ok(())
     }
 
-    /// Takes these and puts those.
+    /// Takes operands of the types `takes`, and puts operands of the types `leaves`.
     pub fn turn(&mut self, takes: &[ValType], leaves: &[ValType]) -> Result<(), BodyInvalid>
         ensures { Moves result (apply (turns takes.now leaves.now) (innermost_stack self.old)) self.old self.new }
     {
@@ -151,7 +156,7 @@ impl OpenBlocks {
         self.push_all(leaves)
     }
 
-    /// Takes these, and does not go on.
+    /// Takes operands of these types. The code behind the instruction is never reached.
     pub fn stop(&mut self, takes: &[ValType]) -> Result<(), BodyInvalid>
         ensures { Moves result (apply (stops takes.now) (innermost_stack self.old)) self.old self.new }
     {
@@ -160,7 +165,7 @@ impl OpenBlocks {
         Ok(())
     }
 
-    /// Takes the operand of a condition or an index.
+    /// Takes an `i32`: the operand of a condition or an index.
     pub fn pop_i32(&mut self) -> Result<(), BodyInvalid>
         ensures { Moves result (take_type I32 (innermost_stack self.old)) self.old self.new }
     {
@@ -168,7 +173,7 @@ impl OpenBlocks {
         Ok(())
     }
 
-    /// Takes an i32 and these, and puts those.
+    /// Takes an `i32` and operands of the types `takes`, and puts operands of the types `leaves`.
     pub fn turn_i32(&mut self, takes: &[ValType], leaves: &[ValType]) -> Result<(), BodyInvalid>
         ensures { Moves result (apply (turns (takes.now ++ I32 ∷ []) leaves.now) (innermost_stack self.old)) self.old self.new }
     {
@@ -176,7 +181,7 @@ impl OpenBlocks {
         self.turn(takes, leaves)
     }
 
-    /// Takes an i32 and these, and does not go on.
+    /// Takes an `i32` and operands of these types. The code behind the instruction is never reached.
     pub fn stop_i32(&mut self, takes: &[ValType]) -> Result<(), BodyInvalid>
         ensures { Moves result (apply (stops (takes.now ++ I32 ∷ [])) (innermost_stack self.old)) self.old self.new }
     {
@@ -184,7 +189,7 @@ impl OpenBlocks {
         self.stop(takes)
     }
 
-    /// Drops the topmost operand, and answers its type where it is known.
+    /// Drops the topmost operand, and answers its type; `None` if the type is unknown.
     pub fn drop_one(&mut self) -> Result<Option<ValType>, BodyInvalid>
         ensures moves { Moves result (apply drops (innermost_stack self.old)) self.old self.new }
         ensures top { IfOk result (λ ty. ty ≡ top_of self.old.operands) }
@@ -192,7 +197,7 @@ impl OpenBlocks {
         self.pop(None)
     }
 
-    /// Selects one of two operands of the same type, and answers that type where it is known.
+    /// Selects one of two operands of the same type, and answers that type; `None` if it is unknown.
     pub fn select(&mut self) -> Result<Option<ValType>, BodyInvalid>
         ensures moves { Moves result (apply selects (innermost_stack self.old)) self.old self.new }
         ensures top { IfOk result (λ ty. ty ≡ top_of self.new.operands) }

@@ -19,9 +19,11 @@ use module_ast::seq::Seq;
 use module_ast::spaces::Spaces;
 use std::alloc::Global;
 
-/// Checks the body of a defined function by the rules of typing, and answers its marks and its height. `Invalid` says that
-/// the rules do not type it. It takes time linear in the module's imports, functions and globals and in the body; for many
-/// bodies see `check_body_in`. (Standard, 3.4.1)
+/// Checks the body of a defined function by the rules of typing, and answers its marks and its height. (Standard,
+/// 3.4.1)
+///
+/// `Invalid` if the rules do not type the body, `NoMemory` if memory runs out. Takes time linear in the module's
+/// imports, functions and globals and in the body; for many bodies use `check_body_in`.
 pub fn check_body(alloc: Global, m: &Module, defined: u32) -> Result<Marks, BodyInvalid>
     requires body { defined < length m.now.bodies }
     requires func { defined < length m.now.funcs }
@@ -35,8 +37,8 @@ pub fn check_body(alloc: Global, m: &Module, defined: u32) -> Result<Marks, Body
     check_body_in(alloc, m, &spaces, defined)
 }
 
-/// Checks the body of a defined function as `check_body` does, over the index spaces of its module, so that these are made
-/// once for all bodies. It takes time in proportion to the body, and to its locals' groups. (Standard, 3.4.1)
+/// Checks the body of a defined function as `check_body` does, over the index spaces of its module, which are then made
+/// once for all bodies. Takes time in proportion to the body and to the groups of its locals. (Standard, 3.4.1)
 pub fn check_body_in(
     alloc: Global,
     m: &Module,
@@ -57,7 +59,7 @@ pub fn check_body_in(
     survey_body(alloc, &env, &body.code)
 }
 
-/// Checks a body by what it can name.
+/// Checks a body in its context.
 pub(crate) fn survey_body(alloc: Global, env: &Env, code: &Code) -> Result<Marks, BodyInvalid>
     requires { code_size code.now < 2 ^ 32 }
     ensures typed { IfOk result (λ _. TypesIn env.now code.now) }

@@ -1,4 +1,4 @@
-// What the instructions of a body can name.
+// The context of a body: what its instructions can name.
 
 ghost use Rattle.std.specs.Prelude.{◌≡◌, ◌<◌, [], length, slice_get, Some, None, IfOk, MatchOption};
 ghost use Rattle.module_ast.specs.Validation.{IsWhole, KeepsRules};
@@ -13,8 +13,8 @@ use std::alloc::Global;
 use std::marker::Model;
 use wasm_num::{NoMemory, ValType};
 
-/// What the instructions of a body can name, the blocks around them left out. A local is looked up in time in the
-/// logarithm of the number of parameters and groups of locals, all else in constant time. (Standard, 3.1.1)
+/// What the instructions of a body can name, apart from the blocks around them. A local is looked up in time
+/// logarithmic in the number of parameters and groups of locals, everything else in constant time. (Standard, 3.1.1)
 #[derive(Drop)]
 pub struct Env<'m> {
     m: &'m Module,
@@ -46,7 +46,7 @@ impl<'m> Model for Env<'m> {
 }
 
 impl<'m> Env<'m> {
-    /// Of a body of this module, whose spaces these are, with these locals and results.
+    /// The context of a body of `m`, whose spaces are `spaces`, with these locals and results.
     pub(crate) fn new(
         m: &'m Module,
         spaces: &'m Spaces,
@@ -64,8 +64,8 @@ impl<'m> Env<'m> {
         }
     }
 
-    /// Of the body of a defined function, over the index spaces of its module. It takes time in proportion to the
-    /// parameters and the groups of locals. An `Err` comes where there is no memory.
+    /// The context of the body of a defined function, over the index spaces of its module. Takes time in proportion to
+    /// the parameters and the groups of locals. `NoMemory` if memory runs out.
     pub fn of_body(
         alloc: Global,
         m: &'m Module,
@@ -93,35 +93,35 @@ impl<'m> Env<'m> {
         self.results
     }
 
-    /// How many locals there are, parameters counted.
+    /// How many locals there are, parameters included.
     pub fn local_count(&self) -> u64
         ensures { result ≡ length self.now.locals }
     {
         self.locals.count()
     }
 
-    /// The type of a local.
+    /// The type of a local; `None` if there is no such local.
     pub fn local(&self, index: u32) -> Option<ValType>
         ensures { result ≡ slice_get self.now.locals index }
     {
         self.locals.get(index)
     }
 
-    /// The type of a global.
+    /// The type of a global; `None` if there is no such global.
     pub fn global(&self, index: u32) -> Option<GlobalType>
         ensures { result ≡ slice_get self.now.globals index }
     {
         self.spaces.global(index)
     }
 
-    /// The index of a function's type.
+    /// The index of a function's type; `None` if there is no such function.
     pub fn func(&self, index: u32) -> Option<u32>
         ensures { result ≡ slice_get self.now.funcs index }
     {
         self.spaces.func(index)
     }
 
-    /// The function type of this index.
+    /// The function type at this index; `None` if there is no such type.
     pub fn func_type(&self, index: u32) -> Option<&'m FuncType>
         ensures { MatchOption result (slice_get self.now.types index ≡ None) (λ t. slice_get self.now.types index ≡ Some t.now) }
     {

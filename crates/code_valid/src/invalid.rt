@@ -3,7 +3,7 @@
 use ctrl_stack::StackFault;
 use std::alloc::{AllocError, AllocFailed};
 
-/// Why the check of a body has no good end.
+/// Why the check of a body fails.
 #[derive(Clone, Copy, Debug, PartialEq, Eq)]
 pub enum BodyInvalid {
     /// The rules of typing do not type the body. (Standard, 3.4.1)

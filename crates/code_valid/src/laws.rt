@@ -1,4 +1,4 @@
-// The check answers exactly what the rules of typing reach, and what it notes is what a typed body has.
+// Laws: the check answers exactly what the rules of typing reach, and notes exactly what a typed body has.
 
 ghost use Rattle.code_valid.specs.Survey.{SurveyNotes};
 ghost use Rattle.code_valid.specs.Laws.{CheckIsExact, AcceptsWhatIsTyped, TypedHasMarks, MarksAreUnique, LiveTypesAreKnown, MarksAreComputed, OnlyComputed};
@@ -11,22 +11,22 @@ pub fn check_is_exact()
     ensures { CheckIsExact }
 {}
 
-/// A body is accepted exactly where the rules type it. (Standard, 3.3)
+/// The check accepts a body exactly if the rules type it. (Standard, 3.3)
 pub fn accepts_what_is_typed()
     ensures { AcceptsWhatIsTyped }
 {}
 
-/// What is noted of a typed body is what it has.
+/// What the check notes of a typed body are the marks and the height that the body has.
 pub fn typed_has_marks()
     ensures { TypedHasMarks }
 {}
 
-/// A body has no other marks and no other height.
+/// A body has no second list of marks and no second height.
 pub fn marks_are_unique()
     ensures { MarksAreUnique }
 {}
 
-/// Up to a live end each operand's type is known.
+/// Up to a live end the type of each operand is known.
 pub fn live_types_are_known()
     ensures { LiveTypesAreKnown }
 {}
@@ -36,13 +36,13 @@ pub fn survey_notes()
     ensures { SurveyNotes }
 {}
 
-/// Typed code has the marks and the height that the pass forward over live code computes, and no others.
+/// Typed code has the marks and the height that a forward pass over live code computes, and no others.
 pub fn marks_are_computed()
     ensures has { MarksAreComputed }
     ensures only { OnlyComputed }
 {}
 
-/// Marks and typed bodies may go to other threads, and several may read one at once.
+/// Marks and typed bodies may be sent to other threads, and several threads may read one at once.
 pub fn bodies_cross_threads(marks: &Marks, body: &TypedBody) {
     is_send_and_sync(marks);
     is_send_and_sync(body);

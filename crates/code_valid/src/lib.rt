@@ -1,4 +1,4 @@
-// The check of bodies: an abstract stack of known and unknown types, exact for the rules of typing.
+// The check of bodies, exact by the rules of typing, on an abstract stack of known and unknown types.
 #![tactic(auto)]
 
 mod blocks;

@@ -7,15 +7,15 @@ use std::alloc::Global;
 use std::marker::Model;
 use wasm_num::{NoMemory, ValType};
 
-// Locals of one type in a row, and how many there are up to the last of them.
+// Some locals of one type, and how many locals there are up to the last of them.
 #[derive(Clone, Copy)]
 struct Run {
     end: u64,
     ty: ValType,
 }
 
-/// The types of a function's locals: its parameters first, then each group that its body lists, of which a few bytes may
-/// declare up to 2^32. Contracts see them as a list; they are kept as one entry for each parameter and group.
+/// The types of a function's locals: its parameters first, then each group that its body lists. Contracts see a list,
+/// but one entry is kept for each parameter and group, because a group of a few bytes may declare up to 2^32 locals.
 /// (Standard, 2.5.3)
 #[derive(Drop)]
 pub struct Locals {
@@ -39,7 +39,7 @@ impl Locals {
     ghost use Rattle.module_ast.specs.Binary.{locals_of};
     ghost use Rattle.module_ast.specs.Validation.{declared_locals};
 
-    /// The locals of a function with these parameters whose body lists these groups.
+    /// The locals of a function with these parameters, whose body lists these groups. `NoMemory` if memory runs out.
     pub fn new(alloc: Global, params: &[ValType], groups: &[Group]) -> Result<Locals, NoMemory>
         requires { locals_of groups.now < 2 ^ 32 }
         ensures { IfOk result (λ l. l ≡ params.now ++ declared_locals groups.now) }
@@ -57,7 +57,7 @@ impl Locals {
         Ok(Locals { runs })
     }
 
-    /// How many there are.
+    /// How many locals there are, parameters included.
     pub fn count(&self) -> u64
         ensures { result ≡ length self.now }
     {
@@ -67,7 +67,8 @@ impl Locals {
         }
     }
 
-    /// The type of a local. It takes time in the logarithm of the number of parameters and groups.
+    /// The type of a local; `None` if there is no such local. Takes time logarithmic in the number of parameters and
+    /// groups.
     pub fn get(&self, index: u32) -> Option<ValType>
         ensures { result ≡ slice_get self.now index }
     {

@@ -1,14 +1,15 @@
-// What the check of a body finds of its live places.
+// What the check of a body notes of its live places.
 
 use module_ast::seq::Seq;
 use std::marker::Model;
 use wasm_num::ValType;
 
-/// The type of what a live `drop` drops or a live `select` leaves, and the position of it in its body. (Standard,
-/// 3.3.2)
+/// The operand type of a live `drop` or `select`: the type of the value that it drops or leaves. (Standard, 3.3.2)
 #[derive(Clone, Copy, PartialEq, Eq)]
 pub struct Mark {
+    /// The position of the instruction in its body.
     pub pos: u32,
+    /// The type of the value.
     pub ty: ValType,
 }
 
@@ -22,10 +23,11 @@ impl Model for Mark {
     ghost inverse = { λ m. record { pos = m.place; ty = m.ty } };
 }
 
-/// The marks of a body, in rising order, and its height: the most operands at a live place, those under open blocks
-/// counted.
+/// What the check of a body notes.
 #[derive(Drop)]
 pub struct Marks {
+    /// The marks of the body, by rising position.
     pub types: Seq<Mark>,
+    /// The most operands at a live place, those under open blocks counted.
     pub height: u64,
 }

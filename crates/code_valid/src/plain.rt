@@ -1,4 +1,4 @@
-// The instructions with no sequence in them, by what they do to the operands.
+// The instructions without a nested sequence, by what they do to the operands.
 
 ghost use Rattle.std.specs.Prelude.{◌≡◌, ◌<◌, ◌^◌, ◌&&◌, nat_le, slice_get, IfOk};
 ghost use Rattle.module_ast.specs.Structure.Trees as tree;
@@ -15,8 +15,9 @@ use module_ast::ops::{LoadOp, MemArg, StoreOp};
 use std::alloc::Global;
 use wasm_num::ValType;
 
-/// Does what an instruction with no sequence in it does to the operands, and answers the type that a `drop` drops or a
-/// `select` leaves, where it is known; of a block `Invalid`. (Standard, 3.3)
+/// Does to the operands what an instruction without a nested sequence does, and answers the type that a `drop` drops or
+/// a `select` leaves; `None` if it is another instruction or the type is unknown. `Invalid` if the rules do not type
+/// the instruction here, or if it has a nested sequence. (Standard, 3.3)
 pub(crate) fn act(
     alloc: Global,
     env: &Env,
@@ -36,7 +37,7 @@ pub(crate) fn act(
     }
 }
 
-// What an instruction does to the operands, its mark left out.
+// The same for an instruction that leaves no mark.
 fn turn(alloc: Global, env: &Env, instr: &Instr, blocks: &mut OpenBlocks) -> Result<(), BodyInvalid>
     ensures { Moves result (apply (effect_of (context_in env.now blocks.old) instr.now) (innermost_stack blocks.old)) blocks.old blocks.new }
 {
@@ -102,7 +103,7 @@ fn br_table(
     }
 }
 
-// Whether a branch to each of these labels takes these types.
+// Whether a branch to each of these labels takes exactly these types.
 fn all_take(blocks: &OpenBlocks, types: &[ValType], labels: &[u32]) -> bool
     ensures { result ≡ all_take (labels_of blocks.now) types.now labels.now }
 {
@@ -123,7 +124,7 @@ fn takes_these(blocks: &OpenBlocks, types: &[ValType], label: u32) -> bool
     }
 }
 
-/// Whether these are the same types.
+/// Whether two lists of types are equal.
 pub(crate) fn same_types(left: &[ValType], right: &[ValType]) -> bool
     ensures { result ≡ same_types left.now right.now }
 {
@@ -209,7 +210,7 @@ fn global_set(env: &Env, global: u32, blocks: &mut OpenBlocks) -> Result<(), Bod
 
 // ---- memory and numbers
 
-// Whether 2 to this power is at most the width.
+// Whether 2 to the power `align` is at most `width`.
 fn fits_width(align: u32, width: u32) -> bool
     requires { width < 16 }
     ensures { result ≡ nat_le (2 ^ align) width }

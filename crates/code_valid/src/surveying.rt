@@ -1,4 +1,4 @@
-// The check of a body in one pass, with what it notes.
+// The check of a body in one pass, which notes the marks and the height.
 
 ghost use Rattle.std.specs.Prelude.{◌≡◌, ◌+◌, ◌<◌, ◌^◌, Some, None, IfOk, MatchResult};
 ghost use Rattle.module_ast.specs.Structure.{done, before, IsPlainInstr};
@@ -20,7 +20,7 @@ use module_ast::code::{BlockType, Code, Instr};
 use std::alloc::Global;
 use wasm_num::{BlockKind, ValType};
 
-/// Checks a sequence from the operands of the innermost block, and notes what its live places have.
+/// Checks a sequence in the innermost block, and notes what its live places have.
 #[cycle(surveying)]
 pub(crate) fn survey_code(
     alloc: Global,
@@ -40,14 +40,15 @@ pub(crate) fn survey_code(
     Ok(())
 }
 
-// The types that a block takes, and those that it leaves.
+// The types that a block takes, and the types that it leaves.
 #[derive(Clone, Copy)]
 struct BlockEnds<'m> {
     starts: &'m [ValType],
     results: &'m [ValType],
 }
 
-// A part of a block from its opening to its end, its opcode left out, above the operands under its starts.
+// Checks a block, or a branch of an `if`, from behind its opcode to its end. The operands that it takes were taken
+// before.
 #[cycle(surveying)]
 fn survey_part(
     alloc: Global,
@@ -184,7 +185,7 @@ fn survey_instr(
     }
 }
 
-// An instruction with no sequence in it.
+// Checks an instruction without a nested sequence.
 fn survey_plain(
     alloc: Global,
     env: &Env,
@@ -203,8 +204,8 @@ fn survey_plain(
     Ok(())
 }
 
-// The types that a block of this type takes, and those that it leaves; `Invalid` where it names no type. (Standard,
-// 3.2.2)
+// The types that a block of this type takes and leaves; `Invalid` if the block type names no type of the module.
+// (Standard, 3.2.2)
 fn block_ends<'m>(env: &Env<'m>, ty: BlockType) -> Result<BlockEnds<'m>, BodyInvalid>
     ensures { MatchResult result (λ ends. block_type env.now.types ty ≡ Some (record { params = ends.starts.now; results = ends.results.now })) (λ e. OnRefusal e (block_type env.now.types ty ≡ None)) }
 {

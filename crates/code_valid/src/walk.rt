@@ -1,4 +1,4 @@
-// What is noted on the way through a body.
+// What the check notes on its way through a body.
 
 ghost use Rattle.std.specs.Prelude.{◌≡◌, ◌+◌, ◌^◌, ◌<◌, IfOk};
 ghost use Rattle.code_valid.specs.Survey.{see, over, out_to, at_start};
@@ -9,7 +9,7 @@ use std::alloc::Global;
 use std::marker::Model;
 use wasm_num::{NoMemory, ValType};
 
-/// The marks and the greatest height so far, whether code is live here, and the position.
+/// The marks and the greatest height so far, the position, and whether the code there is live.
 #[derive(Drop)]
 pub(crate) struct Walk {
     marks: Vec<Mark>,
@@ -27,7 +27,7 @@ impl Model for Walk {
 }
 
 impl Walk {
-    /// At the first instruction of a body.
+    /// The state at the first instruction of a body. Allocates nothing.
     pub fn new(alloc: Global) -> Walk
         ensures { result ≡ at_start }
     {
@@ -46,7 +46,7 @@ impl Walk {
         self.live
     }
 
-    /// Sees so many operands here.
+    /// Notes that there are `operands` operands here.
     pub fn see(&mut self, operands: usize)
         ensures { self.new ≡ see operands self.old }
     {
@@ -56,7 +56,7 @@ impl Walk {
         }
     }
 
-    /// Goes over an opcode.
+    /// Goes past an opcode.
     pub fn over(&mut self)
         requires { self.old.position + 1 < 2 ^ 32 }
         ensures { self.new ≡ over self.old }
@@ -64,7 +64,7 @@ impl Walk {
         self.position += 1;
     }
 
-    /// Goes out of a block, behind which code is as live as it was before it.
+    /// Goes past the end of a block. `live` says whether the code behind the block is live, as it was before the block.
     pub fn out_to(&mut self, live: bool)
         requires { self.old.position + 1 < 2 ^ 32 }
         ensures { self.new ≡ out_to live self.old }
@@ -73,7 +73,8 @@ impl Walk {
         self.position += 1;
     }
 
-    /// Goes over an instruction with no sequence in it, which marks this type, if any. An unknown type is never marked.
+    /// Goes past an instruction without a nested sequence, and notes `ty` as its mark if there is one. An unknown type
+    /// is never noted.
     pub fn pass(&mut self, ty: Option<ValType>, goes_on: bool) -> Result<(), NoMemory>
         requires { self.old.position + 1 < 2 ^ 32 }
         ensures { IfOk result (λ _. self.new ≡ pass ty goes_on self.old) }

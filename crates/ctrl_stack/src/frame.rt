@@ -1,4 +1,4 @@
-// Open blocks.
+// Frames: the open blocks of a body, as the standard's algorithm calls them.
 
 ghost use Rattle.std.specs.Prelude.{◌≡◌};
 ghost use Rattle.ctrl_stack.specs.Stack.{label_types};
@@ -22,7 +22,7 @@ impl Model for Types {
 }
 
 impl Types {
-    /// These types, in order. It takes no memory.
+    /// The types of a `Vec`, in order. Takes no memory.
     pub fn from_vec(items: Vec<ValType>) -> Types
         ensures { result ≡ items.items }
     {
@@ -37,20 +37,24 @@ impl Types {
     }
 }
 
-/// An open block: the types that it begins and ends with, how many operands stand below it, and whether the rest of its
-/// code is never reached. (Standard, Appendix, Validation Algorithm)
+/// An open block. (Standard, Appendix, Validation Algorithm)
 #[derive(Drop)]
 pub struct Frame {
+    /// The kind of the block, which says what a branch to it takes.
     pub kind: BlockKind,
+    /// The types of the operands that the block begins with.
     pub starts: Types,
+    /// The types of the operands that the block ends with.
     pub results: Types,
+    /// How many operands are below the block's own.
     pub base: usize,
+    /// Whether the rest of the block's code is never reached.
     pub dead: bool,
 }
 
 impl Frame {
-    /// The types that a branch to the block takes: a loop's start types, and of any other kind the results. (Standard,
-    /// 3.3.5)
+    /// The types that a branch to the block takes: the start types of a loop, the results of a block of any other kind.
+    /// (Standard, 3.3.5)
     pub fn label_types(&self) -> &[ValType]
         ensures { result.now ≡ label_types self.now }
     {

@@ -1,4 +1,4 @@
-// The open blocks of a body and its operands.
+// The stack of the validation algorithm: open blocks, and the types of operands.
 
 ghost use Rattle.std.specs.Prelude.{◌≡◌, ℕ, ◌<◌, ◌≤◌, List, ◌++◌, length, map, take, reverse, Option, Some, None, slice_get, MatchOption, OnOk, OnErr, IfOk, IfErr};
 ghost use Rattle.ctrl_stack.specs.Stack.{function_stack, meet, pop, pop_all, push_operand, lowest_operands, base_of, dead_of, with_block, without_block, dead_from_here};
@@ -9,11 +9,12 @@ use std::alloc::{AllocError, AllocFailed, Global};
 use std::marker::Model;
 use wasm_num::{BlockKind, NoMemory, ValType};
 
-/// Why a call on a `CtrlStack` is refused.
+/// Why a call on a `CtrlStack` fails.
 #[derive(Debug, Drop)]
 pub enum StackFault {
     /// An operand or a frame is missing, left over, or of another type.
     Mismatch,
+    /// Memory ran out.
     NoMemory,
 }
 
@@ -39,9 +40,10 @@ impl<T: Drop> From<AllocFailed<T>> for StackFault {
     }
 }
 
-/// The open blocks of a body and the types of its operands, which contracts see as two lists: the frames, innermost
-/// first, and the operands of all of them, topmost first. An operand that code behind a branch may have is of unknown
-/// type. After an `Err` it is as before the call. (Standard, Appendix, Validation Algorithm)
+/// The open blocks of a body and the types of its operands. (Standard, Appendix, Validation Algorithm)
+///
+/// Contracts see two lists: the frames, innermost first, and the operands of all frames, topmost first. `None` is the
+/// unknown type of an operand that code behind a branch may have. After an `Err` the stack is as before the call.
 #[derive(Drop)]
 pub struct CtrlStack {
     frames: Vec<Frame>,
@@ -60,7 +62,7 @@ impl Model for CtrlStack {
 }
 
 impl CtrlStack {
-    /// A function with these results, before its first instruction.
+    /// The stack before the first instruction of a function with these results. `NoMemory` if memory runs out.
     pub fn new(alloc: Global, results: Types) -> Result<CtrlStack, NoMemory>
         ensures { IfOk result (λ s. s ≡ function_stack results) }
     {
@@ -78,14 +80,14 @@ impl CtrlStack {
         })
     }
 
-    /// How many operands there are, those below the innermost frame counted.
+    /// How many operands there are in all frames together.
     pub fn height(&self) -> usize
         ensures { result ≡ length self.now.operands }
     {
         self.operands.len()
     }
 
-    /// The frame that a label names; none past the outermost one.
+    /// The frame that a label names, 0 for the innermost; `None` if the label is past the outermost frame.
     pub fn label(&self, label: u32) -> Option<&Frame>
         ensures { MatchOption result (slice_get self.now.frames label ≡ None) (λ f. slice_get self.now.frames label ≡ Some f.now) }
     {
@@ -93,7 +95,7 @@ impl CtrlStack {
         self.frames.get(index)
     }
 
-    /// Puts an operand of this type, or of an unknown one, on top.
+    /// Puts an operand of this type on top; `None` is an unknown type. `NoMemory` if memory runs out.
     pub fn push(&mut self, ty: Option<ValType>) -> Result<(), NoMemory>
         ensures ok { OnOk result (self.new ≡ push_operand ty self.old) }
         ensures err { OnErr result (self.new ≡ self.old) }
@@ -102,8 +104,11 @@ impl CtrlStack {
         Ok(())
     }
 
-    /// Takes the topmost operand, where one of this type, or of any, is expected, and answers its type as far as it is
-    /// known then. At the base of a dead frame the expected one is found. It needs no memory.
+    /// Takes the topmost operand, and answers its type as far as it is then known. `expected` is the type that the
+    /// operand must have, or `None` for any. At the base of a dead frame the operand has the expected type. Needs no
+    /// memory.
+    ///
+    /// `Mismatch` if the operand has another type, or if the innermost frame has no operand and is not dead.
     pub fn pop(&mut self, expected: Option<ValType>) -> Result<Option<ValType>, StackFault>
         ensures ok { IfOk result (λ ty. pop expected self.old ≡ Some (ty, self.new)) }
         ensures mismatch { IfErr result (λ e. IsMismatch e × (pop expected self.old ≡ None)) }
@@ -116,7 +121,9 @@ impl CtrlStack {
         Ok(ty)
     }
 
-    /// Opens a block: takes operands of its start types, the last first, and puts them back above its base.
+    /// Opens a block: takes operands of its start types, the last first, and puts them back above the block's base.
+    ///
+    /// `Mismatch` if there are no such operands or no frame, `NoMemory` if memory runs out.
     pub fn push_block(
         &mut self,
         kind: BlockKind,
@@ -143,8 +150,9 @@ impl CtrlStack {
         Ok(())
     }
 
-    /// Closes the innermost block: takes operands of its result types, the last first, where no other is left in it. It
-    /// needs no memory.
+    /// Closes the innermost block: takes operands of its result types, the last first. Needs no memory.
+    ///
+    /// `Mismatch` if there are no such operands, if others are left in the block, or if there is no frame.
     pub fn pop_block(&mut self) -> Result<Frame, StackFault>
         ensures ok { IfOk result (λ f. without_block self.old ≡ Some (f, self.new)) }
         ensures mismatch { IfErr result (λ e. IsMismatch e × (without_block self.old ≡ None)) }
@@ -159,7 +167,7 @@ impl CtrlStack {
         self.frames.pop().ok_or(StackFault::Mismatch)
     }
 
-    /// Drops the operands of the innermost frame, the rest of whose code is never reached.
+    /// Marks the rest of the innermost frame's code as never reached, and drops the frame's operands.
     pub fn mark_dead(&mut self)
         requires { 0 < length self.old.frames }
         ensures { self.new ≡ dead_from_here self.old }
@@ -171,7 +179,7 @@ impl CtrlStack {
         self.operands.truncate(kept);
     }
 
-    // What `pop` finds above so many operands, and how many it leaves.
+    // What `pop` finds if there are only the lowest `height` operands, and how many operands it leaves.
     fn pop_from(&self, height: usize, expected: Option<ValType>) -> Option<(Option<ValType>, usize)>
         requires { height ≤ length self.now.operands }
         ensures { MatchOption result (pop expected (lowest_operands height self.now) ≡ None) (λ r. (r.1 ≤ height) × (pop expected (lowest_operands height self.now) ≡ Some (r.0, lowest_operands r.1 self.now))) }
@@ -187,7 +195,7 @@ impl CtrlStack {
         }
     }
 
-    // How many operands are left when these are taken, the last first.
+    // How many operands are left after operands of these types are taken, the last first.
     fn pop_all(&self, types: &[ValType]) -> Option<usize>
         ensures { MatchOption result (pop_all types.now self.now ≡ None) (λ n. (n ≤ length self.now.operands) × (pop_all types.now self.now ≡ Some (lowest_operands n self.now))) }
     {
@@ -213,7 +221,7 @@ fn innermost(frames: &[Frame]) -> (usize, bool)
     }
 }
 
-// The type of an operand that is found where one is expected.
+// The type of an operand, as far as it is known, if an operand of the type `expected` is there; `None` if it is not.
 fn meet(found: Option<ValType>, expected: Option<ValType>) -> Option<Option<ValType>>
     ensures { result ≡ meet found expected }
 {
@@ -224,7 +232,7 @@ fn meet(found: Option<ValType>, expected: Option<ValType>) -> Option<Option<ValT
     }
 }
 
-// Cuts the operands to so many, and puts these above.
+// Cuts the operands to the lowest `height`, and puts operands of these types above.
 fn put_above(
     operands: &mut Vec<Option<ValType>>,
     height: usize,

@@ -1,4 +1,4 @@
-// Values as words, and temporaries.
+// Values as words of 32 bits, and the temporaries that keep operands.
 #![tactic(auto)]
 
 ghost use Rattle.std.specs.Prelude.{◌≡◌, ◌^◌, ◌<◌, ◌++◌, IfOk, OnOk};
@@ -14,7 +14,7 @@ use module_ast::module::Group;
 use std::alloc::{AllocError, Global};
 use wasm_num::ValType;
 
-/// The temporaries of a body: from local `base` on, first `ints` of type i32, then `longs` of type i64.
+/// The temporaries of a body: from local `base` on, first `ints` locals of type i32, then `longs` locals of type i64.
 #[derive(Clone, Copy, PartialEq, Eq)]
 pub struct Pool {
     pub base: u32,
@@ -22,7 +22,7 @@ pub struct Pool {
     pub longs: u32,
 }
 
-/// A temporary: its type, and its number among the locals.
+/// A temporary: its type, and its index among the locals.
 #[derive(Clone, Copy, PartialEq, Eq)]
 pub struct Temp {
     pub ty: ValType,
@@ -33,7 +33,7 @@ impl Pool {
     ghost use Rattle.i64_split.specs.Pushing.{AddsPrefix};
     ghost use Rattle.i64_split.specs.Split.{pool_local, pool_groups, temps_from, HasTemps};
 
-    /// The local that is temporary `k` of its type.
+    /// The index of the local that is temporary `k` of the type, counted from 0.
     pub fn local(&self, ty: ValType, k: u32) -> u32
         requires { pool_local self.now ty k < 2 ^ 32 }
         ensures { result ≡ pool_local self.now ty k }
@@ -44,8 +44,8 @@ impl Pool {
         }
     }
 
-    /// Temporaries of these types, all at once: the first i32 is temporary `skip` of its type, the first i64 temporary 0.
-    /// An `Err` comes where there is no memory.
+    /// Temporaries of these types: the first i32 is temporary `skip` of its type, the first i64 temporary 0. An
+    /// `AllocError` if memory runs out.
     pub fn temps(
         &self,
         alloc: Global,
@@ -75,8 +75,8 @@ impl Pool {
         Ok(temps)
     }
 
-    /// Adds the groups of locals that the temporaries are: those of type i32, then those of type i64, each where there are
-    /// any. An `Err` comes where there is no memory; the first group may stand there then.
+    /// Appends the groups of locals that the temporaries are: those of type i32, then those of type i64. A group of no
+    /// locals is left out. An `AllocError` if memory runs out; the first group may then have been appended.
     pub fn push_groups(&self, groups: &mut Vec<Group>) -> Result<(), AllocError>
         ensures added { OnOk result (groups.new.items ≡ groups.old.items ++ pool_groups self.now) }
         ensures prefix { AddsPrefix groups.old.items groups.new.items (pool_groups self.now) }

@@ -1,11 +1,11 @@
-// Instructions added to code: they are moved once, behind one look at the room that is left.
+// Instructions appended to code. Each is moved once, after one check of the room that is left.
 
 ghost use Rattle.std.specs.Prelude.{◌≡◌, ◌++◌, ◌∷◌, [], OnErr, OnOk};
 
 use module_ast::code::Instr;
 use std::alloc::AllocError;
 
-/// Adds an instruction. An `Err` comes where there is no memory, and leaves the code as it was.
+/// Appends an instruction. An `AllocError` if memory runs out; the code is then as it was.
 #[inline(always)]
 pub fn push_one(code: &mut Vec<Instr>, instr: Instr) -> Result<(), AllocError>
     ensures added { OnOk result (code.new.items ≡ code.old.items ++ instr ∷ []) }
@@ -16,7 +16,7 @@ pub fn push_one(code: &mut Vec<Instr>, instr: Instr) -> Result<(), AllocError>
     Ok(())
 }
 
-/// Adds two instructions. An `Err` comes where there is no memory, and leaves the code as it was.
+/// Appends two instructions. An `AllocError` if memory runs out; the code is then as it was.
 #[inline(always)]
 pub fn push_two(code: &mut Vec<Instr>, first: Instr, second: Instr) -> Result<(), AllocError>
     ensures added { OnOk result (code.new.items ≡ code.old.items ++ first ∷ second ∷ []) }
@@ -28,7 +28,7 @@ pub fn push_two(code: &mut Vec<Instr>, first: Instr, second: Instr) -> Result<()
     Ok(())
 }
 
-/// Adds three instructions. An `Err` comes where there is no memory, and leaves the code as it was.
+/// Appends three instructions. An `AllocError` if memory runs out; the code is then as it was.
 #[inline(always)]
 pub fn push_three(
     code: &mut Vec<Instr>,

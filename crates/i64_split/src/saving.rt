@@ -9,8 +9,8 @@ use module_ast::code::Instr;
 use std::alloc::AllocError;
 use wasm_num::ValType;
 
-/// Adds the code that pops operands into these temporaries, the topmost into the last. An `Err` comes where there is no
-/// memory; some of the instructions may stand there then, from the first on.
+/// Appends code that pops operands into these temporaries, the topmost operand into the last. An `AllocError` if memory
+/// runs out; the first few of the instructions may then have been appended.
 pub fn push_sets(code: &mut Vec<Instr>, temps: &[Temp]) -> Result<(), AllocError>
     ensures added { OnOk result (code.new.items ≡ code.old.items ++ instrs (sets temps.now)) }
     ensures prefix { AddsPrefix code.old.items code.new.items (instrs (sets temps.now)) }
@@ -23,8 +23,8 @@ pub fn push_sets(code: &mut Vec<Instr>, temps: &[Temp]) -> Result<(), AllocError
     Ok(())
 }
 
-/// Adds the code that pushes these temporaries, in order. An `Err` comes where there is no memory; some of the
-/// instructions may stand there then, from the first on.
+/// Appends code that pushes these temporaries, in order. An `AllocError` if memory runs out; the first few of the
+/// instructions may then have been appended.
 pub fn push_gets(code: &mut Vec<Instr>, temps: &[Temp]) -> Result<(), AllocError>
     ensures added { OnOk result (code.new.items ≡ code.old.items ++ instrs (gets temps.now)) }
     ensures prefix { AddsPrefix code.old.items code.new.items (instrs (gets temps.now)) }
@@ -35,8 +35,8 @@ pub fn push_gets(code: &mut Vec<Instr>, temps: &[Temp]) -> Result<(), AllocError
     Ok(())
 }
 
-/// Adds the code that pops operands into these temporaries, the topmost into the last, and pushes them again. An `Err`
-/// comes where there is no memory; some of the instructions may stand there then, from the first on.
+/// Appends code that pops operands into these temporaries, the topmost operand into the last, and pushes them again. An
+/// `AllocError` if memory runs out; the first few of the instructions may then have been appended.
 pub fn save_in(code: &mut Vec<Instr>, temps: &[Temp]) -> Result<(), AllocError>
     ensures added { OnOk result (code.new.items ≡ code.old.items ++ instrs (save_code temps.now)) }
     ensures prefix { AddsPrefix code.old.items code.new.items (instrs (save_code temps.now)) }
@@ -58,7 +58,7 @@ fn count_ints(types: &[ValType]) -> usize
     count
 }
 
-// Adds the code that pops operands of these types into temporaries, as `push_sets` does.
+// Appends code that pops operands of these types into temporaries, as `push_sets` does.
 fn push_sets_of(
     code: &mut Vec<Instr>,
     pool: &Pool,
@@ -89,7 +89,7 @@ fn push_sets_of(
     Ok(())
 }
 
-// Adds the code that pushes temporaries of these types, as `push_gets` does.
+// Appends code that pushes temporaries of these types, as `push_gets` does.
 fn push_gets_of(
     code: &mut Vec<Instr>,
     pool: &Pool,
@@ -117,9 +117,9 @@ fn push_gets_of(
     Ok(())
 }
 
-/// Adds the code that keeps operands of these types in temporaries, and leaves them as they are: the first i32 goes into
-/// temporary `skip` of its type, the first i64 into temporary 0. An `Err` comes where there is no memory; some of the
-/// instructions may stand there then, from the first on.
+/// Appends code that keeps operands of these types in temporaries and leaves the operands where they are. The first i32
+/// goes into temporary `skip` of its type, the first i64 into temporary 0. An `AllocError` if memory runs out; the
+/// first few of the instructions may then have been appended.
 pub fn save(
     code: &mut Vec<Instr>,
     pool: &Pool,

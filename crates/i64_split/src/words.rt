@@ -10,8 +10,8 @@ use module_ast::code::Instr;
 use std::alloc::AllocError;
 use wasm_num::{NumOp, ValType};
 
-/// Adds the code that pushes the words of a local: an i32 is one word, an i64 two, the low one first. An `Err` comes where
-/// there is no memory; some of the instructions may stand there then, from the first on.
+/// Appends code that pushes the words of a local: an i32 is one word, an i64 two, the low word first. An `AllocError`
+/// if memory runs out; the first few of the instructions may then have been appended.
 pub fn push_value(code: &mut Vec<Instr>, ty: ValType, local: u32) -> Result<(), AllocError>
     ensures added { OnOk result (code.new.items ≡ code.old.items ++ instrs (word_code ty local)) }
     ensures prefix { AddsPrefix code.old.items code.new.items (instrs (word_code ty local)) }
@@ -28,8 +28,8 @@ pub fn push_value(code: &mut Vec<Instr>, ty: ValType, local: u32) -> Result<(), 
     }
 }
 
-/// Adds the code that pushes the words of each of these temporaries, in order. An `Err` comes where there is no memory;
-/// some of the instructions may stand there then, from the first on.
+/// Appends code that pushes the words of each of these temporaries, in order. An `AllocError` if memory runs out; the
+/// first few of the instructions may then have been appended.
 pub fn push_values(code: &mut Vec<Instr>, temps: &[Temp]) -> Result<(), AllocError>
     ensures added { OnOk result (code.new.items ≡ code.old.items ++ instrs (words_code temps.now)) }
     ensures prefix { AddsPrefix code.old.items code.new.items (instrs (words_code temps.now)) }

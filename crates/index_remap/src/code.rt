@@ -1,4 +1,4 @@
-// Code with its calls remapped.
+// Copies of code in which calls name functions of the output.
 
 ghost use Rattle.std.specs.Prelude.{◌≡◌, IfOk};
 ghost use Rattle.module_ast.specs.Structure.{Tree, done, before, code_of};
@@ -10,8 +10,8 @@ use module_ast::labels::Labels;
 use std::alloc::{AllocError, Global};
 
 impl Remap {
-    /// A copy of the code with each call remapped, also where it is not live. An `Err` comes where there is no memory. It
-    /// calls itself as deep as the code nests.
+    /// A copy of the code, in which each call names a function of the output, in dead code too. An `AllocError` if
+    /// memory runs out. Recurses as deep as the code nests.
     #[cycle(map)]
     pub fn map_code(&self, alloc: Global, code: &Code) -> Result<Code, AllocError>
         requires { Maps self.now code.now }
@@ -21,7 +21,7 @@ impl Remap {
         Code::from_vec(alloc, items)
     }
 
-    /// A copy of these instructions with each call remapped, as `map_code` makes it.
+    /// A copy of these instructions, as `map_code` makes it.
     #[cycle(map)]
     #[tactic(auto, using(module_ast::specs::Structure::Seen::onto_push))]
     pub fn map_body(&self, alloc: Global, code: &[Instr]) -> Result<Vec<Instr>, AllocError>
@@ -35,7 +35,7 @@ impl Remap {
         Ok(items)
     }
 
-    /// A copy of the instruction with each call remapped, as `map_code` makes it.
+    /// A copy of the instruction, as `map_code` makes it.
     #[cycle(map)]
     pub fn map_instr(&self, alloc: Global, instr: &Instr) -> Result<Instr, AllocError>
         requires { Maps self.now (before instr.now done) }

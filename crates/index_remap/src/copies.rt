@@ -9,14 +9,14 @@ use module_ast::name::Name;
 use module_ast::seq::Seq;
 use std::alloc::{AllocError, Global};
 
-/// A part of a module that is copied with all that it holds.
+/// What is copied with all that it owns.
 pub trait DeepCopy: Sized + Drop {
-    /// It once more. An `Err` comes where there is no memory.
+    /// A copy. An `AllocError` if memory runs out.
     fn copy(&self, alloc: Global) -> Result<Self, AllocError>
         ensures { IfOk result (λ copy. copy ≡ self.now) };
 }
 
-/// These parts once more. An `Err` comes where there is no memory.
+/// A copy of the sequence and of each part. An `AllocError` if memory runs out.
 pub fn copy_parts<T: DeepCopy>(alloc: Global, parts: &Seq<T>) -> Result<Seq<T>, AllocError>
     ensures { IfOk result (λ copies. copies ≡ parts.now) }
 {
@@ -28,7 +28,7 @@ pub fn copy_parts<T: DeepCopy>(alloc: Global, parts: &Seq<T>) -> Result<Seq<T>, 
     Ok(Seq::from_vec(copies))
 }
 
-/// These values once more. An `Err` comes where there is no memory.
+/// A copy of the sequence. An `AllocError` if memory runs out.
 pub fn copy_list<T: Copy>(alloc: Global, list: &Seq<T>) -> Result<Seq<T>, AllocError>
     ensures { IfOk result (λ copy. copy ≡ list.now) }
 {
@@ -45,7 +45,7 @@ impl DeepCopy for Name {
 }
 
 impl DeepCopy for Code {
-    // Nothing is added to its calls.
+    // A remapping that adds nothing copies the code.
     #[tactic(auto, using(crate::proofs::Nothing::map_tree_nothing, crate::proofs::Nothing::maps_nothing))]
     fn copy(&self, alloc: Global) -> Result<Code, AllocError> {
         let nothing = Remap {

@@ -1,4 +1,5 @@
-// Function indices with the hooks put behind the imports.
+// Function indices of the output, in which the hooks follow the imports, and copies of code and modules with such
+// indices.
 #![tactic(auto)]
 
 mod code;
@@ -10,7 +11,7 @@ ghost use Rattle.std.specs.Prelude.{◌≡◌, ◌+◌, ◌^◌, ◌<◌};
 
 pub use crate::copies::{DeepCopy, copy_list, copy_parts};
 
-/// An index below `imports` stays, any other rises by `added`.
+/// How function indices change: an index below `imports` stays, any other rises by `added`, the number of hooks.
 #[derive(Clone, Copy, PartialEq, Eq)]
 pub struct Remap {
     pub imports: u32,
@@ -28,7 +29,7 @@ impl Remap {
         if f < self.imports { f } else { f + self.added }
     }
 
-    /// The index in the original of a function of the output: none exactly for a hook's.
+    /// The index in the original of a function of the output; `None` exactly if the function is a hook.
     pub fn unmap(&self, f: u32) -> Option<u32>
         ensures { result ≡ unmap_index self.now f }
     {

@@ -1,4 +1,4 @@
-// Modules with their references to functions remapped.
+// Copies of modules in which references name functions of the output.
 
 ghost use Rattle.std.specs.Prelude.{◌≡◌, All, IfOk, map, option_map};
 ghost use Rattle.std.specs.Option.{ForSome};
@@ -38,8 +38,8 @@ impl Remap {
         Ok(Export { name, kind, index })
     }
 
-    /// Copies of these exports, in which those of functions name functions of the output. An `Err` comes where there is no
-    /// memory. (Standard, 2.5.10)
+    /// Copies of these exports, in which those of functions name functions of the output. An `AllocError` if memory
+    /// runs out. (Standard, 2.5.10)
     pub fn map_exports(&self, alloc: Global, exports: &[Export]) -> Result<Seq<Export>, AllocError>
         requires { All (λ (e : Export). MapsReference self.now e.kind e.index) exports.now }
         ensures { IfOk result (λ copies. copies ≡ map (map_export self.now) exports.now) }
@@ -51,7 +51,7 @@ impl Remap {
         Ok(Seq::from_vec(copies))
     }
 
-    /// The start function in the output, if there is one. (Standard, 2.5.9)
+    /// The index of the start function in the output, if there is a start function. (Standard, 2.5.9)
     pub fn map_start(&self, start: Option<u32>) -> Option<u32>
         requires { ForSome start (MapsIndex self.now) }
         ensures { result ≡ option_map (map_index self.now) start }
@@ -86,7 +86,7 @@ impl Remap {
         })
     }
 
-    /// Copies of these element segments, which list functions of the output. An `Err` comes where there is no memory.
+    /// Copies of these element segments, which name functions of the output. An `AllocError` if memory runs out.
     /// (Standard, 2.5.7)
     pub fn map_elements(
         &self,
@@ -103,8 +103,8 @@ impl Remap {
         Ok(Seq::from_vec(copies))
     }
 
-    /// A copy of the module without its bodies, in which exports, elements and start name the functions of the output. All
-    /// else is as it was. An `Err` comes where there is no memory.
+    /// A copy of the module without its bodies, in which exports, element segments and the start section name functions
+    /// of the output. Nothing else changes. An `AllocError` if memory runs out.
     pub fn map_module(&self, alloc: Global, m: &Module) -> Result<Module, AllocError>
         requires { MapsModule self.now m.now }
         ensures { IfOk result (λ copy. copy ≡ map_module self.now m.now) }

@@ -1,4 +1,4 @@
--- The form of a value: what it holds of some type, where it holds anything.
+-- Forms: what a value of JSON is read as, if it has the form.
 use Rattle.std.specs.Prelude.{◌≡◌, ℕ, List, [], ◌∷◌, Result, Ok, Err, Option, Some, None, option_map, option_and_then, Bool, true, false, ◌||◌, ◌&&◌, ◌==◌, bytes_eq, ℤ, pos, negsuc, int_le, nat_le, refl}
 use Rattle.std.specs.Str.{is_utf8}
 use Rattle.serde_json.specs.Data.{Num, unsigned, negative, float, Data, array, object, Items, no_items, item, Members, no_members, member}
@@ -8,7 +8,7 @@ use Rattle.leb_binary.specs.Texts.{Text}
 use Rattle.json_form.specs.declared.form.FormFault.{FormFault}
 use Rattle.json_form.specs.declared.form.FormFault.TheVariants.{Wrong, NoMemory}
 
--- what was read is what the form gives
+-- what was read is what the form reads
 abbrev pub ReadsForm : {A : Type 0} → Result A FormFault → Option A → Type 0
 ReadsForm (Ok a) form = form ≡ Some a
 ReadsForm (Err Wrong) form = form ≡ None
@@ -23,7 +23,7 @@ items_form form (item d ds) = option_and_then (λ a. option_map (λ later. a ∷
 abbrev pub list_form : {A : Type 0} → (Data → Option A) → Data → Option (List A)
 list_form form d = option_and_then (items_form form) (as_array d)
 
--- the text that has these bytes, where they are UTF-8
+-- the text with these bytes, if they are UTF-8
 abbrev pub text_if : (bytes : List ℕ) → (b : Bool) → is_utf8 bytes ≡ b → Option Text
 text_if bytes true e = Some (record { bytes = bytes; utf8 = e })
 text_if bytes false e = None
@@ -45,11 +45,11 @@ given_if true a = Some a
 abbrev pub between : (least most n : ℕ) → Option ℕ
 between least most n = given_if (nat_le least n && nat_le n most) n
 
--- a whole number from the least one to the most
+-- a whole number from `least` to `most`
 abbrev pub count_form : (least most : ℕ) → Data → Option ℕ
 count_form least most d = option_and_then (between least most) (option_and_then as_u64 (as_number d))
 
--- a whole number; no value holds one from 0 up as a negative one
+-- a whole number; values of JSON have no second way to write one from 0 up
 abbrev pub whole_of : Num → Option ℤ
 whole_of (unsigned n) = Some (pos n)
 whole_of (negative (pos n)) = None
@@ -59,7 +59,7 @@ whole_of (float x) = None
 abbrev pub whole_between : (least most z : ℤ) → Option ℤ
 whole_between least most z = given_if (int_le least z && int_le z most) z
 
--- a whole number from the least one to the most, either of them maybe below 0
+-- a whole number from `least` to `most`, which may be negative
 abbrev pub whole_form : (least most : ℤ) → Data → Option ℤ
 whole_form least most d = option_and_then (whole_between least most) (option_and_then whole_of (as_number d))
 
@@ -86,7 +86,7 @@ abbrev pub only_members : List (List ℕ) → Members → Bool
 only_members names no_members = true
 only_members names (member k d ms) = is_key_among names k && only_members names ms
 
--- an object whose keys are all among these
+-- an object whose keys are all among these names
 abbrev pub has_only : List (List ℕ) → Data → Bool
 has_only names (object ms) = only_members names ms
 has_only names _ = false
@@ -98,7 +98,7 @@ only_keys names d = given_if (has_only names d) (tt {0})
 abbrev pub field_form : {A : Type 0} → (key : List ℕ) → (Data → Option A) → Data → Option A
 field_form key form d = option_and_then form (get key d)
 
--- the same, where the key may be absent
+-- likewise, if the key may be absent
 abbrev pub form_or : {A : Type 0} → (absent : A) → (Data → Option A) → Option Data → Option A
 form_or absent form None = Some absent
 form_or absent form (Some d) = form d

@@ -1,4 +1,4 @@
-// Forms of values.
+// Forms: which values of JSON are read as values of a type.
 
 ghost use Rattle.std.specs.Prelude.{◌≡◌, Option, Some, None, IfOk, IfErr};
 ghost use Rattle.serde_json.specs.Data.{Data};
@@ -11,12 +11,12 @@ use module_ast::seq::Seq;
 use serde_json::Value;
 use std::alloc::{AllocError, AllocFailed, Global};
 
-/// Why a value gives nothing of a type.
+/// Why a value of JSON is not read as a value of a type.
 #[derive(Clone, Copy, Debug, PartialEq, Eq)]
 pub enum FormFault {
     /// The value is not of the form.
     Wrong,
-    /// An allocation failed.
+    /// Memory ran out.
     NoMemory,
 }
 
@@ -40,18 +40,18 @@ impl<T: Drop> From<AllocFailed<T>> for FormFault {
     }
 }
 
-/// A form of values, and what a value of the form gives.
+/// A form: which values of JSON have it, and what each of them is read as.
 pub trait Form {
     type Out: Drop;
 
     ghost form: { Data → Option Self.Out };
 
-    /// What the value gives. `Wrong` exactly where it is not of the form.
+    /// What the value is read as. `Wrong` exactly if the value does not have the form, `NoMemory` if memory runs out.
     fn read(alloc: Global, value: &Value) -> Result<Self::Out, FormFault>
         ensures { ReadsForm result (form (view value.now)) };
 }
 
-/// A signed or unsigned whole number of 64 bits.
+/// The form of a whole number from -2^63 to 2^64 - 1.
 pub struct Integer;
 
 impl Form for Integer {
@@ -69,7 +69,7 @@ impl Form for Integer {
     }
 }
 
-/// A text.
+/// The form of a text.
 pub struct Text;
 
 impl Form for Text {
@@ -85,7 +85,7 @@ impl Form for Text {
     }
 }
 
-// The values of a list. `Wrong` where it is none.
+// The items of a list; `Wrong` if the value is no list.
 fn items(value: &Value) -> Result<&[Value], FormFault>
     ensures found { IfOk result (λ vs. as_array (view value.now) ≡ Some (items_view vs.now)) }
     ensures missing { IfErr result (λ e. (e ≡ FormFault.Wrong)
@@ -97,7 +97,7 @@ fn items(value: &Value) -> Result<&[Value], FormFault>
     }
 }
 
-/// A list of values of the form.
+/// Reads a list whose items all have the form; `Wrong` if the value is anything else.
 pub fn read_list<F: Form>(alloc: Global, value: &Value) -> Result<Seq<F::Out>, FormFault>
     ensures { ReadsForm result (list_form F.form (view value.now)) }
 {
@@ -109,7 +109,7 @@ pub fn read_list<F: Form>(alloc: Global, value: &Value) -> Result<Seq<F::Out>, F
     Ok(Seq::from_vec(found))
 }
 
-/// A whole number from the least one to the most.
+/// Reads a whole number from `least` to `most`; `Wrong` if the value is anything else.
 pub fn read_count(value: &Value, least: u64, most: u64) -> Result<u64, FormFault>
     ensures { ReadsForm result (count_form least most (view value.now)) }
 {
@@ -119,7 +119,7 @@ pub fn read_count(value: &Value, least: u64, most: u64) -> Result<u64, FormFault
     }
 }
 
-/// A whole number from the least one to the most, either of them maybe below 0.
+/// Reads a whole number from `least` to `most`, which may be negative; `Wrong` if the value is anything else.
 pub fn read_whole(value: &Value, least: i64, most: i64) -> Result<i64, FormFault>
     ensures { ReadsForm result (whole_form least most (view value.now)) }
 {

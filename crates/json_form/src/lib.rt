@@ -1,4 +1,4 @@
-// Values of JSON read by the form of each type, and written.
+// Values of JSON: read by the form of each type, and written.
 #![tactic(auto)]
 
 mod form;

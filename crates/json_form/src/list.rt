@@ -8,7 +8,7 @@ ghost use Rattle.json_form.specs.Form.{ReadsForm, has_length, only_length};
 use crate::form::FormFault;
 use serde_json::Value;
 
-/// Whether the value is a list of this many items.
+/// Whether the value is a list of `count` items.
 pub fn has_length(count: usize, value: &Value) -> bool
     ensures { result ≡ has_length count (view value.now) }
 {
@@ -18,7 +18,7 @@ pub fn has_length(count: usize, value: &Value) -> bool
     }
 }
 
-/// Refuses a value that is not a list of this many items.
+/// Refuses, as `Wrong`, a value that is anything but a list of `count` items.
 pub fn check_length(count: usize, value: &Value) -> Result<(), FormFault>
     ensures { ReadsForm result (only_length count (view value.now)) }
 {
@@ -29,7 +29,7 @@ pub fn check_length(count: usize, value: &Value) -> Result<(), FormFault>
     }
 }
 
-/// What the list has at this place. `Wrong` also where the value is no list.
+/// The item of a list at `place`, counted from 0. `Wrong` if there is no such item, or if the value is no list.
 pub fn item(value: &Value, place: usize) -> Result<&Value, FormFault>
     ensures found { IfOk result (λ v. at place (view value.now) ≡ Some (view v.now)) }
     ensures missing { IfErr result (λ e. (e ≡ FormFault.Wrong)

@@ -10,7 +10,7 @@ use module_ast::seq::Seq;
 use serde_json::{Map, Value};
 use std::alloc::Global;
 
-/// Refuses a value that is not an object whose keys are all among these.
+/// Refuses, as `Wrong`, a value that is anything but an object whose keys are all among `names`.
 pub fn check_keys(names: &[&str], value: &Value) -> Result<(), FormFault>
     ensures { ReadsForm result (only_keys (map (λ n. n.now) names.now) (view value.now)) }
 {
@@ -21,7 +21,7 @@ pub fn check_keys(names: &[&str], value: &Value) -> Result<(), FormFault>
     }
 }
 
-/// Whether the value is an object whose keys are all among these.
+/// Whether the value is an object whose keys are all among `names`.
 pub fn has_only(names: &[&str], value: &Value) -> bool
     ensures { result ≡ has_only (map (λ n. n.now) names.now) (view value.now) }
 {
@@ -30,7 +30,6 @@ pub fn has_only(names: &[&str], value: &Value) -> bool
         .is_some_and(|members| only_members(names, members))
 }
 
-// Whether all keys are among these.
 fn only_members(names: &[&str], members: &Map<String, Value>) -> bool
     ensures { result
         ≡ only_members (map (λ n. n.now) names.now) (members_view members.now.entries) }
@@ -43,14 +42,13 @@ fn only_members(names: &[&str], members: &Map<String, Value>) -> bool
     true
 }
 
-// Whether the key is one of these.
 fn is_key_among(names: &[&str], key: &str) -> bool
     ensures { result ≡ is_key_among (map (λ n. n.now) names.now) key.now }
 {
     names.contains(&key)
 }
 
-/// What the object has at this key. `Wrong` also where the value is no object.
+/// The value that an object has at `key`. `Wrong` if there is no such key, or if the value is no object.
 pub fn field<'v>(value: &'v Value, key: &str) -> Result<&'v Value, FormFault>
     ensures found { IfOk result (λ v. get key.now (view value.now) ≡ Some (view v.now)) }
     ensures missing { IfErr result (λ e. (e ≡ FormFault.Wrong)
@@ -59,7 +57,8 @@ pub fn field<'v>(value: &'v Value, key: &str) -> Result<&'v Value, FormFault>
     value.get(key).ok_or(FormFault::Wrong)
 }
 
-/// The list that the object has at this key, the empty one where it has no such key.
+/// Reads the list that the object has at `key`; the empty list if there is no such key. `Wrong` if the value there is
+/// no list of the form.
 pub fn read_list_or_empty<F: Form>(
     alloc: Global,
     value: &Value,

@@ -7,6 +7,6 @@ pub record Text : Type 0 where
   pub bytes : List ℕ
   pub utf8 : is_utf8 bytes ≡ true
 
--- what a string holds
+-- the text of a string
 abbrev pub text_of : {Z : Type 0} → String Z → Text
 text_of s = record { bytes = string_bytes s; utf8 = is_utf8-from_IsUtf8 (string_bytes s) (IsUtf8-string_bytes s) }

@@ -1,4 +1,4 @@
--- That made modules run to their end.
+-- Made modules run to their end.
 use Rattle.std.specs.Prelude.{◌≡◌, ℕ, ◌%◌, ◌^◌, ◌≤◌, pos, [], ◌∷◌, None}
 use Rattle.wasm_num.specs.declared.Value.TheVariants.{I32}
 use Rattle.wasm_sem.specs.declared.Answer.TheVariants.{Returned}
@@ -17,11 +17,11 @@ main_script number steps = record {
   steps = steps;
 }
 
--- the run is over where the one call has returned a value
+-- the run is over, and its one call has returned a value
 abbrev pub ended : (value : ℕ) → Store → Configuration
 ended value st = configuration (record { phase = over; started = None; answers = Returned (I32 value ∷ []) ∷ []; store = st }) []
 
--- in so many steps it comes to that
+-- in at most 1,400,000 steps the run comes to that end
 pub record MainReturns (number steps : ℕ) : Type 0 where
   pub count : ℕ
   pub few : count ≤ 1400000

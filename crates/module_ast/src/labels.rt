@@ -6,12 +6,12 @@ use std::alloc::{AllocError, Global};
 use std::marker::Model;
 use std::mem::size_of;
 
-/// Labels in order, which contracts see as a list. It is as large as a pointer, so that an instruction stays small.
+/// Labels in order, which contracts see as a list. They are as large as a pointer, so that an instruction stays small.
 pub struct Labels {
     items: Box<Vec<u32>>,
 }
 
-// By a call of its own, so that a way out past it is one step in a proof.
+// Dropped by hand: each early return past a value of this type then costs one proof step instead of one per field.
 impl Drop for Labels {
     fn drop(self) {
         let Labels { items: _items } = self;
@@ -29,7 +29,7 @@ impl Model for Labels {
 }
 
 impl Labels {
-    /// These labels, in order. An `Err` comes where there is no memory.
+    /// The labels of a `Vec`, in order. An `AllocError`, which drops them, if memory runs out.
     pub fn from_vec(alloc: Global, items: Vec<u32>) -> Result<Labels, AllocError>
         ensures { IfOk result (λ labels. labels ≡ items.items) }
     {
@@ -37,7 +37,7 @@ impl Labels {
         Ok(Labels { items })
     }
 
-    /// The labels, in order, back as a `Vec`.
+    /// Takes the labels apart: a `Vec` of them, in order.
     pub fn into_vec(self) -> Vec<u32>
         ensures { result.items ≡ self }
     {

@@ -1,4 +1,4 @@
-// What holds of the definitions.
+// Laws of canonical bytes, of trees and of opcodes.
 
 ghost use Rattle.module_ast.specs.declared.module.Module.{Module};
 ghost use Rattle.module_ast.specs.Binary.Grammar.{IsModule};
@@ -11,7 +11,7 @@ ghost use Rattle.module_ast.specs.Laws.{ModulesAreUnique, ModulesHaveNoFloat, Tr
 use crate::module::{Body, Module};
 use crate::spaces::Spaces;
 
-/// The canonical bytes of a module are in the grammar, and are that module without its custom sections.
+/// The canonical bytes of a module are in the grammar, as that module without its custom sections.
 pub fn canonical_bytes_are_spelled()
     ensures { (m : Module) → Fits m → IsModule (module_bytes m) (tree_of (without_customs m)) }
 {}
@@ -21,32 +21,33 @@ pub fn canonical_bytes_are_shortest()
     ensures { CanonicalBytesAreShortest }
 {}
 
-/// A module of the grammar without floating node is one module of the program, and no module of the program has one.
+/// A module of the grammar without floating-point nodes is exactly one module of the program, and no module of the
+/// program has a floating-point node.
 pub fn modules_are_trees()
     ensures unique { ModulesAreUnique }
     ensures whole { ModulesHaveNoFloat }
     ensures all { TreesWithoutFloatAreModules }
 {}
 
-/// Loads and their opcodes belong together, one to one.
+/// Each load is found by its opcode, and what is found by an opcode has that opcode.
 pub fn loads_have_their_opcodes()
     ensures found { LoadsAreFound }
     ensures exact { FoundLoadsHaveTheOpcode }
 {}
 
-/// Stores and their opcodes belong together, one to one.
+/// Each store is found by its opcode, and what is found by an opcode has that opcode.
 pub fn stores_have_their_opcodes()
     ensures found { StoresAreFound }
     ensures exact { FoundStoresHaveTheOpcode }
 {}
 
-/// A module and a body may go to other threads, and several may read one at once.
+/// A module and a body may be sent to other threads, and several threads may read one at once.
 pub fn modules_cross_threads(module: &Module, body: &Body) {
     is_send_and_sync(module);
     is_send_and_sync(body);
 }
 
-/// A table of index spaces may go to another thread, and several may read one at once.
+/// A table of index spaces may be sent to other threads, and several threads may read one at once.
 pub fn spaces_cross_threads(spaces: &Spaces) {
     is_send_and_sync(spaces);
 }

@@ -18,7 +18,7 @@ pub struct Counts {
 }
 
 impl Counts {
-    /// Of what is imported alone. It goes over the imports.
+    /// The counts of what is imported. Walks the imports.
     pub fn of_imports(imports: &[Import]) -> Counts
         ensures is { result ≡ imported_counts imports.now }
         ensures few { result.funcs + result.tables + result.memories + result.globals ≤ length imports.now }
@@ -40,7 +40,7 @@ impl Counts {
         }
     }
 
-    /// Of a module, imports counted. It goes over the imports.
+    /// The counts of a module, imports included. Walks the imports.
     pub fn of(m: &Module) -> Counts
         ensures { result ≡ space_counts m.now }
     {
@@ -53,7 +53,7 @@ impl Counts {
         }
     }
 
-    /// How many entries the space has that an export of this kind names. (Standard, 2.5.10)
+    /// How many entries the index space of this kind of export has. (Standard, 2.5.10)
     pub fn of_kind(&self, kind: ExportKind) -> usize
         ensures { result ≡ count_in self.now kind }
     {
@@ -66,7 +66,7 @@ impl Counts {
     }
 }
 
-/// The index spaces of a module, imports first, made once: each look-up takes constant time. (Standard, 2.5.1)
+/// The index spaces of a module, imports first, made once so that each look-up takes constant time. (Standard, 2.5.1)
 #[derive(Drop)]
 pub struct Spaces {
     funcs: Vec<u32>,
@@ -91,7 +91,7 @@ impl Spaces {
     ghost use Rattle.module_ast.specs.Structure.Spaces.{spaces_of};
     ghost use Rattle.module_ast.specs.Validation.Validity.{func_type};
 
-    /// The spaces of this module. It goes over the imports, the functions and the globals.
+    /// The spaces of a module. Walks its imports, functions and globals. `NoMemory` if memory runs out.
     pub fn new(alloc: Global, m: &Module) -> Result<Spaces, NoMemory>
         ensures { IfOk result (λ s. s ≡ spaces_of m.now) }
     {
@@ -110,21 +110,22 @@ impl Spaces {
         self.counts
     }
 
-    /// How many entries of each space are imported: the first ones.
+    /// How many entries of each space are imported. They are the first ones.
     pub fn imported(&self) -> Counts
         ensures { result ≡ self.now.imported }
     {
         self.imported
     }
 
-    /// The index of the type of a function.
+    /// The index of the type of a function; `None` if there is no such function.
     pub fn func(&self, index: u32) -> Option<u32>
         ensures { result ≡ slice_get self.now.funcs index }
     {
         self.funcs.as_slice().get(index as usize).copied()
     }
 
-    /// The type of a function of the table's module, as `Module::func_type` answers it.
+    /// The type of a function of `m`, the module of these spaces: the same as `Module::func_type`, but in constant
+    /// time.
     pub fn func_type<'m>(&self, m: &'m Module, func: u32) -> Option<&'m FuncType>
         requires { self.now ≡ spaces_of m.now }
         ensures { MatchOption result (func_type m.now func ≡ None) (λ t. func_type m.now func ≡ Some t.now) }
@@ -133,14 +134,14 @@ impl Spaces {
         m.types.as_slice().get(ty as usize)
     }
 
-    /// The type of a global.
+    /// The type of a global; `None` if there is no such global.
     pub fn global(&self, index: u32) -> Option<GlobalType>
         ensures { result ≡ slice_get self.now.globals index }
     {
         self.globals.as_slice().get(index as usize).copied()
     }
 
-    /// The types of all globals.
+    /// The types of all globals, imported ones first.
     pub fn globals(&self) -> &[GlobalType]
         ensures { result.now ≡ self.now.globals }
     {
@@ -155,7 +156,7 @@ impl Spaces {
     }
 }
 
-// The functions by the indices of their types.
+// The type index of each function, imports first.
 fn func_types(alloc: Global, m: &Module) -> Result<Vec<u32>, NoMemory>
     ensures { IfOk result (λ v. v.items ≡ funcs_of m.now) }
 {
@@ -169,7 +170,7 @@ fn func_types(alloc: Global, m: &Module) -> Result<Vec<u32>, NoMemory>
     Ok(types)
 }
 
-// The types of the globals.
+// The type of each global, imports first.
 fn global_types(alloc: Global, m: &Module) -> Result<Vec<GlobalType>, NoMemory>
     ensures { IfOk result (λ v. v.items ≡ globals_of m.now) }
 {

@@ -1,4 +1,5 @@
-// The bodies of a made module. Function 0 is the import; a function of an even index has a parameter and a result of i64.
+// The bodies of a made module. Function 0 is the import. A function of an even index has a parameter and a result of
+// type i64, any other of type i32.
 
 ghost use Rattle.std.specs.Prelude.{◌≡◌, ◌≤◌, ◌<◌, ◌+◌, ℕ, IfOk, OnOk};
 ghost use Rattle.module_gen.specs.Bodies.{bodies, body_drawn, call_of, front, last_part, locals, param_type, type_index};
@@ -24,7 +25,7 @@ pub(crate) fn param_type(func: u32) -> ValType
     }
 }
 
-/// The index of the type of functions with such a parameter and result.
+/// The index of the function type with a parameter and a result of this type.
 pub(crate) fn type_index(ty: ValType) -> u32
     ensures { result ≡ type_index ty }
 {
@@ -34,7 +35,7 @@ pub(crate) fn type_index(ty: ValType) -> u32
     }
 }
 
-// One local of each type.
+// The groups of locals: one local of each type.
 fn locals(alloc: Global) -> Result<Vec<Group>, AllocError>
     ensures { IfOk result (λ groups. groups.items ≡ locals) }
 {
@@ -62,7 +63,7 @@ fn call_of(alloc: Global, func: u32, choice: u32) -> Result<Vec<Instr>, AllocErr
     Ok(Vec::from_array(alloc, [Instr::LocalGet(0), slot, call])?)
 }
 
-// What a body ends with.
+// The code that a body ends with.
 fn last_part(alloc: Global, func: u32, draws: &mut Draws) -> Result<Vec<Instr>, AllocError>
     requires { func < 60000 }
     ensures code { IfOk result (λ code. code.items ≡ (last_part func draws.old.state).made) }
@@ -99,7 +100,7 @@ fn body(alloc: Global, func: u32, draws: &mut Draws) -> Result<Body, AllocError>
     })
 }
 
-/// The bodies of the functions 1 to `count`. An `Err` comes where there is no memory.
+/// The bodies of the functions 1 to `count`. An `AllocError` if memory runs out.
 #[tactic(auto, using(crate::proofs::Steps::bodies_made, crate::proofs::Steps::bodies_state))]
 pub(crate) fn bodies(alloc: Global, count: u32, draws: &mut Draws) -> Result<Vec<Body>, AllocError>
     requires { count < 50000 }

@@ -14,13 +14,12 @@ use module_ast::ops::{LoadOp, MemArg, StoreOp};
 use std::alloc::{AllocError, Global};
 use wasm_num::{NumOp, ValType};
 
-// Without an offset.
+// An address without an offset.
 const AT_ADDRESS: MemArg = MemArg {
     align: 0,
     offset: 0,
 };
 
-// A constant of a type.
 fn constant(ty: ValType, number: u32) -> Instr
     requires { number < 2 ^ 31 }
     ensures { result ≡ constant_of ty number }
@@ -31,7 +30,7 @@ fn constant(ty: ValType, number: u32) -> Instr
     }
 }
 
-// A store of a whole value.
+// A store of all bytes of a value.
 fn store(ty: ValType) -> Instr
     ensures { result ≡ store ty }
 {
@@ -51,7 +50,7 @@ fn load(ty: ValType) -> Instr
     }
 }
 
-// The parameter as an i32, 0 or not.
+// A condition: an i32 parameter itself, or whether an i64 parameter is 0.
 fn condition(alloc: Global, ty: ValType) -> Result<Vec<Instr>, AllocError>
     ensures { IfOk result (λ code. code.items ≡ condition ty) }
 {
@@ -64,7 +63,6 @@ fn condition(alloc: Global, ty: ValType) -> Result<Vec<Instr>, AllocError>
     }
 }
 
-// A constant as code.
 fn constant_code(alloc: Global, ty: ValType, number: u32) -> Result<Code, AllocError>
     requires { number < 2 ^ 31 }
     ensures { IfOk result (λ code. code ≡ code_of (constant_of ty number ∷ [])) }
@@ -73,7 +71,7 @@ fn constant_code(alloc: Global, ty: ValType, number: u32) -> Result<Code, AllocE
     Code::from_vec(alloc, code)
 }
 
-// A turn of a loop, as long as local 1 is not 0 after it.
+// The body of a loop: subtracts 1 from local 1, and goes round again if that is not 0.
 fn turn(alloc: Global) -> Result<Code, AllocError>
     ensures { IfOk result (λ code. code ≡ code_of turn) }
 {
@@ -90,7 +88,7 @@ fn turn(alloc: Global) -> Result<Code, AllocError>
     Code::from_vec(alloc, code)
 }
 
-// A loop of so many turns.
+// A loop whose body runs `turns` times.
 fn repeat(alloc: Global, turns: u32) -> Result<Vec<Instr>, AllocError>
     requires { turns < 2 ^ 31 }
     ensures { IfOk result (λ code. code.items ≡ repeat_code turns) }
@@ -102,7 +100,7 @@ fn repeat(alloc: Global, turns: u32) -> Result<Vec<Instr>, AllocError>
     )?)
 }
 
-// The global counts up.
+// Adds 1 to the global.
 fn count(alloc: Global) -> Result<Vec<Instr>, AllocError>
     ensures { IfOk result (λ code. code.items ≡ count_code) }
 {
@@ -117,7 +115,7 @@ fn count(alloc: Global) -> Result<Vec<Instr>, AllocError>
     )?)
 }
 
-// A block round the block that a table leaves, or from which it leaves both.
+// The body of a block around another, in which a `br_table` leaves the inner block or both.
 fn table_block(alloc: Global, ty: ValType) -> Result<Code, AllocError>
     ensures { IfOk result (λ code. code ≡ code_of (table_block ty)) }
 {
@@ -153,7 +151,7 @@ fn pick(alloc: Global, ty: ValType, first: u32, second: u32) -> Result<Vec<Instr
     Ok(code)
 }
 
-// The parameter is stored, and a byte of it is loaded.
+// Stores the parameter, and loads a byte of it.
 fn memory(alloc: Global, ty: ValType, address: u32) -> Result<Vec<Instr>, AllocError>
     requires { address < 2 ^ 31 }
     ensures { IfOk result (λ code. code.items ≡ piece_code ty (Piece.Memory address)) }
@@ -172,7 +170,7 @@ fn memory(alloc: Global, ty: ValType, address: u32) -> Result<Vec<Instr>, AllocE
     )?)
 }
 
-// An operator between the parameter and a constant.
+// A binary operation on the parameter and a constant.
 fn binary(alloc: Global, ty: ValType, operand: u32, op: NumOp) -> Result<Vec<Instr>, AllocError>
     requires { operand < 2 ^ 31 }
     ensures { IfOk result (λ code. code.items ≡ piece_code ty (Piece.Binary operand op)) }
@@ -182,7 +180,7 @@ fn binary(alloc: Global, ty: ValType, operand: u32, op: NumOp) -> Result<Vec<Ins
     Ok(Vec::from_array(alloc, [Instr::LocalGet(0), operand, op, Instr::LocalSet(0)])?)
 }
 
-// An operator on the parameter.
+// A unary operation on the parameter.
 fn unary(alloc: Global, op: NumOp) -> Result<Vec<Instr>, AllocError>
     ensures { IfOk result (λ code. code.items ≡ piece_code ValType.I32 (Piece.Unary op)) }
 {
@@ -192,7 +190,7 @@ fn unary(alloc: Global, op: NumOp) -> Result<Vec<Instr>, AllocError>
     )?)
 }
 
-// A choice between the ends of two blocks.
+// A `br_table` between the ends of two blocks.
 fn table(alloc: Global, ty: ValType) -> Result<Vec<Instr>, AllocError>
     ensures { IfOk result (λ code. code.items ≡ piece_code ty Piece.Table) }
 {
@@ -216,7 +214,7 @@ fn size(alloc: Global) -> Result<Vec<Instr>, AllocError>
     Ok(Vec::from_array(alloc, [Instr::MemorySize, Instr::Drop, Instr::Nop])?)
 }
 
-// The code of a piece for a parameter of a type.
+// The code of a piece for a parameter of this type.
 fn piece_code(alloc: Global, ty: ValType, piece: Piece) -> Result<Vec<Instr>, AllocError>
     requires { IsDrawable ty piece }
     ensures { IfOk result (λ code. code.items ≡ piece_code ty piece) }
@@ -235,7 +233,7 @@ fn piece_code(alloc: Global, ty: ValType, piece: Piece) -> Result<Vec<Instr>, Al
     }
 }
 
-/// The code of pieces for a parameter of a type. An `Err` comes where there is no memory.
+/// The code of pieces for a parameter of this type. An `AllocError` if memory runs out.
 pub(crate) fn pieces_code(
     alloc: Global,
     ty: ValType,

@@ -10,21 +10,21 @@ use wasm_num::{NumOp, ValType};
 /// A piece of a body.
 #[derive(Clone, Copy)]
 pub(crate) enum Piece {
-    /// An operator between the parameter and a constant.
+    /// A binary operation on the parameter and a constant.
     Binary { operand: u32, op: NumOp },
-    /// An operator on the parameter.
+    /// A unary operation on the parameter.
     Unary { op: NumOp },
-    /// The parameter is stored, and a byte of it is loaded.
+    /// Stores the parameter, and loads a byte of it.
     Memory { address: u32 },
-    /// A loop of so many turns.
+    /// A loop whose body runs `turns` times.
     Repeat { turns: u32 },
-    /// A choice between the ends of two blocks.
+    /// A `br_table` between the ends of two blocks.
     Table,
     /// An `if` between two constants.
     Choice { if_so: u32, if_not: u32 },
     /// A `select` between two constants.
     Pick { first: u32, second: u32 },
-    /// The global counts up.
+    /// Adds 1 to the global.
     Count,
     /// A call of the import.
     Note { argument: u32 },
@@ -64,7 +64,7 @@ const I32_UNARY_OPS: [NumOp; 3] = [NumOp::I32Clz, NumOp::I32Ctz, NumOp::I32Popcn
 
 const I64_UNARY_OPS: [NumOp; 3] = [NumOp::I64Clz, NumOp::I64Ctz, NumOp::I64Popcnt];
 
-// The operator of two operands of a type, by its number.
+// The binary operation of this type with this number.
 fn binary_op(ty: ValType, number: u32) -> NumOp
     requires { number < 11 }
     ensures { result ≡ binary_op ty number }
@@ -75,7 +75,7 @@ fn binary_op(ty: ValType, number: u32) -> NumOp
     }
 }
 
-// The operator of one operand of a type, by its number.
+// The unary operation of this type with this number.
 fn unary_op(ty: ValType, number: u32) -> NumOp
     requires { number < 3 }
     ensures { result ≡ unary_op ty number }
@@ -86,7 +86,7 @@ fn unary_op(ty: ValType, number: u32) -> NumOp
     }
 }
 
-// A piece of this form for a parameter of a type: its numbers are drawn in the order in which they stand in it.
+// A piece of this form for a parameter of this type. The numbers in a piece are drawn in the order of its fields.
 fn piece_of(form: u32, ty: ValType, draws: &mut Draws) -> Piece
     requires { form < 10 }
     ensures piece { result ≡ (piece_of form ty draws.old.state).made }
@@ -123,7 +123,7 @@ fn piece_of(form: u32, ty: ValType, draws: &mut Draws) -> Piece
     }
 }
 
-// A piece, whose form is drawn first.
+// A piece. Its form is drawn first.
 fn drawn_piece(ty: ValType, draws: &mut Draws) -> Piece
     ensures piece { result ≡ (drawn_piece ty draws.old.state).made }
     ensures state { draws.new.state ≡ (drawn_piece ty draws.old.state).state }
@@ -132,7 +132,7 @@ fn drawn_piece(ty: ValType, draws: &mut Draws) -> Piece
     piece_of(form, ty, draws)
 }
 
-/// So many pieces for a parameter of a type, one after another. An `Err` comes where there is no memory.
+/// `count` pieces for a parameter of this type, one after another. An `AllocError` if memory runs out.
 #[tactic(auto, using(crate::proofs::Steps::pieces_made, crate::proofs::Steps::pieces_state))]
 pub(crate) fn drawn_pieces(
     alloc: Global,

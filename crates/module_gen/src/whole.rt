@@ -1,4 +1,4 @@
-// The module that is made of a number.
+// The module that is made from a number.
 
 ghost use Rattle.std.specs.Prelude.{◌≡◌, ◌≤◌, ◌<◌, ◌+◌, ℕ, true, IfOk, [], ◌∷◌, ◌++◌, codes, map, string_bytes};
 ghost use Rattle.module_ast.specs.Validation.{IsWhole, narrow, IsValid};
@@ -16,8 +16,9 @@ use module_ast::seq::Seq;
 use std::alloc::{AllocError, Global};
 use wasm_num::ValType;
 
-/// The module of 17 to 1,025 functions that the number makes, which is valid and within the limits of a module that gets
-/// hooks. It takes time linear in the size of the module, at most 16,777,216 bytes. An `Err` comes where there is no memory.
+/// The module that the number makes, of 17 to 1,025 functions. It is valid, and within the limits of a module that gets
+/// hooks. Takes time linear in the size of the module, which is at most 16,777,216 bytes. An `AllocError` if memory
+/// runs out.
 pub fn make(alloc: Global, number: u64) -> Result<Module, AllocError>
     ensures made { IfOk result (λ m. m ≡ made number) }
     ensures valid { IfOk result IsValid }
@@ -30,7 +31,7 @@ pub fn make(alloc: Global, number: u64) -> Result<Module, AllocError>
     module_with(alloc, count, bodies)
 }
 
-// The module of `count` functions with these bodies, and a last one.
+// The module of `count` functions with these bodies, and the last function.
 fn module_with(alloc: Global, count: u32, mut bodies: Vec<Body>) -> Result<Module, AllocError>
     requires { (1 ≤ count) × (count < 50000) }
     ensures { IfOk result (λ m. m ≡ module_with count bodies.items) }
@@ -39,7 +40,7 @@ fn module_with(alloc: Global, count: u32, mut bodies: Vec<Body>) -> Result<Modul
     with_bodies(alloc, count, bodies)
 }
 
-// The same module with these bodies alone.
+// The module of `count` functions and the last one, with exactly these bodies.
 fn with_bodies(alloc: Global, count: u32, bodies: Vec<Body>) -> Result<Module, AllocError>
     requires { count < 50000 }
     ensures { IfOk result (λ m. m ≡ record (module_with count []) { bodies = bodies.items }) }
@@ -79,7 +80,7 @@ fn tables(alloc: Global, count: u32) -> Result<Vec<Range>, AllocError>
     Ok(Vec::from_array(alloc, [whole])?)
 }
 
-// A memory of one page, which may grow to four.
+// A memory of one page, which may grow to four pages.
 fn memories(alloc: Global) -> Result<Vec<Range>, AllocError>
     ensures { IfOk result (λ memories. memories.items ≡ (module_with 0 []).memories) }
 {
@@ -90,7 +91,7 @@ fn memories(alloc: Global) -> Result<Vec<Range>, AllocError>
     Ok(Vec::from_array(alloc, [pages])?)
 }
 
-// The type of a function of one parameter.
+// The type of a function with one parameter.
 fn func_type(alloc: Global, param: ValType, results: Vec<ValType>) -> Result<FuncType, AllocError>
     ensures { IfOk result (λ ty. ty ≡ record { params = param ∷ []; results = results.items }) }
 {
@@ -100,7 +101,7 @@ fn func_type(alloc: Global, param: ValType, results: Vec<ValType>) -> Result<Fun
     })
 }
 
-// The type of a function of a parameter and a result of the same type.
+// The type of a function with a parameter and a result of this type.
 fn same_type(alloc: Global, ty: ValType) -> Result<FuncType, AllocError>
     ensures { IfOk result (λ func. func ≡ record { params = ty ∷ []; results = ty ∷ [] }) }
 {
@@ -117,14 +118,13 @@ fn func_types(alloc: Global) -> Result<Vec<FuncType>, AllocError>
     Ok(Vec::from_array(alloc, [note, narrow, wide])?)
 }
 
-// A text as a name.
 fn name(alloc: Global, text: &str) -> Result<Name, AllocError>
     ensures { IfOk result (λ name. name.bytes ≡ text.now) }
 {
     Ok(Name::from_string(String::from_str(alloc, text)?))
 }
 
-// The import, which is called with a number.
+// The import, a function that takes a number.
 fn imports(alloc: Global) -> Result<Vec<Import>, AllocError>
     ensures { IfOk result (λ all. all.items ≡ note_import ∷ []) }
 {
@@ -141,7 +141,7 @@ fn note(alloc: Global) -> Result<Import, AllocError>
     })
 }
 
-// The types of the functions, and of the last one.
+// The type indices of the functions, and of the last one.
 fn type_indices(alloc: Global, count: u32) -> Result<Vec<u32>, AllocError>
     requires { count < 50000 }
     ensures { IfOk result (λ types. types.items ≡ type_indices count) }
@@ -154,14 +154,13 @@ fn type_indices(alloc: Global, count: u32) -> Result<Vec<u32>, AllocError>
     Ok(types)
 }
 
-// The constant 0.
 fn zero_code(alloc: Global) -> Result<Code, AllocError>
     ensures { IfOk result (λ code. code ≡ zero_code) }
 {
     Code::from_vec(alloc, Vec::from_array(alloc, [Instr::I32Const(0)])?)
 }
 
-// A global that is 0 at first and may change.
+// A mutable global that begins as 0.
 fn globals(alloc: Global) -> Result<Vec<GlobalDef>, AllocError>
     ensures { IfOk result (λ all. all.items ≡ counter ∷ []) }
 {
@@ -175,7 +174,7 @@ fn globals(alloc: Global) -> Result<Vec<GlobalDef>, AllocError>
     Ok(Vec::from_array(alloc, [counter])?)
 }
 
-// The last function and the memory.
+// The exports: the last function, and the memory.
 fn exports(alloc: Global, count: u32) -> Result<Vec<Export>, AllocError>
     requires { count < 50000 }
     ensures { IfOk result (λ all. all.items ≡ exports count) }
@@ -193,7 +192,7 @@ fn exports(alloc: Global, count: u32) -> Result<Vec<Export>, AllocError>
     Ok(Vec::from_array(alloc, [main, memory])?)
 }
 
-// One segment for the whole table.
+// The element segments: one for the whole table.
 fn elements(alloc: Global, count: u32) -> Result<Vec<Element>, AllocError>
     requires { count < 50000 }
     ensures { IfOk result (λ all. all.items ≡ slots count ∷ []) }
@@ -201,7 +200,7 @@ fn elements(alloc: Global, count: u32) -> Result<Vec<Element>, AllocError>
     Ok(Vec::from_array(alloc, [slots(alloc, count)?])?)
 }
 
-// The functions in the table.
+// The element segment that fills the table with the functions 1 to `count`.
 fn slots(alloc: Global, count: u32) -> Result<Element, AllocError>
     requires { count < 50000 }
     ensures { IfOk result (λ element. element ≡ slots count) }
@@ -217,7 +216,7 @@ fn slots(alloc: Global, count: u32) -> Result<Element, AllocError>
     })
 }
 
-// The body of the last function, which calls the last one of its own type.
+// The body of the last function, which calls the last function of its own type.
 fn main_body(alloc: Global, count: u32) -> Result<Body, AllocError>
     requires { (1 ≤ count) × (count < 50000) }
     ensures { IfOk result (λ body. body ≡ main_body count) }

@@ -1,4 +1,4 @@
--- What holds of all names.
+-- Laws of the names that files carry.
 use Rattle.std.specs.Prelude.{◌≡◌, ◌≢◌, ℕ, ◌+◌, ◌^◌, ◌<◌, ◌≤◌, List, [], ◌∷◌, ◌++◌, length, map, None, All, codes}
 use Rattle.leb_binary.specs.Texts.{Text}
 use Rattle.module_ast.specs.declared.module.Module.{Module}
@@ -15,7 +15,7 @@ use Rattle.name_map.specs.Written.{content_bytes, name_section_bytes}
 abbrev pub ModulesAreFiles : Type 0
 ModulesAreFiles = (bytes : List ℕ) (m : Module) → Gram bytes m → IsFile bytes
 
--- bytes carry one value of names
+-- a file carries one value of names
 abbrev pub NamesAreOne : Type 0
 NamesAreOne = (bytes : List ℕ) (functions : ℕ) (m n : Names) → AreNames bytes functions m → AreNames bytes functions n → m ≡ n
 
@@ -23,7 +23,7 @@ NamesAreOne = (bytes : List ℕ) (functions : ℕ) (m n : Names) → AreNames by
 abbrev pub NamesComeBack : Type 0
 NamesComeBack = (remap : Remap) (names : Names) → unmap_names remap (map_names remap names) ≡ names
 
--- names that a file with so many functions can carry: by rising index, of functions that it has
+-- names that a file with `count` functions can carry: by rising index, and of functions that there are
 pub record AreProper (count : ℕ) (names : Names) : Type 0 where
   pub order : Rises (map (λ n. n.index) names.functions)
   pub below : All (λ n. n.index < count) names.functions
@@ -31,11 +31,11 @@ pub record AreProper (count : ℕ) (names : Names) : Type 0 where
   pub owners_below : All (λ l. l.func < count) names.locals
   pub inner : All (λ l. All (λ n. n.index < 2 ^ 32) l.names × Rises (map (λ n. n.index) l.names)) names.locals
 
--- what a file carries is so
+-- the names that a file carries are proper
 abbrev pub ReadAreProper : Type 0
 ReadAreProper = (bytes : List ℕ) (count : ℕ) (names : Names) → AreNames bytes count names → AreProper count names
 
--- and so is what it becomes in an output, which has more functions
+-- proper names are proper in an output, which has more functions
 abbrev pub MapKeepsProper : Type 0
 MapKeepsProper = (remap : Remap) (count : ℕ) (names : Names) → AreProper count names → AreProper (count + remap.added) (map_names remap names)
 
@@ -47,7 +47,7 @@ IsNameless bytes = (rest : List ℕ) × (cs : List Chunk) × (bytes ≡ header +
 abbrev pub FilesWithoutCustoms : Type 0
 FilesWithoutCustoms = (bytes : List ℕ) (m : Module) → Gram bytes m → m.customs ≡ [] → IsNameless bytes
 
--- behind a file without a `name` section, the section of names carries them
+-- appended to a file without a `name` section, the section of names carries them
 abbrev pub PutIsRead : Type 0
 PutIsRead =
     (file : List ℕ) (count : ℕ) (names : Names) → IsNameless file → count ≤ 2 ^ 32 → AreProper count names
@@ -63,7 +63,7 @@ PutKeepsModule =
     (file : List ℕ) (m : Module) (names : Names) (name : Text) → name.bytes ≡ codes "name" → names ≢ no_names → Gram file m
     → length (content_bytes names) < 2 ^ 32 → Gram (file ++ name_section_bytes names) (with_custom name m)
 
--- each function has its name in the output, and its locals theirs; a hook has none; and the module keeps its own
+-- in an output each function and its locals have their names, hooks have none, and the module keeps its own
 pub record Follow (remap : Remap) (there names : Names) : Type 0 where
   pub functions : (f : ℕ) → name_at (map_index remap f) there.functions ≡ name_at f names.functions
   pub locals : (f : ℕ) → locals_at (map_index remap f) there.locals ≡ locals_at f names.locals

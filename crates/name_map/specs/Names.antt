@@ -1,4 +1,5 @@
--- The names of a module, its functions and their locals: those of functions that there are, in an output, and of one function.
+-- The names of a module, its functions and their locals: those of functions that there are, those in an output, and
+-- those of one function.
 use Rattle.std.specs.Prelude.{ℕ, List, [], map, filter, filter_map, find, Option, None, option_map, unwrap_or, nat_lt, ◌==◌}
 use Rattle.leb_binary.specs.Texts.{Text}
 use Rattle.index_remap.specs.declared.Remap.{Remap}
@@ -10,7 +11,7 @@ use Rattle.name_map.specs.declared.Names.{Names}
 abbrev pub no_names : Names
 no_names = record { «module» = None; functions = []; locals = [] }
 
--- those of functions of a module that has so many
+-- the names of the functions of a module that has `functions` of them
 abbrev pub known_names : (functions : ℕ) → Names → Names
 known_names functions names = record {
   «module» = names.module;
@@ -33,7 +34,7 @@ map_names remap names = record {
   locals = map (map_locals remap) names.locals;
 }
 
--- and back; none of a hook's
+-- back from an output; a hook has no name
 abbrev pub unmap_named : Remap → Named → Option Named
 unmap_named remap n = option_map (λ i. record n { index = i }) (unmap_index remap n.index)
 

@@ -1,5 +1,5 @@
--- Appendix, Name Section: the bytes of a `name` section, subsections by rising id, numbers in their shortest spelling, nothing
--- that is empty.
+-- Appendix, Name Section: the bytes of a `name` section, with subsections by rising id, numbers in their shortest
+-- spelling, and nothing empty.
 use Rattle.std.specs.Prelude.{ℕ, List, [], ◌∷◌, ◌++◌, Option, Some, None, codes}
 use Rattle.leb_binary.specs.Texts.{Text}
 use Rattle.leb_binary.specs.Shortest.{unsigned_bytes}
@@ -26,7 +26,7 @@ names_bytes names = module_name_bytes names.module ++ vec_section 1 named_bytes 
 abbrev pub content_bytes : Names → List ℕ
 content_bytes names = sized_bytes (codes "name") ++ names_bytes names
 
--- the custom section of these subsections; none of no subsections
+-- the custom section of these subsections; no section if there are no subsections
 abbrev pub custom_section_of : List ℕ → List ℕ
 custom_section_of [] = []
 custom_section_of (b ∷ bs) = section_bytes 0 (sized_bytes (codes "name") ++ b ∷ bs)

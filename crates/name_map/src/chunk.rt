@@ -7,7 +7,7 @@ ghost use Rattle.name_map.specs.Sections.{Chunk, chunk, IsChunk, content_of};
 
 use leb_binary::{Bad, Cursor};
 
-// Takes an id, a size, and that many bytes. After an `Err` it is not told where the cursor stands.
+/// Takes an id, a size, and as many bytes. After an `Err` the cursor may be anywhere.
 pub fn next_chunk<'b>(cursor: &mut Cursor<'b>) -> Result<(u8, &'b [u8]), Bad>
     ensures ok { IfOk result (λ c. IsFront IsChunk cursor.old.left cursor.new.left (chunk c.0 c.1.now)) }
     ensures bad { OnErr result (HasNoFront IsChunk cursor.old.left) }
@@ -18,7 +18,8 @@ pub fn next_chunk<'b>(cursor: &mut Cursor<'b>) -> Result<(u8, &'b [u8]), Bad>
     Ok((id, content))
 }
 
-// The content of the first chunk with this id, if there is one. `Bad` comes exactly where the bytes are not all chunks.
+/// The content of the first chunk with this id, if there is one. `Bad` exactly if the bytes are not a sequence of
+/// chunks.
 pub fn find_chunk(bytes: &[u8], id: u8) -> Result<Option<&[u8]>, Bad>
     ensures ok { IfOk result (λ found. (cs : List Chunk) × AreItems IsChunk bytes.now cs × (option_map (λ c. c.now) found ≡ content_of id cs)) }
     ensures bad { OnErr result ((cs : List Chunk) → AreItems IsChunk bytes.now cs → ⊥) }

@@ -15,15 +15,15 @@ use leb_binary::{Cursor, put_u64};
 use module_ast::seq::Seq;
 use std::alloc::{AllocError, Global};
 
-// Whether indices that rose so far go on with this one, where `least` is the least that may come.
+// Whether indices still rise: `rises` says whether the ones before did, and `least` is the least that may follow them.
 fn goes_on(rises: bool, least: u64, index: u64) -> bool
     ensures { result ≡ (rises && nat_le least index) }
 {
     rises && least <= index
 }
 
-// Takes a vector of entries by rising index. Memory grows only as they are read. After an `Err` it is not told where the
-// cursor stands.
+/// Takes a vector of entries by rising index. Memory grows only as entries are read. After an `Err` the cursor may be
+/// anywhere.
 pub fn read_entries<E: Entry>(alloc: Global, cursor: &mut Cursor) -> Result<Vec<E>, Fault>
     requires one { OneFront E.is }
     ensures ok { IfOk result (λ v. IsFront (IsRisingVec E.is E.index) cursor.old.left cursor.new.left v.items) }
@@ -46,7 +46,7 @@ pub fn read_entries<E: Entry>(alloc: Global, cursor: &mut Cursor) -> Result<Vec<
     Ok(entries)
 }
 
-// The entries that fill a subsection; none where it is absent.
+/// The entries that the subsection is; none if the subsection is absent.
 pub fn entries_in<E: Entry>(alloc: Global, subsection: Option<&[u8]>) -> Result<Vec<E>, Fault>
     requires one { OneFront E.is }
     ensures ok { IfOk result (λ v. AreEntriesIn (IsRisingVec E.is E.index) (option_map (λ s. s.now) subsection.entry) v.items) }
@@ -63,7 +63,7 @@ pub fn entries_in<E: Entry>(alloc: Global, subsection: Option<&[u8]>) -> Result<
     Ok(entries)
 }
 
-// Those with an index below this one.
+/// The entries with an index below the bound.
 pub fn entries_below<E: Entry>(entries: Seq<E>, bound: u32) -> Seq<E>
     ensures { result ≡ filter (λ e. nat_lt (E.index e) bound) entries }
 {
@@ -72,7 +72,7 @@ pub fn entries_below<E: Entry>(entries: Seq<E>, bound: u32) -> Seq<E>
     Seq::from_vec(entries)
 }
 
-// Adds the entries behind their number. After an `Err` it is not told what was added.
+/// Appends the number of the entries, and the entries. After an `Err` any bytes may have been appended.
 pub fn put_entries<E: Entry>(out: &mut Vec<u8>, entries: &[E]) -> Result<(), AllocError>
     ensures { OnOk result (out.new.items ≡ out.old.items ++ vec_bytes E.bytes entries.now) }
 {
@@ -83,7 +83,7 @@ pub fn put_entries<E: Entry>(out: &mut Vec<u8>, entries: &[E]) -> Result<(), All
     Ok(())
 }
 
-// The same entries, of functions in the output.
+/// Copies of the entries, with the indices that the functions have in the output.
 pub fn map_entries<E: Entry>(
     alloc: Global,
     remap: Remap,
@@ -100,7 +100,7 @@ pub fn map_entries<E: Entry>(
     Ok(Seq::from_vec(mapped))
 }
 
-// The same entries, of functions in the original; those of hooks are left out.
+/// Copies of the entries, with the indices that the functions have in the original. The entries of hooks are left out.
 pub fn unmap_entries<E: Entry>(
     alloc: Global,
     remap: Remap,

@@ -1,4 +1,4 @@
-// What a name map holds: a name with its index, and names of locals with their function.
+// The entries of name maps: a name with its index, and the names of a function's locals.
 
 ghost use Rattle.std.specs.Prelude.{◌≡◌, ◌++◌, ℕ, List, IfOk, OnOk, IsErrOf};
 ghost use Rattle.leb_binary.specs.Leb.{IsName, IsFront, HasNoFront};
@@ -15,7 +15,7 @@ use module_ast::name::Name;
 use module_ast::seq::Seq;
 use std::alloc::{AllocError, Global};
 
-// An entry of a name map: an index, and what it has.
+/// An entry of a name map: an index, and a name or the names of locals.
 pub trait Entry: Sized + Drop {
     ghost index: { Self → ℕ };
 
@@ -25,25 +25,25 @@ pub trait Entry: Sized + Drop {
 
     ghost with_index: { ℕ → Self → Self };
 
-    // The index.
+    /// The index of the entry.
     fn index(&self) -> u32
         ensures { result ≡ index self.now };
 
-    // Takes an entry from the front. After an `Err` it is not told where the cursor stands.
+    /// Takes an entry from the front. After an `Err` the cursor may be anywhere.
     fn read(alloc: Global, cursor: &mut Cursor) -> Result<Self, Fault>
         ensures ok { IfOk result (λ entry. IsFront is cursor.old.left cursor.new.left entry) }
         ensures malformed { IsErrOf result Fault.Malformed → HasNoFront is cursor.old.left };
 
-    // Adds the entry. After an `Err` it is not told what was added.
+    /// Appends the entry. After an `Err` any bytes may have been appended.
     fn put(&self, out: &mut Vec<u8>) -> Result<(), AllocError>
         ensures { OnOk result (out.new.items ≡ out.old.items ++ bytes self.now) };
 
-    // The entry once more, with this index.
+    /// A copy of the entry with this index.
     fn copy_at(&self, alloc: Global, at: u32) -> Result<Self, AllocError>
         ensures { IfOk result (λ copy. copy ≡ with_index at self.now) };
 }
 
-// Takes a name, copied. After an `Err` it is not told where the cursor stands.
+/// Takes a name, copied. After an `Err` the cursor may be anywhere.
 pub fn read_name(alloc: Global, cursor: &mut Cursor) -> Result<Name, Fault>
     ensures ok { IfOk result (λ n. IsFront IsName cursor.old.left cursor.new.left n) }
     ensures malformed { IsErrOf result Fault.Malformed → HasNoFront IsName cursor.old.left }

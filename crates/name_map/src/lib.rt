@@ -18,7 +18,7 @@ pub use crate::written::put_section;
 use module_ast::name::Name;
 use module_ast::seq::Seq;
 
-/// An index and its name.
+/// A name and the index of what has the name.
 #[derive(Drop)]
 pub struct Named {
     /// The index of a function, or of a local of a function, whose parameters come first.
@@ -35,7 +35,7 @@ pub struct Locals {
     pub names: Seq<Named>,
 }
 
-/// What the `name` section of a module tells.
+/// The names in the `name` section of a module.
 #[derive(Drop)]
 pub struct Names {
     /// The name of the module, if it has one.

@@ -1,4 +1,4 @@
-// Names with the functions of an output, and back.
+// Names taken to an output, and back.
 
 ghost use Rattle.std.specs.Prelude.{◌≡◌, All, IfOk};
 ghost use Rattle.index_remap.specs.Remap.{MapsIndex};
@@ -10,7 +10,7 @@ use index_remap::{DeepCopy, Remap};
 use module_ast::name::Name;
 use std::alloc::{AllocError, Global};
 
-// The name of the module once more.
+// A copy of the module's name, if there is one.
 fn copy_module(alloc: Global, given: &Option<Name>) -> Result<Option<Name>, AllocError>
     ensures { IfOk result (λ copy. copy ≡ given.now) }
 {
@@ -20,9 +20,8 @@ fn copy_module(alloc: Global, given: &Option<Name>) -> Result<Option<Name>, Allo
     }
 }
 
-/// The names in the output: those of the module, of each function at its index there, and of its locals, copied.
-///
-/// An error is that of the allocator.
+/// The names in the output, copied: the module keeps its name, and each function has its name and those of its locals
+/// at the index that it has in the output. An `AllocError` if memory runs out.
 pub fn map_names(alloc: Global, names: &Names, remap: Remap) -> Result<Names, AllocError>
     requires functions { All (λ n. MapsIndex remap n.index) names.now.functions }
     requires locals { All (λ l. MapsIndex remap l.func) names.now.locals }
@@ -35,9 +34,8 @@ pub fn map_names(alloc: Global, names: &Names, remap: Remap) -> Result<Names, Al
     })
 }
 
-/// The names in the original of what has them in the output, copied; those of hooks are left out.
-///
-/// An error is that of the allocator.
+/// The names in the original, copied, from those in the output. The names of hooks are left out. An `AllocError` if
+/// memory runs out.
 pub fn unmap_names(alloc: Global, names: &Names, remap: Remap) -> Result<Names, AllocError>
     ensures { IfOk result (λ unmapped. unmapped ≡ unmap_names remap names.now) }
 {

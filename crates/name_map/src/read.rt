@@ -11,7 +11,7 @@ use crate::section::{find_section, read_subsections};
 use module_ast::seq::Seq;
 use std::alloc::{AllocError, Global};
 
-// The length of a file's header (5.5.15).
+// The length of a file's header in bytes (5.5.15).
 const HEADER: usize = 8;
 
 /// No names at all.
@@ -25,7 +25,7 @@ pub fn no_names(alloc: Global) -> Names
     }
 }
 
-// The names of the functions that there are.
+// The names of functions with an index below `functions`.
 fn known(names: Names, functions: u32) -> Names
     ensures { result ≡ known_names functions names }
 {
@@ -36,17 +36,17 @@ fn known(names: Names, functions: u32) -> Names
     }
 }
 
-/// The names that a module's file carries (Standard, Appendix, Name Section). `functions` is how many functions the module
-/// has, imported ones included; an entry of another index is left out.
+/// The names that a module's file carries (Standard, Appendix, Name Section). `functions` is how many functions the
+/// module has, imports included; an entry with another index is left out.
 ///
-/// The first custom section `name` is read, and in it the first subsection of each of the ids 0, 1 and 2; all else is
-/// skipped. Where that section is not subsections alone, or one of the three is not exactly of its form, there are no names.
-/// Memory grows only as names are read. An error is that of the allocator.
+/// Reads the first custom section `name`, and in it the first subsection of each of the ids 0, 1 and 2. If that section
+/// has anything but subsections, or if one of the three is not exactly of its form, there are no names. Memory grows
+/// only as names are read. An `AllocError` if memory runs out.
 pub fn read_names(alloc: Global, bytes: &[u8], functions: u32) -> Result<Names, AllocError>
     requires { IsFile bytes.now }
     ensures names { IfOk result (λ names. AreNames bytes.now functions names) }
 
-    // No other function has a name.
+    // Only functions that the module has have names.
     ensures functions { IfOk result (λ names. All (λ n. n.index < functions) names.functions) }
     ensures locals { IfOk result (λ names. All (λ l. l.func < functions) names.locals) }
 {

@@ -1,4 +1,4 @@
-// The `name` section: where it stands in a file, and what it holds.
+// The `name` section: where it is in a file, and what it has.
 
 ghost use Rattle.std.specs.Prelude.{ℕ, List, Option, MatchOption, option_map, IfOk, IsErrOf};
 ghost use Rattle.leb_binary.specs.Texts.{Text};
@@ -16,20 +16,22 @@ use module_ast::name::Name;
 use module_ast::seq::Seq;
 use std::alloc::Global;
 
-// The name of the section.
+/// The name of the custom section.
 pub const NAME: &str = "name";
 
-// The id of custom sections (5.5.3).
+/// The id of custom sections (5.5.3).
 pub const CUSTOM: u8 = 0;
 
-// The ids of its subsections.
+/// The id of the subsection of the module's name.
 pub const MODULE: u8 = 0;
 
+/// The id of the subsection of the functions' names.
 pub const FUNCTIONS: u8 = 1;
 
+/// The id of the subsection of the locals' names.
 pub const LOCALS: u8 = 2;
 
-// What stands behind the name in a `name` section, where this section is one.
+// The bytes behind the name in a `name` section; `None` if it is another section.
 fn name_data(id: u8, content: &[u8]) -> Option<&[u8]>
     ensures { MatchOption result ((subsections : List ℕ) → IsNameSection (chunk id content.now) subsections → ⊥) (λ s. IsNameSection (chunk id content.now) s.now) }
 {
@@ -46,7 +48,7 @@ fn name_data(id: u8, content: &[u8]) -> Option<&[u8]>
     None
 }
 
-// What the first `name` section among these sections holds, if there is one.
+/// The content of the first `name` section among these sections, if there is one.
 pub fn find_section(sections: &[u8]) -> Option<&[u8]>
     requires { (cs : List Chunk) × AreItems IsChunk sections.now cs }
     ensures { (cs : List Chunk) × AreItems IsChunk sections.now cs × IsFirstNameSection cs (option_map (λ s. s.now) result) }
@@ -59,7 +61,7 @@ pub fn find_section(sections: &[u8]) -> Option<&[u8]>
     found
 }
 
-// The name that fills a subsection; none where it is absent.
+// The name that the subsection is; `None` if the subsection is absent.
 fn module_name(alloc: Global, subsection: Option<&[u8]>) -> Result<Option<Name>, Fault>
     ensures ok { IfOk result (λ name. IsModuleNameIn (option_map (λ s. s.now) subsection.entry) name) }
     ensures malformed { IsErrOf result Fault.Malformed → (name : Option Text) → IsModuleNameIn (option_map (λ s. s.now) subsection.entry) name → ⊥ }
@@ -75,7 +77,7 @@ fn module_name(alloc: Global, subsection: Option<&[u8]>) -> Result<Option<Name>,
     Ok(Some(name))
 }
 
-// The names in a `name` section. `Malformed` comes exactly where it is not of its form.
+/// The names in a `name` section. `Malformed` exactly if the section is not of its form.
 pub fn read_subsections(alloc: Global, bytes: &[u8]) -> Result<Names, Fault>
     ensures ok { IfOk result (λ names. IsNameData bytes.now names) }
     ensures malformed { IsErrOf result Fault.Malformed → (names : Seen) → IsNameData bytes.now names → ⊥ }

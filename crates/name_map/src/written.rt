@@ -1,4 +1,4 @@
-// The `name` section of names.
+// Writers of the `name` section.
 
 ghost use Rattle.std.specs.Prelude.{◌≡◌, ◌++◌, OnOk, OnErr};
 ghost use Rattle.module_ast.specs.Binary.{sized_bytes, section_bytes, vec_section};
@@ -12,7 +12,7 @@ use leb_binary::put_u64;
 use module_ast::name::Name;
 use std::alloc::{AllocError, Global};
 
-// Adds the number of these bytes, and the bytes.
+/// Appends the number of these bytes, and the bytes.
 pub fn put_sized(out: &mut Vec<u8>, bytes: &[u8]) -> Result<(), AllocError>
     ensures { OnOk result (out.new.items ≡ out.old.items ++ sized_bytes bytes.now) }
 {
@@ -21,7 +21,7 @@ pub fn put_sized(out: &mut Vec<u8>, bytes: &[u8]) -> Result<(), AllocError>
     Ok(())
 }
 
-// Adds a section or a subsection of this content.
+// Appends a section or a subsection with this content.
 fn put_chunk(out: &mut Vec<u8>, id: u8, content: &[u8]) -> Result<(), AllocError>
     ensures { OnOk result (out.new.items ≡ out.old.items ++ section_bytes id content.now) }
 {
@@ -29,7 +29,7 @@ fn put_chunk(out: &mut Vec<u8>, id: u8, content: &[u8]) -> Result<(), AllocError
     put_sized(out, content)
 }
 
-// Adds the subsection of the module's name, if it has one.
+// Appends the subsection of the module's name, if the module has one.
 fn put_module_name(alloc: Global, out: &mut Vec<u8>, given: &Option<Name>) -> Result<(), AllocError>
     ensures { OnOk result (out.new.items ≡ out.old.items ++ module_name_bytes given.now) }
 {
@@ -43,7 +43,7 @@ fn put_module_name(alloc: Global, out: &mut Vec<u8>, given: &Option<Name>) -> Re
     }
 }
 
-// Adds a subsection of these entries, if there are any.
+// Appends a subsection of these entries, if there are any.
 fn put_subsection<E: Entry>(
     alloc: Global,
     out: &mut Vec<u8>,
@@ -60,7 +60,7 @@ fn put_subsection<E: Entry>(
     put_chunk(out, id, &content)
 }
 
-// Adds the subsections of these names.
+// Appends the subsections of these names.
 fn put_names(alloc: Global, out: &mut Vec<u8>, names: &Names) -> Result<(), AllocError>
     ensures { OnOk result (out.new.items ≡ out.old.items ++ names_bytes names.now) }
 {
@@ -69,11 +69,12 @@ fn put_names(alloc: Global, out: &mut Vec<u8>, names: &Names) -> Result<(), Allo
     put_subsection(alloc, out, LOCALS, names.locals.as_slice())
 }
 
-/// Adds the custom section `name` of these names (Standard, Appendix, Name Section): subsections by rising id, all numbers
-/// in their shortest spelling. A subsection of nothing is left out, and where there are no names there is no section.
+/// Appends the custom section `name` of these names (Standard, Appendix, Name Section): subsections by rising id, all
+/// numbers in their shortest spelling. A subsection without entries is left out. If there are no names, there is no
+/// section.
 ///
-/// Names whose content has 2^32 bytes or more get a section that no module can hold. An error is that of the allocator, and
-/// leaves `out` as it was.
+/// If the content has 2^32 bytes or more, no module can have the section that is appended. An `AllocError` if memory
+/// runs out; `out` is then as it was.
 pub fn put_section(alloc: Global, out: &mut Vec<u8>, names: &Names) -> Result<(), AllocError>
     ensures put { OnOk result (out.new.items ≡ out.old.items ++ name_section_bytes names.now) }
     ensures kept { OnErr result (out.new.items ≡ out.old.items) }

@@ -1,4 +1,4 @@
--- The form of a script, whose parts are tried in their order.
+-- The form of a script, whose parts are read in their order.
 use Rattle.std.specs.Prelude.{◌≡◌, ◌&&◌, ℕ, List, [], ◌∷◌, codes, Bool, is_some, Option, Some, None, Result, Ok, Err}
 use Rattle.serde_json.specs.Data.{Data}
 use Rattle.serde_json.specs.Find.{get}
@@ -13,12 +13,12 @@ use Rattle.run_session.specs.declared.script.ScriptFault.{ScriptFault}
 use Rattle.run_session.specs.declared.script.ScriptFault.TheVariants.{NotJson, NotScript, NoMemory}
 use Rattle.run_session.specs.Forms.{call_form, answer_form}
 
--- the part of this place, or the place where it is wrong
+-- the part at `place`, or the place if the part is wrong
 abbrev pub part : {A : Type 0} → (place : ℕ) → Option A → Result A ℕ
 part place (Some a) = Ok a
 part place None = Err place
 
--- one part after another, up to the first wrong one
+-- one part after another, up to the first that is wrong
 abbrev pub after_part : {A B : Type 0} → Result A ℕ → (A → Result B ℕ) → Result B ℕ
 after_part (Ok a) f = f a
 after_part (Err place) f = Err place
@@ -36,7 +36,7 @@ keys_part d = part 1 (given_if (has_script_keys d) (tt {0}))
 abbrev pub calls_part : Data → Result (List Call) ℕ
 calls_part d = part 2 (field_form (codes "calls") (list_form call_form) d)
 
--- the script that a value holds, or its first wrong part: the keys, and then what stands at each key
+-- the script that a value is, or its first wrong part: first the keys, then the value at each key
 abbrev pub script_form : Data → Result Script ℕ
 script_form d =
     after_part (keys_part d) λ keys.
@@ -48,14 +48,14 @@ script_form d =
     after_part (part 7 (field_or (codes "steps") 10000000 (count_form 1 1000000000000) d)) λ steps.
     Ok (record { calls = calls; hosts = hosts; globals = globals; pages = pages; depth = depth; steps = steps })
 
--- what was read is what the form gives
+-- what was read is what the form reads
 abbrev pub ReadsPart : {A : Type 0} → Result A ScriptFault → Result A ℕ → Type 0
 ReadsPart (Ok a) form = form ≡ Ok a
 ReadsPart (Err NotJson) form = ⊥
 ReadsPart (Err (NotScript place)) form = form ≡ Err place
 ReadsPart (Err NoMemory) form = Unit {0}
 
--- the fault of a part
+-- the fault of the part at `place`
 abbrev pub fault_at : (place : ℕ) → FormFault → ScriptFault
 fault_at place form.Wrong = NotScript place
 fault_at place form.NoMemory = NoMemory

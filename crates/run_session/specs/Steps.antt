@@ -1,8 +1,8 @@
--- How many steps of its script a run has made.
+-- The number of steps that a run has made.
 use Rattle.std.specs.Prelude.{◌≡◌, ℕ, ◌≤◌}
 use Rattle.wasm_run.specs.Running.{Run}
 
--- no more than its script has, of which there are this many
+-- the run has made at most as many steps as its script has, which are `steps`
 pub record IsWithinSteps (r : Run) (steps : ℕ) : Type 0 where
   pub made : r.made ≤ steps
   pub steps_are : r.script.steps ≡ steps

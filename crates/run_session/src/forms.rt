@@ -1,4 +1,4 @@
-// The parts of a script, by their forms.
+// The forms of the parts of a script.
 
 ghost use Rattle.std.specs.Prelude.{◌≡◌};
 ghost use Rattle.serde_json.specs.View.{view};
@@ -14,7 +14,7 @@ use serde_json::Value;
 use std::alloc::Global;
 use wasm_sem::{Call, HostAnswer, HostWrite};
 
-/// An object with exactly `export`, a text, and `args`, a list of numbers.
+/// The form of a call: an object with exactly `export`, a text, and `args`, a list of numbers.
 pub struct CallForm;
 
 impl Form for CallForm {
@@ -30,7 +30,7 @@ impl Form for CallForm {
     }
 }
 
-/// An object with exactly `results`, a list of numbers, and `writes`, a list of addresses with bytes.
+/// The form of a host answer: an object with exactly `results`, a list of numbers, and `writes`, a list of writes.
 pub struct AnswerForm;
 
 impl Form for AnswerForm {
@@ -46,7 +46,7 @@ impl Form for AnswerForm {
     }
 }
 
-/// An address and a text of hexadecimal digits.
+/// The form of a write: a list of an address and a text of hexadecimal digits.
 pub struct WriteForm;
 
 impl Form for WriteForm {
@@ -62,7 +62,7 @@ impl Form for WriteForm {
     }
 }
 
-// The bytes that a text of hexadecimal digits spells.
+// Reads the bytes that a text of hexadecimal digits spells.
 fn read_hex(alloc: Global, value: &Value) -> Result<Seq<u8>, FormFault>
     ensures { ReadsForm result (hex_form (view value.now)) }
 {

@@ -1,4 +1,4 @@
-// Runs by a script.
+// Scripts in JSON, and runs of a module under a script.
 #![tactic(auto)]
 
 mod forms;

@@ -18,20 +18,20 @@ use wasm_run::exported_functions;
 use wasm_sem::{Call, Script};
 use wasm_valid::ValidModule;
 
-/// Why a module does not link with a script. The calls are numbered from 0. (Standard, 4.5.4)
+/// Why a module does not link with a script. Calls are numbered from 0. (Standard, 4.5.4)
 #[derive(Clone, Copy, Debug, PartialEq, Eq)]
 pub enum LinkFault {
-    /// No function is exported under the name that this call has.
+    /// No function is exported under the name in this call.
     NoExport { call: u64 },
-    /// This call has more or fewer arguments than its function, or one that is not of its type.
+    /// This call has more or fewer arguments than its function takes, or one that does not fit its type.
     BadArgs { call: u64 },
-    /// The memory has this many pages at least, more than the script allows.
+    /// The least size of the memory is this many pages, more than the script allows.
     MemoryCap { pages: u32 },
-    /// The table has this many slots at least, more than 1,000,000.
+    /// The least size of the table is this many slots, more than 1,000,000.
     TableCap { slots: u32 },
     /// An element or data segment ends past its table or memory.
     SegmentRange,
-    /// An allocation failed.
+    /// Memory ran out.
     NoMemory,
 }
 
@@ -49,8 +49,8 @@ const MOST_SLOTS: u32 = 1_000_000;
 
 const PAGE_BYTES: u64 = 65_536;
 
-/// Looks for the first refusal: for each call that its function is there and then that its arguments fit, the least size of
-/// the memory, that of the table, and the ranges of the segments. (Standard, 4.5.4)
+/// Answers the first refusal, if there is one: for each call first its function and then its arguments, then the least
+/// size of the memory, that of the table, and the ranges of the segments. (Standard, 4.5.4)
 pub(crate) fn check_links(
     alloc: Global,
     valid: &ValidModule,
@@ -65,7 +65,7 @@ pub(crate) fn check_links(
     check_segments(alloc, module, script)
 }
 
-// Whether each call is of an exported function, and its arguments fit.
+// Refuses the first call without an exported function, or whose arguments do not fit.
 fn check_calls(alloc: Global, m: &Module, calls: &[Call]) -> Result<(), LinkFault>
     requires valid { IsValid m.now }
     requires complete { IsComplete m.now }
@@ -80,7 +80,7 @@ fn check_calls(alloc: Global, m: &Module, calls: &[Call]) -> Result<(), LinkFaul
     Ok(())
 }
 
-// The type of the function that is exported under this name.
+// The type of the function that is exported under this name, if there is one.
 fn exported_type<'m>(
     m: &'m Module,
     spaces: &Spaces,
@@ -95,7 +95,7 @@ fn exported_type<'m>(
     spaces.func_type(m, *function)
 }
 
-// Whether the function of a call is there, and the arguments fit it.
+// Refuses a call without a function, or whose arguments do not fit the function.
 fn check_call(index: u64, call: &Call, function: Option<&FuncType>) -> Result<(), LinkFault>
     ensures { ChecksRefusal result (type_refusal index call.now.args (option_copied function.entry)) }
 {
@@ -106,7 +106,7 @@ fn check_call(index: u64, call: &Call, function: Option<&FuncType>) -> Result<()
     }
 }
 
-// Whether there are as many numbers as types, and each fits.
+// Whether there are as many numbers as types, and each number fits its type.
 fn fit_types(types: &[ValType], numbers: &[i128]) -> bool
     ensures { result ≡ fit_types types.now numbers.now }
 {
@@ -121,7 +121,7 @@ fn fit_types(types: &[ValType], numbers: &[i128]) -> bool
     true
 }
 
-// Whether a number, read as signed or as unsigned, fits a type.
+// Whether a number fits a type, read as signed or as unsigned.
 fn fits_type(ty: ValType, number: i128) -> bool
     ensures { result ≡ fits_type ty number }
 {
@@ -131,7 +131,7 @@ fn fits_type(ty: ValType, number: i128) -> bool
     }
 }
 
-// Whether the script allows as many pages as the memory has at least.
+// Refuses a memory whose least size is more than the `most` pages that the script allows.
 fn check_pages(m: &Module, most: u32) -> Result<(), LinkFault>
     ensures { ChecksRefusal result (refusal_unless (nat_le (least_size (memories_of m.now)) most) (memory_cap (least_size (memories_of m.now)))) }
 {
@@ -143,7 +143,7 @@ fn check_pages(m: &Module, most: u32) -> Result<(), LinkFault>
     }
 }
 
-// Whether the table has at least no more slots than a run allows.
+// Refuses a table whose least size is more slots than a run may have.
 fn check_slots(m: &Module) -> Result<(), LinkFault>
     ensures { ChecksRefusal result (refusal_unless (nat_le (least_size (tables_of m.now)) 1000000) (table_cap (least_size (tables_of m.now)))) }
 {
@@ -155,7 +155,7 @@ fn check_slots(m: &Module) -> Result<(), LinkFault>
     }
 }
 
-// Whether each segment ends within its table or memory.
+// Refuses segments of which one ends past its table or memory.
 fn check_segments(alloc: Global, m: &Module, script: &Script) -> Result<(), LinkFault>
     ensures { ChecksRefusal result (refusal_unless (fit_all m.now script.now) segment_range) }
 {
@@ -170,7 +170,7 @@ fn check_segments(alloc: Global, m: &Module, script: &Script) -> Result<(), Link
     }
 }
 
-// Whether so many items from a place on end within a size.
+// Whether `count` items from `start` on end within `size`.
 fn ends_within(start: u32, count: usize, size: u64) -> bool
     ensures { result ≡ nat_le (start + count) size }
 {
@@ -178,7 +178,7 @@ fn ends_within(start: u32, count: usize, size: u64) -> bool
     count <= size && u64::from(start) <= size - count
 }
 
-// Whether the elements end within a table of so many slots.
+// Whether all element segments end within a table of `slots` slots.
 fn fit_elements(globals: &[Value], slots: u64, elements: &[Element]) -> bool
     ensures { result ≡ fit_elements globals.now slots elements.now }
 {
@@ -191,7 +191,7 @@ fn fit_elements(globals: &[Value], slots: u64, elements: &[Element]) -> bool
     true
 }
 
-// Whether the data ends within a memory of so many bytes.
+// Whether all data segments end within a memory of `bytes` bytes.
 fn fit_segments(globals: &[Value], bytes: u64, segments: &[Segment]) -> bool
     ensures { result ≡ fit_segments globals.now bytes segments.now }
 {

@@ -18,15 +18,15 @@ use serde_json::Value;
 use std::alloc::Global;
 use wasm_sem::{Call, Script};
 
-/// Why bytes give no script.
+/// Why bytes are no script.
 #[derive(Clone, Copy, Debug, PartialEq, Eq)]
 pub enum ScriptFault {
-    /// They are not JSON.
+    /// The bytes are no value of JSON.
     NotJson,
-    /// They are, and this is the first part of the value that is wrong: 1 for its keys, 2 for `calls`, 3 for `host`,
-    /// 4 for `globals`, 5 for `pages`, 6 for `depth` and 7 for `steps`.
+    /// The bytes are a value of JSON, but no script. `place` is the first part that is wrong: 1 for the keys, 2 for
+    /// `calls`, 3 for `host`, 4 for `globals`, 5 for `pages`, 6 for `depth` and 7 for `steps`.
     NotScript { place: u8 },
-    /// An allocation failed.
+    /// Memory ran out.
     NoMemory,
 }
 
@@ -43,10 +43,9 @@ impl From<TextFault> for ScriptFault {
     }
 }
 
-/// The script that these bytes hold. Of a key that is repeated the last value counts.
+/// The script that these bytes are. If a key of an object is repeated, its last value counts.
 ///
-/// Each answer but `NoMemory` says what the bytes are, and these exclude each other, so it is the only one that can
-/// come.
+/// Each answer except `NoMemory` says what the bytes are, and no two of these answers are true of the same bytes.
 pub fn read_script(alloc: Global, bytes: &[u8]) -> Result<Script, ScriptFault>
     ensures ok { IfOk result (λ s. (d : Data) × IsText bytes.now d × (script_form d ≡ Ok s)) }
     ensures in_range { IfOk result IsScriptInRange }
@@ -58,7 +57,7 @@ pub fn read_script(alloc: Global, bytes: &[u8]) -> Result<Script, ScriptFault>
     script_of(alloc, &value)
 }
 
-// The script that a value holds.
+// The script that a value of JSON is.
 fn script_of(alloc: Global, value: &Value) -> Result<Script, ScriptFault>
     ensures { ReadsPart result (script_form (view value.now)) }
 {
@@ -98,7 +97,6 @@ fn has_script_keys(value: &Value) -> bool
     has_only(&keys, value) && value.get("calls").is_some()
 }
 
-// The calls of a script.
 fn calls_of(alloc: Global, value: &Value) -> Result<Seq<Call>, ScriptFault>
     ensures { ReadsPart result (calls_part (view value.now)) }
 {
@@ -138,7 +136,7 @@ fn limit_of(
     }
 }
 
-// The fault of the part of this place.
+// The fault of a script whose part at `place` has this fault.
 fn fault_at(place: u8, fault: FormFault) -> ScriptFault
     ensures { result ≡ fault_at place fault }
 {

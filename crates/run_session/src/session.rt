@@ -1,4 +1,4 @@
-// A run of a module by a script, in turns.
+// A run of a module under a script, within the script's steps.
 
 ghost use Rattle.std.specs.Prelude.{◌≡◌, ◌-◌, ◌≤◌, false, IfOk, MatchOption, OnErr};
 ghost use Rattle.wasm_sem.specs.Execution.{summary, IsScriptInRange};
@@ -19,18 +19,18 @@ use wasm_run::{Machine, Note, Noted, Notes};
 use wasm_sem::{Answer, Script, Stop, Turn};
 use wasm_valid::ValidModule;
 
-/// What came of a run when it stopped.
+/// What came of a run.
 #[derive(Drop)]
 pub struct Outcome {
-    /// The answer of the start function, where the module has one.
+    /// The answer of the start function, if there is one. `Unfinished` if it has not ended.
     pub start: Option<Answer>,
-    /// The answers of the calls that ended, and of the one that ran or would have been entered next, in order.
+    /// The answers of the calls that ended, in order, and then `Unfinished` for the call that runs or is entered next.
     pub calls: Seq<Answer>,
-    /// How many pages the memory has, 0 without one.
+    /// How many pages the memory has; 0 if there is no memory.
     pub pages: u32,
-    /// How many host calls were made, those of hooks left out.
+    /// How many host calls were made. Hook calls are not counted.
     pub hosts: u64,
-    /// Whether the run had not ended.
+    /// Whether the run has not ended.
     pub running: bool,
 }
 
@@ -42,8 +42,11 @@ enum Pending {
     Call,
 }
 
-/// A run of a valid module by a script with which it links, after so many steps, which are at most those of the script.
-/// Contracts see these three. It keeps notes of its entries and its host calls, if it is to. (Standard, 4.2, 4.5)
+/// A run of a valid module under a script with which it links, after some number of steps, at most those of the script.
+/// (Standard, 4.2, 4.5)
+///
+/// Contracts see the module, the script and the number of steps. `Noted` keeps notes of the run's entries and host
+/// calls, `Quiet` keeps none.
 #[derive(Drop)]
 pub struct Session<'m, N: Notes = Noted> {
     machine: Machine<'m, N>,
@@ -69,9 +72,11 @@ impl<'m, N: Notes> Model for Session<'m, N> {
 }
 
 impl<'m, N: Notes> Session<'m, N> {
-    /// The run before its first step. Refusals are looked for in this order, and the first that is found is told: for each
-    /// call that its function is there and then that its arguments fit, the least size of the memory, that of the table,
-    /// and the ranges of the segments. (Standard, 4.5.4)
+    /// The run before its first step. (Standard, 4.5.4)
+    ///
+    /// If there are several reasons for a refusal, the first in this order is the answer: for each call first its
+    /// function and then its arguments, then the least size of the memory, that of the table, and the ranges of the
+    /// segments.
     pub fn link(
         alloc: Global,
         valid: &'m ValidModule,
@@ -89,10 +94,11 @@ impl<'m, N: Notes> Session<'m, N> {
         })
     }
 
-    /// Makes one step, and says what it did: the call of a hook, with its words, or another. `Over` exactly where the run
-    /// has ended, or the script's steps were made; then nothing changes. An `Err` comes only where the start or a call of
-    /// the script is entered, at a call or a `memory.grow`, or where the last frame is left with more than four values, and
-    /// leaves the session as it was. (Standard, 4.4)
+    /// Makes one step, and says what it did: a hook call, with its words, or anything else. `Over` exactly if the run
+    /// has ended or the script's steps were made; then nothing changes. (Standard, 4.4)
+    ///
+    /// `NoMemory`, after which the session is as before, comes only at four steps: an entry of the start or of a call
+    /// of the script, a call, a `memory.grow`, and one that leaves the last frame with more than four values.
     pub fn call(&mut self) -> Result<Turn, NoMemory>
         ensures turn { TakesTurn result self.old self.new }
         ensures within { self.new.made ≤ self.new.script.steps }
@@ -104,9 +110,9 @@ impl<'m, N: Notes> Session<'m, N> {
         self.machine.step()
     }
 
-    /// Makes the steps of the script that are left, or fewer to the end of the run. `OutOfSteps` says that the run goes on
-    /// then. An `Err` comes only where the start or a call of the script is entered, at a call or a `memory.grow`, or where the
-    /// last frame is left with more than four values, and leaves the session before it, behind the steps made so far.
+    /// Makes the steps of the script that are left, or fewer if the run ends before. `OutOfSteps` says that the run
+    /// goes on then. `NoMemory` comes at the steps at which it comes from `call`, and leaves the session before that
+    /// step.
     pub fn run(&mut self) -> Result<Stop, NoMemory>
         ensures ran { RunsFor (self.old.script.steps - self.old.made) result self.old self.new }
         ensures within { self.new.made ≤ self.new.script.steps }
@@ -116,7 +122,7 @@ impl<'m, N: Notes> Session<'m, N> {
         self.machine.run(left)
     }
 
-    /// The table, with no slots where the module has none. The module and the script of a session link.
+    /// The table, which has no slots if the module has no table. The clause `linked` says that module and script link.
     pub fn table(&self) -> &Table
         ensures slots { result.now ≡ slots_in (configuration_of self.now) }
         ensures linked { IsLinked self.now.module self.now.script }
@@ -124,7 +130,7 @@ impl<'m, N: Notes> Session<'m, N> {
         self.machine.table()
     }
 
-    /// The note of the last step, as `Session::note` gives it; none where notes are not kept.
+    /// The note of the last step, as from `Session::note`; `None` if notes are not kept.
     pub fn noted(&self) -> Option<&Note>
         ensures { MatchOption result (N.KEEPS ≡ false) (λ n. IsNoteOf n.now self.now) }
     {
@@ -151,7 +157,7 @@ impl<'m, N: Notes> Session<'m, N> {
         Pending::Call
     }
 
-    /// What has come of the run by now.
+    /// What came of the run so far. `NoMemory` if memory runs out.
     pub fn finish(self) -> Result<Outcome, NoMemory>
         ensures outcome { IfOk result (λ o. told_outcome o ≡ summary (configuration_of self.entry)) }
         ensures within { self.entry.made ≤ self.entry.script.steps }
@@ -165,8 +171,8 @@ impl<'m, N: Notes> Session<'m, N> {
 }
 
 impl Session<'_> {
-    /// What the last step entered, and its host call: the entry and the host call that the trace gained by it. After `run` it is
-    /// of the last of the steps that were made; before the first step there is neither.
+    /// What the last step entered, and its host call: the entry and the host call that the step added to the trace.
+    /// After `run`, those of the last of its steps; before the first step there is neither.
     pub fn note(&self) -> &Note
         ensures { IsNoteOf result.now self.now }
     {
@@ -174,7 +180,7 @@ impl Session<'_> {
     }
 }
 
-// What is told where this has no answer yet.
+// What came of a run in which this has no answer yet.
 fn tell(
     pending: Pending,
     pages: u32,

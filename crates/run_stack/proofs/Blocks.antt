@@ -11,7 +11,7 @@ use Rattle.module_ast.specs.Validation.{block_type}
 use Rattle.wasm_sem.specs.Execution.{Instance, Cont, behind, again, Label, Frame, Env, Next, at_zero, pop_values, arity_of, enter_popped_block, enter_block, frame_past, reduce_code}
 use Rattle.run_stack.specs.Flat.{Flat, opened}
 use Rattle.run_stack.specs.Kept.{ops_of, again_in, all_values, under, low_of, Lies}
-use Rattle.run_stack.specs.Comes.{IsUnstuck, Comes, HasLabelRoom, IsMoving, next_of}
+use Rattle.run_stack.specs.Comes.{IsUnstuck, LiesNext, HasLabelRoom, IsMoving, next_of}
 use Rattle.run_stack.proofs.Controls.{itself, on_top, takes}
 use Rattle.run_stack.proofs.Popped.{parts}
 use Rattle.run_stack.proofs.Lying.{with_values}
@@ -101,12 +101,12 @@ module _ (s : Flat) (place : Tree) (inst : Instance) (e : Env) (fr : Frame) (bel
           ((b.type, ap (λ ts. block_type ts ty) (sym same) ∙ b.at, omega (arith, size b)), omega (arith, spots, deep))
 
       begin_comes : (u : Flat) (loop : Option Tree) → ((left : List Value) → loop ≡ again_in cont (record fr.top { ops = left; at = j; rest = fr.top.rest } ∷ fr.outer)) → IsUnstuck the_next
-          → ((f : FuncType) → block_type types ty ≡ Some f → u ≡ opened body loop (length f.params) (arity_of cont f) t) → Comes inst e the_next u
+          → ((f : FuncType) → block_type types ty ≡ Some f → u ≡ opened body loop (length f.params) (arity_of cont f) t) → LiesNext inst e the_next u
       begin_comes u loop again_is r h =
           let b = begins r in
           let u_is = h b.type (ap (λ ts. block_type ts ty) (sym same) ∙ b.at) ∙ ap (opened body loop (length b.type.params) (arity_of cont b.type)) is in
           let high : length (o ++ under fr below) - length b.type.params ≡ length (ops_of (around b)) + low_of fr below = omega (arith, size b) in
-          subst (λ n. Comes inst e n u) (sym (next_is b)) (
+          subst (λ n. LiesNext inst e n u) (sym (next_is b)) (
             refl,
             record {
               values = ap (λ (u : Flat). u.values) u_is ∙ ap (λ o. o ++ under fr below) (whole b) ∙ append_assoc (reverse b.taken) b.left (under fr below)
@@ -134,7 +134,7 @@ module _ (s : Flat) (place : Tree) (inst : Instance) (e : Env) (fr : Frame) (bel
       let sc = block_scope fr.top.at body in
       begin_can sc behind (fr.top.at + 1) (sc.end + 1) body ty fr.top.ops s m.lies (itself s place inst e fr below m.lies) (m.ready, m.room)
 
-  pub block_comes : (ty : BlockType) (body : Tree) → Moving (instrs.Block ty body) → (u : Flat) → HasOpened ty body s u → Comes inst e (next_of inst e fr below (instrs.Block ty body)) u
+  pub block_comes : (ty : BlockType) (body : Tree) → Moving (instrs.Block ty body) → (u : Flat) → HasOpened ty body s u → LiesNext inst e (next_of inst e fr below (instrs.Block ty body)) u
   block_comes ty body m u h =
       let sc = block_scope fr.top.at body in
       begin_comes sc behind (fr.top.at + 1) (sc.end + 1) body ty fr.top.ops s m.lies (itself s place inst e fr below m.lies) u None (λ left. refl) m.ready h
@@ -145,7 +145,7 @@ module _ (s : Flat) (place : Tree) (inst : Instance) (e : Env) (fr : Frame) (bel
       begin_can sc (again ty body) (fr.top.at + 1) (sc.end + 1) body ty fr.top.ops s m.lies (itself s place inst e fr below m.lies) (m.ready, m.room)
 
   pub loop_comes : (ty : BlockType) (body : Tree) → Moving (instrs.Loop ty body) → (u : Flat) → ((f : FuncType) → block_type types ty ≡ Some f → u ≡ opened body (Some place) (length f.params) (length f.params) s)
-      → Comes inst e (next_of inst e fr below (instrs.Loop ty body)) u
+      → LiesNext inst e (next_of inst e fr below (instrs.Loop ty body)) u
   loop_comes ty body m u h =
       let sc = loop_scope fr.top.at body in
       begin_comes sc (again ty body) (fr.top.at + 1) (sc.end + 1) body ty fr.top.ops s m.lies (itself s place inst e fr below m.lies) u (Some place) (λ left. ap Some m.place_is) m.ready h
@@ -172,16 +172,16 @@ module _ (s : Flat) (place : Tree) (inst : Instance) (e : Env) (fr : Frame) (bel
         let sc = if_scope fr.top.at body in
         begin_can sc behind (fr.top.at + 1) (sc.end + 1) body ty o t m.lies left (subst Ready (at_some n _ _ (λ z. some (is ∙ z))) r)) m
 
-    pub if_comes : (ty : BlockType) (body : Tree) → x ≢ 0 → Moving (instrs.If ty body) → (u : Flat) → HasOpened ty body t u → Comes inst e (next_of inst e fr below (instrs.If ty body)) u
-    if_comes ty body some m u g = on_some (instrs.If ty body) (λ r. r.0) (λ n o r. r.0) (λ o. Comes inst e (code_next (instrs.If ty body) o) u) (λ n o left is r.
+    pub if_comes : (ty : BlockType) (body : Tree) → x ≢ 0 → Moving (instrs.If ty body) → (u : Flat) → HasOpened ty body t u → LiesNext inst e (next_of inst e fr below (instrs.If ty body)) u
+    if_comes ty body some m u g = on_some (instrs.If ty body) (λ r. r.0) (λ n o r. r.0) (λ o. LiesNext inst e (code_next (instrs.If ty body) o) u) (λ n o left is r.
         let sc = if_scope fr.top.at body in
         let e1 = at_some n _ _ (λ z. some (is ∙ z)) in
-        subst (λ c. Comes inst e c u) (sym e1) (begin_comes sc behind (fr.top.at + 1) (sc.end + 1) body ty o t m.lies left u None (λ left. refl) (subst Ready e1 r).0 g)) m
+        subst (λ c. LiesNext inst e c u) (sym e1) (begin_comes sc behind (fr.top.at + 1) (sc.end + 1) body ty o t m.lies left u None (λ left. refl) (subst Ready e1 r).0 g)) m
 
-    pub past_comes : (ty : BlockType) (body : Tree) → x ≡ 0 → Moving (instrs.If ty body) → Comes inst e (next_of inst e fr below (instrs.If ty body)) t
-    past_comes ty body none m = on_some (instrs.If ty body) (λ r. r.0) (λ n o r. r.0) (λ o. Comes inst e (code_next (instrs.If ty body) o) t) (λ n o left is r.
+    pub past_comes : (ty : BlockType) (body : Tree) → x ≡ 0 → Moving (instrs.If ty body) → LiesNext inst e (next_of inst e fr below (instrs.If ty body)) t
+    past_comes ty body none m = on_some (instrs.If ty body) (λ r. r.0) (λ n o r. r.0) (λ o. LiesNext inst e (code_next (instrs.If ty body) o) t) (λ n o left is r.
         let sc = if_scope fr.top.at body in
-        subst (λ n. Comes inst e (code_next (instrs.If ty body) (I32 n ∷ o)) t) (sym none ∙ is) (refl, past t o sc.end m.lies left)) m
+        subst (λ n. LiesNext inst e (code_next (instrs.If ty body) (I32 n ∷ o)) t) (sym none ∙ is) (refl, past t o sc.end m.lies left)) m
 
     pub then_can : (ty : BlockType) (body other : Tree) → x ≢ 0 → Moving (instrs.IfElse ty body other) → CanEnter ty t
     then_can ty body other some m = on_some (instrs.IfElse ty body other) (λ r. r.0) (λ n o r. r.0) (λ o. CanEnter ty t) (λ n o left is r.
@@ -189,12 +189,12 @@ module _ (s : Flat) (place : Tree) (inst : Instance) (e : Env) (fr : Frame) (bel
         let b = else_scope fr.top.at body other in
         begin_can a behind (fr.top.at + 1) (b.end + 1) body ty o t m.lies left (subst Ready (at_some n _ _ (λ z. some (is ∙ z))) r)) m
 
-    pub then_comes : (ty : BlockType) (body other : Tree) → x ≢ 0 → Moving (instrs.IfElse ty body other) → (u : Flat) → HasOpened ty body t u → Comes inst e (next_of inst e fr below (instrs.IfElse ty body other)) u
-    then_comes ty body other some m u g = on_some (instrs.IfElse ty body other) (λ r. r.0) (λ n o r. r.0) (λ o. Comes inst e (code_next (instrs.IfElse ty body other) o) u) (λ n o left is r.
+    pub then_comes : (ty : BlockType) (body other : Tree) → x ≢ 0 → Moving (instrs.IfElse ty body other) → (u : Flat) → HasOpened ty body t u → LiesNext inst e (next_of inst e fr below (instrs.IfElse ty body other)) u
+    then_comes ty body other some m u g = on_some (instrs.IfElse ty body other) (λ r. r.0) (λ n o r. r.0) (λ o. LiesNext inst e (code_next (instrs.IfElse ty body other) o) u) (λ n o left is r.
         let a = then_scope fr.top.at body other in
         let b = else_scope fr.top.at body other in
         let e1 = at_some n _ _ (λ z. some (is ∙ z)) in
-        subst (λ c. Comes inst e c u) (sym e1) (begin_comes a behind (fr.top.at + 1) (b.end + 1) body ty o t m.lies left u None (λ left. refl) (subst Ready e1 r).0 g)) m
+        subst (λ c. LiesNext inst e c u) (sym e1) (begin_comes a behind (fr.top.at + 1) (b.end + 1) body ty o t m.lies left u None (λ left. refl) (subst Ready e1 r).0 g)) m
 
     pub else_can : (ty : BlockType) (body other : Tree) → x ≡ 0 → Moving (instrs.IfElse ty body other) → CanEnter ty t
     else_can ty body other none m = on_some (instrs.IfElse ty body other) (λ r. r.0) (λ n o r. r.0) (λ o. CanEnter ty t) (λ n o left is r.
@@ -202,10 +202,10 @@ module _ (s : Flat) (place : Tree) (inst : Instance) (e : Env) (fr : Frame) (bel
         let b = else_scope fr.top.at body other in
         begin_can b behind (a.end + 1) (b.end + 1) other ty o t m.lies left (subst (λ n. Ready (code_next (instrs.IfElse ty body other) (I32 n ∷ o))) (sym is ∙ none) r)) m
 
-    pub else_comes : (ty : BlockType) (body other : Tree) → x ≡ 0 → Moving (instrs.IfElse ty body other) → (u : Flat) → HasOpened ty other t u → Comes inst e (next_of inst e fr below (instrs.IfElse ty body other)) u
-    else_comes ty body other none m u g = on_some (instrs.IfElse ty body other) (λ r. r.0) (λ n o r. r.0) (λ o. Comes inst e (code_next (instrs.IfElse ty body other) o) u) (λ n o left is r.
+    pub else_comes : (ty : BlockType) (body other : Tree) → x ≡ 0 → Moving (instrs.IfElse ty body other) → (u : Flat) → HasOpened ty other t u → LiesNext inst e (next_of inst e fr below (instrs.IfElse ty body other)) u
+    else_comes ty body other none m u g = on_some (instrs.IfElse ty body other) (λ r. r.0) (λ n o r. r.0) (λ o. LiesNext inst e (code_next (instrs.IfElse ty body other) o) u) (λ n o left is r.
         let a = then_scope fr.top.at body other in
         let b = else_scope fr.top.at body other in
         let zero_is = sym is ∙ none in
-        subst (λ n. Comes inst e (code_next (instrs.IfElse ty body other) (I32 n ∷ o)) u) (sym zero_is)
+        subst (λ n. LiesNext inst e (code_next (instrs.IfElse ty body other) (I32 n ∷ o)) u) (sym zero_is)
         (begin_comes b behind (a.end + 1) (b.end + 1) other ty o t m.lies left u None (λ left. refl) (subst (λ n. Ready (code_next (instrs.IfElse ty body other) (I32 n ∷ o))) zero_is r).0 g)) m

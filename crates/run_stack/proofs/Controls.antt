@@ -6,9 +6,9 @@ use Rattle.wasm_num.specs.declared.Value.TheVariants.{I32, I64}
 use Rattle.module_ast.specs.declared.code.Instr.TheVariants as instrs
 use Rattle.module_ast.specs.Structure.{Tree, Plain, br_if, br_table}
 use Rattle.wasm_sem.specs.Execution.{Instance, Label, Frame, Env, Next, branch, exit_label, reduce_plain, frame_behind}
-use Rattle.run_stack.specs.Flat.{Flat, first_base, CanBranch, Branches}
+use Rattle.run_stack.specs.Flat.{Flat, first_base, CanBranch, BranchesOut}
 use Rattle.run_stack.specs.Kept.{under, low_of, spots_of, all_spots, Lies}
-use Rattle.run_stack.specs.Comes.{IsUnstuck, Comes, IsMoving, next_of}
+use Rattle.run_stack.specs.Comes.{IsUnstuck, LiesNext, IsMoving, next_of}
 use Rattle.run_stack.proofs.Lying.{with_values, labels_are}
 use Rattle.run_stack.proofs.Straights.{pushed, popped, popped_is}
 use Rattle.run_stack.proofs.Jumps.{IsAtLabel, land_comes, can_jump, jump_comes}
@@ -37,13 +37,13 @@ module _ (s : Flat) (place : Tree) (inst : Instance) (e : Env) (fr : Frame) (bel
   can : (t : Flat) (o : List Value) (n : ℕ) → Lies s (fr ∷ below) → t ≡ with_values s (o ++ under fr below) → IsUnstuck (jumps o n) → CanBranch n t
   can t o n lies h r = subst (λ k. CanBranch k t) (from_zero n) (can_jump t inst e here below o n [] [] here.top here.outer (starts t o lies h) r)
 
-  comes : (t u : Flat) (o : List Value) (n : ℕ) → Lies s (fr ∷ below) → t ≡ with_values s (o ++ under fr below) → IsUnstuck (jumps o n) → Branches n t u → Comes inst e (jumps o n) u
-  comes t u o n lies h r b = jump_comes t inst e here below o n [] [] here.top here.outer (starts t o lies h) u r (subst (λ k. Branches k t u) (sym (from_zero n)) b)
+  comes : (t u : Flat) (o : List Value) (n : ℕ) → Lies s (fr ∷ below) → t ≡ with_values s (o ++ under fr below) → IsUnstuck (jumps o n) → BranchesOut n t u → LiesNext inst e (jumps o n) u
+  comes t u o n lies h r b = jump_comes t inst e here below o n [] [] here.top here.outer (starts t o lies h) u r (subst (λ k. BranchesOut k t u) (sym (from_zero n)) b)
 
   pub br_can : (n : ℕ) → Moving (instrs.Br n) → CanBranch n s
   br_can n m = can s fr.top.ops n m.lies (itself m.lies) m.ready
 
-  pub br_comes : (n : ℕ) → Moving (instrs.Br n) → (u : Flat) → Branches n s u → Comes inst e (next_of inst e fr below (instrs.Br n)) u
+  pub br_comes : (n : ℕ) → Moving (instrs.Br n) → (u : Flat) → BranchesOut n s u → LiesNext inst e (next_of inst e fr below (instrs.Br n)) u
   br_comes n m u b = comes s u fr.top.ops n m.lies (itself m.lies) m.ready b
 
   -- return
@@ -61,8 +61,8 @@ module _ (s : Flat) (place : Tree) (inst : Instance) (e : Env) (fr : Frame) (bel
   pub return_can : (n : ℕ) → n ≡ length s.spots - (first_base s.bases).labels → Moving instrs.Return → CanBranch (n - 1) s
   return_can n h m = subst (λ k. CanBranch k s) (sym (outermost n m.lies h)) (can s fr.top.ops (length here.outer) m.lies (itself m.lies) m.ready)
 
-  pub return_comes : (n : ℕ) → n ≡ length s.spots - (first_base s.bases).labels → Moving instrs.Return → (u : Flat) → Branches (n - 1) s u → Comes inst e (next_of inst e fr below instrs.Return) u
-  return_comes n h m u b = comes s u fr.top.ops (length here.outer) m.lies (itself m.lies) m.ready (subst (λ k. Branches k s u) (outermost n m.lies h) b)
+  pub return_comes : (n : ℕ) → n ≡ length s.spots - (first_base s.bases).labels → Moving instrs.Return → (u : Flat) → BranchesOut (n - 1) s u → LiesNext inst e (next_of inst e fr below instrs.Return) u
+  return_comes n h m u b = comes s u fr.top.ops (length here.outer) m.lies (itself m.lies) m.ready (subst (λ k. BranchesOut k s u) (outermost n m.lies h) b)
 
   -- ---- with an operand
 
@@ -106,21 +106,21 @@ module _ (s : Flat) (place : Tree) (inst : Instance) (e : Env) (fr : Frame) (bel
   br_if_can n x t some h m = on_number (br_if n) (λ r. r) (λ k o r. r) (λ o. CanBranch n t) (λ k o q r.
       let z = takes x t k o m.lies h q in can t o n m.lies z.left (subst IsUnstuck (taken_if n x k o z.is some) r)) m.ready
 
-  pub br_if_comes : (n x : ℕ) (t u : Flat) → x ≢ 0 → s ≡ pushed (I32 x) t → Moving (instrs.BrIf n) → Branches n t u → Comes inst e (next_of inst e fr below (instrs.BrIf n)) u
-  br_if_comes n x t u some h m b = on_number (br_if n) (λ r. r) (λ k o r. r) (λ o. Comes inst e (plain_next (br_if n) o) u) (λ k o q r.
+  pub br_if_comes : (n x : ℕ) (t u : Flat) → x ≢ 0 → s ≡ pushed (I32 x) t → Moving (instrs.BrIf n) → BranchesOut n t u → LiesNext inst e (next_of inst e fr below (instrs.BrIf n)) u
+  br_if_comes n x t u some h m b = on_number (br_if n) (λ r. r) (λ k o r. r) (λ o. LiesNext inst e (plain_next (br_if n) o) u) (λ k o q r.
       let z = takes x t k o m.lies h q in
       let is = taken_if n x k o z.is some in
-      subst (λ c. Comes inst e c u) (sym is) (comes t u o n m.lies z.left (subst IsUnstuck is r) b)) m.ready
+      subst (λ c. LiesNext inst e c u) (sym is) (comes t u o n m.lies z.left (subst IsUnstuck is r) b)) m.ready
 
   -- br_table
   pub br_table_can : (ns : List ℕ) (n x : ℕ) (t : Flat) → s ≡ pushed (I32 x) t → Moving (instrs.BrTable ns n) → CanBranch (slice_index_or ns x n) t
   br_table_can ns n x t h m = on_number (br_table ns n) (λ r. r) (λ k o r. r) (λ o. CanBranch (slice_index_or ns x n) t) (λ k o q r.
       let z = takes x t k o m.lies h q in can t o (slice_index_or ns x n) m.lies z.left (subst (λ k. IsUnstuck (jumps o (slice_index_or ns k n))) (sym z.is) r)) m.ready
 
-  pub br_table_comes : (ns : List ℕ) (n x : ℕ) (t u : Flat) → s ≡ pushed (I32 x) t → Moving (instrs.BrTable ns n) → Branches (slice_index_or ns x n) t u → Comes inst e (next_of inst e fr below (instrs.BrTable ns n)) u
-  br_table_comes ns n x t u h m b = on_number (br_table ns n) (λ r. r) (λ k o r. r) (λ o. Comes inst e (plain_next (br_table ns n) o) u) (λ k o q r.
+  pub br_table_comes : (ns : List ℕ) (n x : ℕ) (t u : Flat) → s ≡ pushed (I32 x) t → Moving (instrs.BrTable ns n) → BranchesOut (slice_index_or ns x n) t u → LiesNext inst e (next_of inst e fr below (instrs.BrTable ns n)) u
+  br_table_comes ns n x t u h m b = on_number (br_table ns n) (λ r. r) (λ k o r. r) (λ o. LiesNext inst e (plain_next (br_table ns n) o) u) (λ k o q r.
       let z = takes x t k o m.lies h q in
-      comes t u o (slice_index_or ns k n) m.lies z.left r (subst (λ k. Branches (slice_index_or ns k n) t u) z.is b)) m.ready
+      comes t u o (slice_index_or ns k n) m.lies z.left r (subst (λ k. BranchesOut (slice_index_or ns k n) t u) z.is b)) m.ready
 
 -- ---- the end of a sequence
 
@@ -142,9 +142,9 @@ module _ (s : Flat) (inst : Instance) (e : Env) (fr : Frame) (below : List Frame
       go [] k r = subst (λ n. CanBranch n s) (from_zero s fr.top.rest inst e fr below 0) (can_jump s inst e fr below fr.top.ops 0 [] [] fr.top [] (subst (IsAtLabel s inst e fr below fr.top.ops [] [] fr.top) k start) r)
       go (l ∷ ls) k r = absurd (omega (arith, h, own_are, ap length k))
 
-  pub end_comes : own_labels ≡ 1 → (u : Flat) → IsUnstuck (exit_label inst e fr below fr.outer) → Branches 0 s u → Comes inst e (exit_label inst e fr below fr.outer) u
+  pub end_comes : own_labels ≡ 1 → (u : Flat) → IsUnstuck (exit_label inst e fr below fr.outer) → BranchesOut 0 s u → LiesNext inst e (exit_label inst e fr below fr.outer) u
   end_comes h u r b = go fr.outer refl r
     where
-      go : (outer : List Label) → fr.outer ≡ outer → IsUnstuck (exit_label inst e fr below outer) → Comes inst e (exit_label inst e fr below outer) u
+      go : (outer : List Label) → fr.outer ≡ outer → IsUnstuck (exit_label inst e fr below outer) → LiesNext inst e (exit_label inst e fr below outer) u
       go [] k r = land_comes s inst e fr below fr.top.ops [] [] fr.top [] (subst (IsAtLabel s inst e fr below fr.top.ops [] [] fr.top) k start) u r b
       go (l ∷ ls) k r = absurd (omega (arith, h, own_are, ap length k))

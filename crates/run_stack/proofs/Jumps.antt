@@ -6,9 +6,9 @@ use Rattle.std.proofs.lemmas.Option.{same_Some}
 use Rattle.wasm_sem.specs.Types.{Value}
 use Rattle.module_ast.specs.Validation.{push}
 use Rattle.wasm_sem.specs.Execution.{Instance, Cont, behind, again, Label, Frame, Env, pop_values, branch_with, branch, resumed_label, return_to}
-use Rattle.run_stack.specs.Flat.{Spot, Flat, kept, resumed, landed, returned, first_base, other_bases, CanBranch, Branches}
+use Rattle.run_stack.specs.Flat.{Spot, Flat, kept, resumed, landed, returned, first_base, other_bases, CanBranch, BranchesOut}
 use Rattle.run_stack.specs.Kept.{ops_of, again_in, spot_in, spots_of, all_values, under, low_of, all_spots, frame_base, all_bases, Lies}
-use Rattle.run_stack.specs.Comes.{IsUnstuck, Comes}
+use Rattle.run_stack.specs.Comes.{IsUnstuck, LiesNext}
 use Rattle.run_stack.proofs.Popped.{popped_top}
 
 abbrev Popped : Type 0
@@ -113,7 +113,7 @@ module _ (s : Flat) (inst : Instance) (e : Env) (fr : Frame) (below : List Frame
     inner : length s.spots ≢ (first_base s.bases).labels + length passed + 1
     inner h = omega (arith, h, count_spots inside passed t (l ∷ ls) at, own_labels inside passed t (l ∷ ls) at)
 
-    pub lands_inside : (u : Flat) → Branches (length passed) s u → Lies u (record fr { top = resumed_label t.cont t.scope taken l; outer = ls } ∷ below)
+    pub lands_inside : (u : Flat) → BranchesOut (length passed) s u → Lies u (record fr { top = resumed_label t.cont t.scope taken l; outer = ls } ∷ below)
     lands_inside u b =
         let same : b.spot ≡ spot_in (low_of fr below) t (l ∷ ls) = same_Some b.spot (spot_in (low_of fr below) t (l ∷ ls)) (sym b.at ∙ spot_is inside passed t (l ∷ ls) at) in
         let is = b.stays inner ∙ ap (λ t. landed t (drop (length passed + 1) s.spots) s) same in
@@ -141,7 +141,7 @@ module _ (s : Flat) (inst : Instance) (e : Env) (fr : Frame) (below : List Frame
       pub spots : u.spots ≡ all_spots below
       pub bases : u.bases ≡ all_bases below
 
-    pub returns_out : (u : Flat) → Branches (length passed) s u → IsReturned u
+    pub returns_out : (u : Flat) → BranchesOut (length passed) s u → IsReturned u
     returns_out u b =
         let same : b.spot ≡ spot_in (low_of fr below) t [] = same_Some b.spot (spot_in (low_of fr below) t []) (sym b.at ∙ spot_is inside passed t [] at) in
         let is = b.leaves outermost ∙ ap (λ (t : Spot). returned t.arity s) same in
@@ -150,16 +150,16 @@ module _ (s : Flat) (inst : Instance) (e : Env) (fr : Frame) (below : List Frame
   -- ---- the values returned go to the caller, or to the script
 
   pub returns_to : (below : List Frame) (vs : List Value) (u : Flat) → u.values ≡ push vs (all_values below) → u.spots ≡ all_spots below → u.bases ≡ all_bases below
-      → ((xs ys : List Value) → push vs (xs ++ ys) ≡ push vs xs ++ ys) → Comes inst e (return_to inst e below vs) u
+      → ((xs ys : List Value) → push vs (xs ++ ys) ≡ push vs xs ++ ys) → LiesNext inst e (return_to inst e below vs) u
   returns_to [] vs u v l b more = (vs, refl, record { values = v; spots = l; bases = b })
   returns_to (fr ∷ below) vs u v l b more = (refl, record { values = v ∙ more fr.top.ops (under fr below); spots = l; bases = b })
 
   -- a branch to a label that is there
-  pub land_comes : (inside : List Value) (passed : List Spot) (t : Label) (outer : List Label) → IsAtLabel inside passed t outer → (u : Flat) → IsUnstuck (branch_with inst e fr below t outer (pop_values t.arity o [])) → Branches (length passed) s u
-      → Comes inst e (branch_with inst e fr below t outer (pop_values t.arity o [])) u
+  pub land_comes : (inside : List Value) (passed : List Spot) (t : Label) (outer : List Label) → IsAtLabel inside passed t outer → (u : Flat) → IsUnstuck (branch_with inst e fr below t outer (pop_values t.arity o [])) → BranchesOut (length passed) s u
+      → LiesNext inst e (branch_with inst e fr below t outer (pop_values t.arity o [])) u
   land_comes inside passed t outer at u ready b = go outer at (pop_values t.arity o []) refl ready
     where
-      go : (outer : List Label) → IsAtLabel inside passed t outer → (p : Popped) → pop_values t.arity o [] ≡ p → IsUnstuck (branch_with inst e fr below t outer p) → Comes inst e (branch_with inst e fr below t outer p) u
+      go : (outer : List Label) → IsAtLabel inside passed t outer → (p : Popped) → pop_values t.arity o [] ≡ p → IsUnstuck (branch_with inst e fr below t outer p) → LiesNext inst e (branch_with inst e fr below t outer p) u
       go outer at None k r = absurd r
       go [] at (Some (taken, rest)) k r =
           let top = popped_top t.arity o [] taken rest k in
@@ -195,10 +195,10 @@ module _ (s : Flat) (inst : Instance) (e : Env) (fr : Frame) (below : List Frame
       (can_jump n (inside ++ l.ops) (passed ++ spot_in (low_of fr below) t (l ∷ ls) ∷ []) l ls (further inside passed t l ls at) ready)
 
   -- and comes to what it comes to
-  pub jump_comes : (n : ℕ) (inside : List Value) (passed : List Spot) (t : Label) (outer : List Label) → IsAtLabel inside passed t outer → (u : Flat) → IsUnstuck (branch inst e fr below o n t outer) → Branches (length passed + n) s u
-      → Comes inst e (branch inst e fr below o n t outer) u
-  jump_comes zero inside passed t outer at u ready b = let k : length passed + 0 ≡ length passed = omega arith in land_comes inside passed t outer at u ready (subst (λ n. Branches n s u) k b)
+  pub jump_comes : (n : ℕ) (inside : List Value) (passed : List Spot) (t : Label) (outer : List Label) → IsAtLabel inside passed t outer → (u : Flat) → IsUnstuck (branch inst e fr below o n t outer) → BranchesOut (length passed + n) s u
+      → LiesNext inst e (branch inst e fr below o n t outer) u
+  jump_comes zero inside passed t outer at u ready b = let k : length passed + 0 ≡ length passed = omega arith in land_comes inside passed t outer at u ready (subst (λ n. BranchesOut n s u) k b)
   jump_comes (suc n) inside passed t [] at u ready b = absurd ready
   jump_comes (suc n) inside passed t (l ∷ ls) at u ready b =
       let x = spot_in (low_of fr below) t (l ∷ ls) in
-      jump_comes n (inside ++ l.ops) (passed ++ x ∷ []) l ls (further inside passed t l ls at) u ready (subst (λ n. Branches n s u) (sym (count passed x n)) b)
+      jump_comes n (inside ++ l.ops) (passed ++ x ∷ []) l ls (further inside passed t l ls at) u ready (subst (λ n. BranchesOut n s u) (sym (count passed x n)) b)

@@ -5,7 +5,7 @@ use Rattle.std.proofs.lemmas.List.{reverse-append, reverse-reverse, length-rever
 use Rattle.std.proofs.lemmas.Option.{slice_get_read, slice_get-get_or}
 use Rattle.wasm_sem.specs.Types.{Value}
 use Rattle.module_ast.specs.Structure.{Tree, done}
-use Rattle.run_stack.specs.Flat.{Spot, Base, Flat, kept, returned, resumed, landed, moved_spots, other_spots, lowest_arity, first_base, closed, from_below, local_place, HasMoreRoom, framed, opened, Enters}
+use Rattle.run_stack.specs.Flat.{Spot, Base, Flat, kept, returned, resumed, landed, moved_spots, other_spots, lowest_arity, first_base, closed, from_below, local_place, HasMoreRoom, framed, opened, PutsFrame}
 use Rattle.ctrl_stack.proofs.Lists.{reverse-last, reverse-take, reverse-set}
 
 abbrev pub flat : List Value → List Spot → List Base → (a b c : ℕ) → Flat
@@ -134,7 +134,7 @@ drop_view xs ys ss bs a b c d n count f size view within e g =
 module _ (f a b d u : Flat) (params locals arity height nesting : ℕ) (zs : List Value) (k : Tree) where
   pub entered : HasMoreRoom f a → length f.values + (locals + height) ≤ a.value_room → length f.spots + (nesting + 1) ≤ a.spot_room → b ≡ framed params a
       → d.values ≡ reverse zs ++ b.values → d.spots ≡ b.spots → d.bases ≡ b.bases → b.value_room ≤ d.value_room → d.spot_room ≡ b.spot_room → u ≡ opened k None 0 arity d → length zs ≡ locals
-      → Enters params zs k arity height nesting f u
+      → PutsFrame params zs k arity height nesting f u
   entered more values spots framed_is v l m x y open_is size =
       let vs : d.values ≡ reverse zs ++ f.values = v ∙ ap (λ (b : Flat). reverse zs ++ b.values) framed_is ∙ ap (λ vs. reverse zs ++ vs) more.values in
       let ss : d.spots ≡ f.spots = l ∙ ap (λ (b : Flat). b.spots) framed_is ∙ more.spots in

@@ -16,7 +16,7 @@ use Rattle.wasm_num.specs.Numbers.{Num, gives, fails, ill_typed, unary, binary}
 use Rattle.module_ast.specs.Memory.{with_bytes, load_value, store_bytes, grown_memory}
 use Rattle.run_stack.specs.Kept.{ops_of, under, all_values, Lies}
 use Rattle.run_stack.specs.Straight.{Moment, reduct_of, reduct_at, IsFound, HasValueRoom, IsMomentBefore, IsMomentBehind, IsSimple}
-use Rattle.run_stack.specs.Comes.{IsUnstuck, HasLabelRoom, Comes, IsMoving, IsControl, next_of}
+use Rattle.run_stack.specs.Comes.{IsUnstuck, HasLabelRoom, LiesNext, IsMoving, IsControl, next_of}
 use Rattle.run_stack.proofs.Lying.{lies_moved}
 use Rattle.run_stack.specs.Standing.{HasRoomFor, HasStepRoom, IsStanding, KeepsStore, Went, Trapped}
 
@@ -235,13 +235,13 @@ module _ (s : Flat) (memory : Held) (globals : List Value) (inst : Instance) (e 
       room = subst (HasLabelRoom s.spot_room) next_is (labels the_step s.spot_room (control_room i kind (subst (λ t. HasStepRoom s.value_room s.spot_room t the_step) at standing.room)));
     })
 
-    pub control_went : (u : Flat) → Comes inst e (next_of inst e (moved k) below i) u → Went inst e the_step u memory globals
+    pub control_went : (u : Flat) → LiesNext inst e (next_of inst e (moved k) below i) u → Went inst e the_step u memory globals
     control_went u h = subst (λ n. Went inst e n u memory globals) (sym next_is) (go (next_of inst e (moved k) below i) h)
       where
         kept : (f : Env) → f ≡ e → KeepsStore inst f.store memory globals
         kept f q = subst (λ f. KeepsStore inst f.store memory globals) (sym q) (record { memory_is = standing.memory_is; globals_are = standing.globals_are })
 
-        go : (n : Next) → Comes inst e n u → Went inst e n u memory globals
+        go : (n : Next) → LiesNext inst e n u → Went inst e n u memory globals
         go (reduces (configuration f [])) (vs, q, ended) = (vs, q, ended, record { memory_is = standing.memory_is; globals_are = standing.globals_are })
         go (reduces (configuration f (fr ∷ below))) (q, lies) = (lies, kept f q)
         go n h = absurd h

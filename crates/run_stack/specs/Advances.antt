@@ -12,24 +12,24 @@ use Rattle.run_stack.specs.Standing.{IsStanding, Went, Trapped, IsCall}
 use Rattle.run_stack.specs.declared.steps.Did.{Did}
 use Rattle.run_stack.specs.declared.steps.Did.TheVariants as dids
 
--- the innermost frame goes on with this code
+-- the innermost frame is before this code
 pub record IsAtPlace (s : Flat) (memory : Held) (globals : List Value) (place : Tree) (inst : Instance) (e : Env) (fr : Frame) (below : List Frame) : Type 0 where
   pub standing : IsStanding s memory globals inst e fr below
   pub at : fr.top.rest ≡ place
 
--- at a call
+-- the frame is before a call
 pub record IsAtCall (fr : Frame) : Type 0 where
   pub instr : Instr
   pub rest : Tree
   pub at : fr.top.rest ≡ before instr rest
   pub call : IsCall instr
 
--- at a `memory.grow`
+-- the frame is before a `memory.grow`
 pub record IsAtGrow (fr : Frame) : Type 0 where
   pub rest : Tree
   pub at : fr.top.rest ≡ before instrs.MemoryGrow rest
 
--- all is as it was
+-- everything is as before
 pub record IsSame (s : Flat) (memory : Held) (globals : List Value) (t : Flat) (m : Held) (g : List Value) : Type 0 where
   pub stack : t ≡ s
   pub memory_is : m ≡ memory
@@ -41,7 +41,7 @@ Advances inst e fr below (Ok (dids.Trapped u)) s memory globals t m g = Trapped 
 Advances inst e fr below (Ok dids.Calls) s memory globals t m g = IsAtCall fr × IsSame s memory globals t m g
 Advances inst e fr below (Err u) s memory globals t m g = IsAtGrow fr × IsSame s memory globals t m g
 
--- where it went on, before this code, that is no call
+-- if a step was made from this code, the code does not begin with a call
 abbrev pub GoesAtNoCall : Result Did AllocError → Tree → Type 0
 GoesAtNoCall (Ok dids.Went) k = NextIsNoCall k
 GoesAtNoCall _ k = Unit {0}

@@ -1,4 +1,4 @@
--- What the machine keeps of a configuration: its frames lie in one list of values and one of labels.
+-- A configuration as the machine keeps it: its frames are in one list of values and one of labels.
 use Rattle.std.specs.Prelude.{◌≡◌, ℕ, ◌+◌, List, [], ◌∷◌, ◌++◌, length, reverse, Option, None, Some}
 use Rattle.wasm_sem.specs.Types.{Value}
 use Rattle.module_ast.specs.Structure.{Tree, loop}
@@ -16,7 +16,7 @@ again_in behind ls = None
 again_in (again ty body) [] = None
 again_in (again ty body) (l ∷ ls) = Some (loop ty body l.rest)
 
--- a label inside these, with so many values below them all
+-- a label inside others, with `low` values below them all
 abbrev pub spot_in : (low : ℕ) → Label → List Label → Spot
 spot_in low l ls = record { rest = l.rest; again = again_in l.cont ls; height = length (ops_of ls) + low; arity = l.arity }
 
@@ -29,11 +29,11 @@ abbrev pub all_values : List Frame → List Value
 all_values [] = []
 all_values (fr ∷ below) = fr.top.ops ++ (ops_of fr.outer ++ (reverse fr.locals ++ all_values below))
 
--- those below the operands of the innermost label
+-- the values below the operands of the innermost label
 abbrev pub under : Frame → List Frame → List Value
 under fr below = ops_of fr.outer ++ (reverse fr.locals ++ all_values below)
 
--- how many values stand below the operands of a frame
+-- how many values are below the operands of a frame
 abbrev pub low_of : Frame → List Frame → ℕ
 low_of fr below = length fr.locals + length (all_values below)
 
@@ -48,7 +48,7 @@ abbrev pub all_bases : List Frame → List Base
 all_bases [] = []
 all_bases (fr ∷ below) = frame_base below ∷ all_bases below
 
--- frames lie so
+-- the machine keeps these frames
 pub record Lies (f : Flat) (fs : List Frame) : Type 0 where
   pub values : f.values ≡ all_values fs
   pub spots : f.spots ≡ all_spots fs

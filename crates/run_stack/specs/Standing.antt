@@ -10,20 +10,20 @@ use Rattle.wasm_sem.specs.Execution.{Store, Instance, Frame, Env, configuration,
 use Rattle.run_stack.specs.Flat.{Flat}
 use Rattle.run_stack.specs.Kept.{all_values, all_spots, Lies}
 use Rattle.run_stack.specs.Straight.{held_of}
-use Rattle.run_stack.specs.Comes.{IsUnstuck, IsEnded}
+use Rattle.run_stack.specs.Comes.{IsUnstuck, IsLeftWith}
 
 -- there is room for the values and the labels behind a step
 abbrev pub HasRoomFor : (values labels : ℕ) → Next → Type 0
 HasRoomFor values labels (reduces (configuration f fs)) = (length (all_values fs) ≤ values) × (length (all_spots fs) ≤ labels)
 HasRoomFor values labels _ = Unit {0}
 
--- the same, but for a call, whose room is made when it enters
+-- likewise; but a call makes its own room when it enters
 abbrev pub HasStepRoom : (values labels : ℕ) → Tree → Next → Type 0
 HasStepRoom values labels (plain (call f) k) n = Unit {0}
 HasStepRoom values labels (plain (call_indirect x) k) n = Unit {0}
 HasStepRoom values labels _ n = HasRoomFor values labels n
 
--- the machine keeps these frames and this store, and the next step finds what it asks for
+-- the machine keeps these frames and this store, and the next step has all that it needs
 pub record IsStanding (s : Flat) (memory : Held) (globals : List Value) (inst : Instance) (e : Env) (fr : Frame) (below : List Frame) : Type 0 where
   pub lies : Lies s (fr ∷ below)
   pub memory_is : memory ≡ held_of inst.limit e.store
@@ -35,14 +35,14 @@ pub record KeepsStore (inst : Instance) (st : Store) (memory : Held) (globals : 
   pub memory_is : memory ≡ held_of inst.limit st
   pub globals_are : globals ≡ st.globals
 
--- it went on in a frame, or with the answer of what runs
+-- a step was made: the run goes on in a frame, or has the answer of what ran
 abbrev pub Went : Instance → Env → Next → Flat → Held → List Value → Type 0
 Went inst e (reduces (configuration f [])) s memory globals =
-    (vs : List Value) × (f ≡ env_after inst e.phase e (Returned vs)) × IsEnded vs s × KeepsStore inst e.store memory globals
+    (vs : List Value) × (f ≡ env_after inst e.phase e (Returned vs)) × IsLeftWith vs s × KeepsStore inst e.store memory globals
 Went inst e (reduces (configuration f (fr ∷ below))) s memory globals = Lies s (fr ∷ below) × KeepsStore inst f.store memory globals
 Went inst e _ s memory globals = ⊥
 
--- or trapped
+-- the step trapped
 abbrev pub Trapped : Instance → Env → Next → Trap → Held → List Value → Type 0
 Trapped inst e (traps t) u memory globals = (t ≡ u) × KeepsStore inst e.store memory globals
 Trapped inst e _ u memory globals = ⊥

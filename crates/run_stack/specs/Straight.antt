@@ -24,13 +24,13 @@ reduct_of x _ = not_simple
 abbrev pub reduct_at : Moment → Instr → Reduct
 reduct_at x i = reduct_of x (before i done)
 
--- it finds what it asks for
+-- the instruction has all that it needs
 abbrev pub IsFound : Reduct → Type 0
 IsFound (reduct st l o) = Unit {0}
 IsFound (trapped_by t) = Unit {0}
 IsFound not_simple = ⊥
 
--- there is room for its operands
+-- there is room for the operands that the instruction leaves
 abbrev pub HasValueRoom : Moment → (room : ℕ) → Reduct → Type 0
 HasValueRoom x room (reduct st l o) = length (o ++ under x.frame x.below) ≤ room
 HasValueRoom x room (trapped_by t) = Unit {0}
@@ -47,7 +47,7 @@ pub record IsMomentBefore (s : Flat) (memory : Held) (globals : List Value) (i :
   pub found : IsFound (reduct_at x i)
   pub room : HasValueRoom x s.value_room (reduct_at x i)
 
--- and behind it, or where it traps
+-- the machine keeps the moment behind the instruction, or the instruction traps
 abbrev pub IsMomentBehind : Moment → Reduct → Option Trap → Flat → Held → List Value → Type 0
 IsMomentBehind x (reduct st l o) None s memory globals =
     Lies s (record x.frame { locals = l; top = record x.frame.top { ops = o } } ∷ x.below) × (memory ≡ held_of x.limit st) × (globals ≡ st.globals)
@@ -72,7 +72,7 @@ IsAccess instrs.MemorySize = Unit {0}
 IsAccess instrs.MemoryGrow = Unit {0}
 IsAccess _ = ⊥
 
--- instructions on operands alone
+-- instructions that concern only operands
 abbrev pub IsNumber : Instr → Type 0
 IsNumber instrs.Unreachable = Unit {0}
 IsNumber instrs.Nop = Unit {0}
@@ -82,7 +82,7 @@ IsNumber (instrs.I64Const z) = Unit {0}
 IsNumber (instrs.Num op) = Unit {0}
 IsNumber _ = ⊥
 
--- any of these
+-- instructions of any of these three kinds
 abbrev pub IsSimple : Instr → Type 0
 IsSimple instrs.Unreachable = Unit {0}
 IsSimple instrs.Nop = Unit {0}

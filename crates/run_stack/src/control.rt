@@ -7,7 +7,7 @@ ghost use Rattle.wasm_sem.specs.Types.{FuncType as func_type};
 ghost use Rattle.run_stack.specs.Flat.{opened};
 ghost use Rattle.wasm_sem.specs.Execution.{Instance, Env, Frame, exit_label};
 ghost use Rattle.run_stack.specs.Kept.{Lies};
-ghost use Rattle.run_stack.specs.Comes.{IsUnstuck, IsMoving, IsControl, Comes, next_of};
+ghost use Rattle.run_stack.specs.Comes.{IsUnstuck, IsMoving, IsControl, LiesNext, next_of};
 
 use crate::stack::Stack;
 use module_ast::code::{BlockType, Code, Instr};
@@ -15,7 +15,7 @@ use module_ast::labels::Labels;
 use module_ast::module::Module;
 use run_store::block_counts;
 
-// A block or a part of an `if` is entered: what it takes stays on top.
+// Enters a block or a branch of an `if`. The operands that it takes stay on top.
 fn enter_block<'m>(stack: &mut Stack<'m>, module: &Module, ty: BlockType, body: &'m Code)
     requires typed { (t : func_type) × (block_type «module».now.types ty ≡ Some t) × (length t.params ≤ length stack.old.values) }
     requires room { length stack.old.spots < stack.old.spot_room }
@@ -27,7 +27,7 @@ fn enter_block<'m>(stack: &mut Stack<'m>, module: &Module, ty: BlockType, body: 
     stack.open(body.as_slice(), None, counts.starts, counts.results);
 }
 
-// A loop is entered, with the sequence from it on: a branch to it takes what it takes.
+// Enters a loop. `place` is the code from the loop on, to which a branch to the loop leads.
 fn enter_loop<'m>(
     stack: &mut Stack<'m>,
     module: &Module,
@@ -45,7 +45,7 @@ fn enter_loop<'m>(
     stack.open(body.as_slice(), Some(place), starts, starts);
 }
 
-/// The label of this number in a table; past its end the default.
+/// The label that an operand selects in a `br_table`; past the labels it is the default.
 pub(crate) fn label_at(labels: &Labels, default: u32, index: u32) -> u32
     ensures { result ≡ slice_index_or labels.now index default }
 {
@@ -56,7 +56,7 @@ pub(crate) fn label_at(labels: &Labels, default: u32, index: u32) -> u32
         .unwrap_or(default)
 }
 
-/// A block is entered, or a branch made. It takes no memory. (Standard, 4.4.5)
+/// Enters a block, or branches. Takes no memory. (Standard, 4.4.5)
 #[inline(always)]
 pub(crate) fn control<'m>(
     stack: &mut Stack<'m>,
@@ -66,7 +66,7 @@ pub(crate) fn control<'m>(
 )
     requires kind { IsControl instr.now }
     requires before { (inst : Instance) × (e : Env) × (fr : Frame) × (below : List Frame) × (inst.types ≡ «module».now.types) × IsMoving stack.old (code_of place.now) instr.now inst e fr below }
-    ensures comes { (inst : Instance) (e : Env) (fr : Frame) (below : List Frame) → inst.types ≡ «module».now.types → IsMoving stack.old (code_of place.now) instr.now inst e fr below → Comes inst e (next_of inst e fr below instr.now) stack.new }
+    ensures comes { (inst : Instance) (e : Env) (fr : Frame) (below : List Frame) → inst.types ≡ «module».now.types → IsMoving stack.old (code_of place.now) instr.now inst e fr below → LiesNext inst e (next_of inst e fr below instr.now) stack.new }
     ensures value_room { stack.new.value_room ≡ stack.old.value_room }
     ensures spot_room { stack.new.spot_room ≡ stack.old.spot_room }
 {
@@ -104,12 +104,12 @@ pub(crate) fn control<'m>(
     }
 }
 
-/// The innermost sequence has ended: its values stay, or the function's results are returned. It takes no memory.
-/// (Standard, 4.4.6, 4.4.7)
+/// Ends the innermost sequence. Its values stay; if it is a function's, the function returns its results. Takes no
+/// memory. (Standard, 4.4.6, 4.4.7)
 #[inline(always)]
 pub(crate) fn fall(stack: &mut Stack)
     requires { (inst : Instance) × (e : Env) × (fr : Frame) × (below : List Frame) × Lies stack.old (fr ∷ below) × IsUnstuck (exit_label inst e fr below fr.outer) }
-    ensures comes { (inst : Instance) (e : Env) (fr : Frame) (below : List Frame) → Lies stack.old (fr ∷ below) → IsUnstuck (exit_label inst e fr below fr.outer) → Comes inst e (exit_label inst e fr below fr.outer) stack.new }
+    ensures comes { (inst : Instance) (e : Env) (fr : Frame) (below : List Frame) → Lies stack.old (fr ∷ below) → IsUnstuck (exit_label inst e fr below fr.outer) → LiesNext inst e (exit_label inst e fr below fr.outer) stack.new }
     ensures value_room { stack.new.value_room ≡ stack.old.value_room }
     ensures spot_room { stack.new.spot_room ≡ stack.old.spot_room }
 {

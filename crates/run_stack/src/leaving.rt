@@ -9,7 +9,7 @@ use crate::control::label_at;
 use crate::stack::Stack;
 use module_ast::code::Instr;
 
-// So many operands stand above what a branch to this label takes, where that is the outermost one.
+// `above`, the number of operands above those that a branch takes, if its label is the outermost one.
 fn above_outermost(label: u32, outermost: usize, above: usize) -> Option<usize>
     ensures { result ≡ above_outermost label outermost above }
 {
@@ -20,7 +20,8 @@ fn above_outermost(label: u32, outermost: usize, above: usize) -> Option<usize>
     }
 }
 
-// How many operands stand above the results, where an instruction branches to the function's outermost label, of this number.
+// How many operands are above the results, if an instruction branches to the function's outermost label, whose number
+// is `outermost`.
 fn above_branch(stack: &Stack, instr: &Instr, outermost: usize) -> Option<usize>
     requires { HasNumber (before instr.now done) stack.now.values }
     ensures { (k : Tree) → result ≡ above_results (before instr.now k) stack.now.values outermost }
@@ -43,7 +44,7 @@ fn above_branch(stack: &Stack, instr: &Instr, outermost: usize) -> Option<usize>
     }
 }
 
-// How many operands stand above the results, where the next step leaves the innermost function.
+// How many operands are above the results, if the next step leaves the innermost function.
 fn above_results(stack: &Stack) -> Option<usize>
     requires some { 0 < length stack.now.bases }
     requires own { (first_base stack.now.bases).labels < length stack.now.spots }
@@ -57,7 +58,8 @@ fn above_results(stack: &Stack) -> Option<usize>
     }
 }
 
-/// Where the next step leaves the last frame with more than four values: how many operands stand above them.
+/// How many operands are above the results, if the next step leaves the last frame with more than four results;
+/// otherwise `None`.
 pub fn above_many(stack: &Stack) -> Option<usize>
     requires some { 0 < length stack.now.bases }
     requires own { (first_base stack.now.bases).labels < length stack.now.spots }

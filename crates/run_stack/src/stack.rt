@@ -1,4 +1,4 @@
-// Values, labels and frames.
+// The stack of a run: values, labels and frames.
 
 ghost use Rattle.std.specs.Prelude.{◌≡◌, ℕ, List, slice_get, ◌+◌, ◌-◌, ◌<◌, ◌≤◌, ◌∷◌, [], Some, ◌++◌, ◌^◌, IfOk, IsOk, OnOk, OnErr, length, replicate, drop, reverse, option_map, option_copied, vec_capacity};
 ghost use Rattle.wasm_sem.specs.Types.{Value as number};
@@ -6,7 +6,7 @@ ghost use Rattle.module_ast.specs.Structure.{code_of};
 ghost use Rattle.module_ast.specs.Binary.{locals_of};
 ghost use Rattle.module_ast.specs.Validation.{declared_locals};
 ghost use Rattle.wasm_sem.specs.Execution.{zeros};
-ghost use Rattle.run_stack.specs.Flat.{Spot, Flat, moved_spots, kept, local_place, from_below, set_from_below, first_base, first_rest, lowest_arity, opened, closed, returned, landed, CanBranch, Branches, HasMoreRoom, framed, Enters};
+ghost use Rattle.run_stack.specs.Flat.{Spot, Flat, moved_spots, kept, local_place, from_below, set_from_below, first_base, first_rest, lowest_arity, opened, closed, returned, landed, CanBranch, BranchesOut, HasMoreRoom, framed, PutsFrame};
 ghost use Rattle.run_stack.specs.Slots.{index_count, behind_call, before_call};
 ghost use Rattle.run_stack.specs.Below.{IsBelow, IsAnswerOf};
 
@@ -18,8 +18,8 @@ use std::marker::Model;
 use wasm_num::{NoMemory, Value, Values};
 use wasm_sem::Answer;
 
-/// A label: what is left of its sequence, for a loop the sequence from the loop on, how many values stand below its
-/// operands, and how many a branch to it takes. (Standard, 4.2.12)
+/// A label: the rest of its sequence; for a loop also the code from the loop on; how many values are below its
+/// operands; and how many values a branch to it takes. (Standard, 4.2.12)
 #[derive(Drop)]
 pub(crate) struct Label<'m> {
     rest: &'m [Instr],
@@ -44,7 +44,7 @@ impl<'m> Model for Label<'m> {
 }
 
 impl<'m> Label<'m> {
-    // It goes on with this.
+    // Sets the rest of the sequence.
     fn resume(&mut self, rest: &'m [Instr])
         ensures { self.new ≡ record self.old { rest = code_of rest.now } }
     {
@@ -52,7 +52,7 @@ impl<'m> Label<'m> {
     }
 }
 
-/// A frame: how many values stand below its locals, and how many labels below its own. (Standard, 4.2.12)
+/// A frame: how many values are below its locals, and how many labels are below its own. (Standard, 4.2.12)
 #[derive(Drop)]
 pub(crate) struct Frame {
     values: usize,
@@ -98,7 +98,7 @@ impl<'m> Model for Stack<'m> {
 }
 
 impl<'m> Stack<'m> {
-    /// No value, no label and no frame. It takes no memory.
+    /// A stack without values, labels and frames. Takes no memory.
     pub fn new(alloc: Global) -> Stack<'m>
         ensures { result ≡ record { values = []; spots = []; bases = []; value_room = 0; spot_room = 0; base_room = 0 } }
     {
@@ -109,7 +109,7 @@ impl<'m> Stack<'m> {
         }
     }
 
-    /// The topmost value is taken.
+    /// Takes the topmost value.
     pub(crate) fn pop(&mut self) -> Value
         requires { 0 < length self.old.values }
         ensures { self.old ≡ record self.new { values = result ∷ self.new.values } }
@@ -117,7 +117,7 @@ impl<'m> Stack<'m> {
         self.values.take_last()
     }
 
-    /// The topmost value, an `i32`, is taken.
+    /// Takes the topmost value, which is an `i32`.
     pub(crate) fn pop_i32(&mut self) -> u32
         requires { (n : ℕ) × (rest : List number) × (self.old.values ≡ Value.I32 n ∷ rest) }
         ensures { self.old ≡ record self.new { values = Value.I32 result ∷ self.new.values } }
@@ -128,7 +128,7 @@ impl<'m> Stack<'m> {
         }
     }
 
-    /// So many values are taken off the top.
+    /// Drops the topmost `count` values.
     pub fn drop_top(&mut self, count: usize)
         requires { count ≤ length self.old.values }
         ensures { self.new ≡ record self.old { values = drop count self.old.values } }
@@ -136,7 +136,7 @@ impl<'m> Stack<'m> {
         self.values.truncate(self.values.len() - count);
     }
 
-    /// The topmost value, which stays.
+    /// The topmost value.
     pub(crate) fn top(&self) -> Value
         requires { 0 < length self.now.values }
         ensures { slice_get self.now.values 0 ≡ Some result }
@@ -144,7 +144,7 @@ impl<'m> Stack<'m> {
         self.values[self.values.len() - 1]
     }
 
-    /// The topmost value, an `i32`, which stays.
+    /// The topmost value, which is an `i32`.
     pub fn top_i32(&self) -> u32
         requires { (n : ℕ) × (rest : List number) × (self.now.values ≡ Value.I32 n ∷ rest) }
         ensures { slice_get self.now.values 0 ≡ Some (Value.I32 result) }
@@ -155,8 +155,8 @@ impl<'m> Stack<'m> {
         }
     }
 
-    /// So many values below so many others, from the lowest to the topmost. It fails only where there are more than four, and
-    /// there is no memory for them.
+    /// Copies of `count` values below the topmost `above`, the lowest first. `NoMemory` only if there are more than
+    /// four and memory runs out.
     pub fn values_below(
         &self,
         alloc: Global,
@@ -175,7 +175,7 @@ impl<'m> Stack<'m> {
         Ok(below)
     }
 
-    /// The answer of the last frame, which has been left: the values that it left, of which there are at most four.
+    /// The answer when the last frame was left: the values that are there, at most four.
     pub fn answer(&self, alloc: Global) -> Answer
         requires left { self.now.bases ≡ [] }
         requires few { length self.now.values ≤ 4 }
@@ -187,7 +187,7 @@ impl<'m> Stack<'m> {
         }
     }
 
-    /// A value is put on top. There is room for it.
+    /// Puts a value on top. There is room for it.
     pub fn push(&mut self, value: Value)
         requires { length self.old.values < self.old.value_room }
         ensures { self.new ≡ record self.old { values = value ∷ self.old.values } }
@@ -195,7 +195,7 @@ impl<'m> Stack<'m> {
         self.values.push_reserved(value);
     }
 
-    /// The innermost label goes on with this.
+    /// Lets the innermost label go on with `rest`.
     pub(crate) fn go_on(&mut self, rest: &'m [Instr])
         requires { 0 < length self.old.spots }
         ensures { self.new ≡ record self.old { spots = moved_spots (code_of rest.now) self.old.spots } }
@@ -204,7 +204,8 @@ impl<'m> Stack<'m> {
         self.labels[innermost].resume(rest);
     }
 
-    /// The innermost label goes on behind a call, and the number of its slot, where it has one, is taken off the top.
+    /// Goes past a call: the innermost label goes on with the code behind it, and the number of the slot, if the call
+    /// is through one, is dropped.
     pub fn step_behind(&mut self, rest: &'m [Instr], slot: Option<u32>)
         requires some { 0 < length self.old.spots }
         requires index { index_count slot ≤ length self.old.values }
@@ -216,7 +217,8 @@ impl<'m> Stack<'m> {
         }
     }
 
-    /// The innermost label goes back before a call, with the number of its slot, where it has one, on top. There is room for it.
+    /// Undoes `step_behind`: the innermost label goes back to the call, and the number of the slot, if the call is
+    /// through one, is on top again. There is room for it.
     pub fn step_back(&mut self, place: &'m [Instr], slot: Option<u32>)
         requires some { 0 < length self.old.spots }
         requires room { length self.old.values + index_count slot ≤ self.old.value_room }
@@ -228,7 +230,7 @@ impl<'m> Stack<'m> {
         self.go_on(place);
     }
 
-    /// A local of the innermost frame.
+    /// The value of a local of the innermost frame.
     pub(crate) fn local(&self, index: u32) -> Value
         requires some { 0 < length self.now.bases }
         requires within { local_place self.now index < length self.now.values }
@@ -238,7 +240,7 @@ impl<'m> Stack<'m> {
         self.values[frame.values + index as usize]
     }
 
-    /// A local of the innermost frame is set.
+    /// Sets a local of the innermost frame.
     pub(crate) fn set_local(&mut self, index: u32, value: Value)
         requires some { 0 < length self.old.bases }
         requires within { local_place self.old index < length self.old.values }
@@ -249,8 +251,8 @@ impl<'m> Stack<'m> {
         self.values[place] = value;
     }
 
-    /// A block is entered: a label more, for which there is room. Its first operands are so many of the topmost values, which
-    /// stay.
+    /// Enters a block: adds a label, for which there is room. The topmost `starts` values stay, and are the first
+    /// operands of the block.
     pub(crate) fn open(
         &mut self,
         rest: &'m [Instr],
@@ -270,7 +272,7 @@ impl<'m> Stack<'m> {
         });
     }
 
-    /// The innermost label is left, and its values stay.
+    /// Leaves the innermost label. Its values stay.
     pub(crate) fn close(&mut self)
         requires { 0 < length self.old.spots }
         ensures { self.new ≡ closed self.old }
@@ -278,7 +280,7 @@ impl<'m> Stack<'m> {
         self.labels.truncate(self.labels.len() - 1);
     }
 
-    /// The innermost frame is left, with so many values on top.
+    /// Leaves the innermost frame. The topmost `arity` values stay on top.
     pub(crate) fn leave(&mut self, arity: usize)
         requires some { 0 < length self.old.bases }
         requires within { (first_base self.old.bases).values + arity ≤ length self.old.values }
@@ -292,7 +294,7 @@ impl<'m> Stack<'m> {
         self.frames.truncate(self.frames.len() - 1);
     }
 
-    /// What is left of the innermost label's sequence.
+    /// The rest of the innermost label's sequence.
     pub fn place(&self) -> &'m [Instr]
         requires { 0 < length self.now.spots }
         ensures { code_of result.now ≡ first_rest self.now.spots }
@@ -300,7 +302,7 @@ impl<'m> Stack<'m> {
         self.labels[self.labels.len() - 1].rest
     }
 
-    /// All values, labels and frames are left.
+    /// Drops all values, labels and frames.
     pub fn clear(&mut self)
         ensures { self.new ≡ record self.old { values = []; spots = []; bases = [] } }
     {
@@ -334,7 +336,7 @@ impl<'m> Stack<'m> {
         label.arity
     }
 
-    // A branch to the label at a place counted from below, which is not the outermost of its frame.
+    // Branches to the label at index `at`, counted from the lowest, which is not the outermost of its frame.
     fn land(&mut self, at: usize, number: usize)
         requires number { at + number + 1 ≡ length self.old.spots }
         requires inside { 0 < at }
@@ -354,11 +356,11 @@ impl<'m> Stack<'m> {
         }
     }
 
-    /// A branch to the label of this number, counted outwards: to the loop again, behind the block, or out of the
-    /// function. (Standard, 4.4.5)
+    /// Branches to the label of this number, counted outwards from 0: to the loop again, behind the block, or out of
+    /// the function. (Standard, 4.4.5)
     pub(crate) fn branch(&mut self, number: usize)
         requires { CanBranch number self.old }
-        ensures branches { Branches number self.old self.new }
+        ensures branches { BranchesOut number self.old self.new }
         ensures value_room { self.new.value_room ≡ self.old.value_room }
         ensures spot_room { self.new.spot_room ≡ self.old.spot_room }
     {
@@ -371,7 +373,7 @@ impl<'m> Stack<'m> {
         }
     }
 
-    /// Room for so many more values and labels, and for a frame. After an `Err` all stand as before.
+    /// Makes room for `values` more values, `labels` more labels and a frame. After an `Err` all is as before.
     pub fn make_room(&mut self, values: usize, labels: usize) -> Result<(), AllocError>
         ensures same { HasMoreRoom self.old self.new }
         ensures values { OnOk result (length self.old.values + values ≤ self.new.value_room) }
@@ -384,7 +386,7 @@ impl<'m> Stack<'m> {
         Ok(())
     }
 
-    // A frame whose parameters stand on top.
+    // Adds a frame whose parameters are the topmost values.
     fn add_frame(&mut self, params: usize)
         requires params { params ≤ length self.old.values }
         requires room { length self.old.bases < self.old.base_room }
@@ -395,7 +397,7 @@ impl<'m> Stack<'m> {
         self.frames.push_reserved(Frame { values, labels });
     }
 
-    // Declared locals are put on top, for which there is room.
+    // Puts the declared locals on top, for which there is room.
     fn add_locals(&mut self, groups: &[Group])
         requires { length self.old.values + locals_of groups.now ≤ self.old.value_room }
         ensures values { self.new.values ≡ reverse (zeros (declared_locals groups.now)) ++ self.old.values }
@@ -407,8 +409,9 @@ impl<'m> Stack<'m> {
         push_zeros(&mut self.values, groups);
     }
 
-    /// A function is entered: its parameters stand on top, and its other locals are put above them. There is then room for
-    /// so many operands and so many labels inside its own. After an `Err` all stand as before. (Standard, 4.4.7)
+    /// Enters a function. Its parameters are on top, and its declared locals are put above them. There is then room for
+    /// `height` operands, and for `nesting` labels inside the function's own. After an `Err` all is as before.
+    /// (Standard, 4.4.7)
     pub fn enter(
         &mut self,
         body: &'m Body,
@@ -422,7 +425,7 @@ impl<'m> Stack<'m> {
         requires locals { locals ≡ locals_of body.now.groups }
         requires size { locals + height < 2 ^ 63 }
         requires depth { nesting < 2 ^ 63 }
-        ensures ok { OnOk result (Enters params (zeros (declared_locals body.now.groups)) body.now.code arity height nesting self.old self.new) }
+        ensures ok { OnOk result (PutsFrame params (zeros (declared_locals body.now.groups)) body.now.code arity height nesting self.old self.new) }
         ensures err { OnErr result (HasMoreRoom self.old self.new) }
     {
         self.make_room(locals + height, nesting + 1)?;
@@ -433,7 +436,7 @@ impl<'m> Stack<'m> {
     }
 }
 
-// So many values from the top are moved down to a height.
+// Moves the topmost `count` values down to `height`, and drops those between.
 fn keep(values: &mut Vec<Value>, height: usize, count: usize)
     requires { height + count ≤ length values.old.items }
     ensures items { reverse values.new.items ≡ kept count height (reverse values.old.items) }
@@ -447,7 +450,7 @@ fn keep(values: &mut Vec<Value>, height: usize, count: usize)
     values.truncate(height + count);
 }
 
-// So many zeros of one type, for which there is room, are put on top.
+// Puts the zeros of a group of locals on top, for which there is room.
 fn push_zeros_of(values: &mut Vec<Value>, group: &Group)
     requires { length values.old.items + group.now.count ≤ vec_capacity values.old }
     ensures items { values.new.items ≡ values.old.items ++ zeros (replicate group.now.count group.now.ty) }
@@ -459,7 +462,7 @@ fn push_zeros_of(values: &mut Vec<Value>, group: &Group)
     }
 }
 
-// Zeros for declared locals, for which there is room, are put on top.
+// Puts the zeros of declared locals on top, for which there is room.
 fn push_zeros(values: &mut Vec<Value>, groups: &[Group])
     requires { length values.old.items + locals_of groups.now ≤ vec_capacity values.old }
     ensures items { values.new.items ≡ values.old.items ++ zeros (declared_locals groups.now) }

@@ -21,7 +21,7 @@ use run_store::memory::Memory;
 use std::alloc::AllocError;
 use wasm_sem::Trap;
 
-/// What a step inside a frame did. At a call it did nothing yet.
+/// What a step inside a frame did. `Calls` says that the next instruction is a call, and that nothing was done.
 #[derive(Drop)]
 pub enum Did {
     Went,
@@ -29,7 +29,7 @@ pub enum Did {
     Calls,
 }
 
-// An instruction that neither branches, nor calls, nor opens a block, with the sequence behind it.
+// Executes an instruction that does not branch, call or open a block. `rest` is the code behind it.
 #[inline(always)]
 fn go_straight<'m>(
     stack: &mut Stack<'m>,
@@ -53,7 +53,7 @@ fn go_straight<'m>(
     }
 }
 
-// An instruction that opens a block or branches, with the sequence from it on and the one behind it.
+// Executes an instruction that opens a block or branches. `place` is the code from it on, `rest` the code behind it.
 #[inline(always)]
 fn go_control<'m>(
     stack: &mut Stack<'m>,
@@ -73,7 +73,7 @@ fn go_control<'m>(
     control(stack, module, place, instr);
 }
 
-// One instruction, with the sequence from it on and the one behind it.
+// Executes one instruction. `place` is the code from it on, `rest` the code behind it.
 #[inline(always)]
 fn instruction<'m>(
     stack: &mut Stack<'m>,
@@ -123,8 +123,8 @@ fn instruction<'m>(
     }
 }
 
-/// The next step of the innermost frame where that is no call: an instruction, or the end of a sequence. It takes memory
-/// for `memory.grow` alone, and then an `Err` leaves all as it was. (Standard, 4.4)
+/// Makes the next step of the innermost frame, if that is no call: an instruction, or the end of a sequence. Takes
+/// memory only at a `memory.grow`; after an `Err` all is as before. (Standard, 4.4)
 #[inline(always)]
 pub fn advance(
     stack: &mut Stack,

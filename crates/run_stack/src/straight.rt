@@ -1,4 +1,4 @@
-// Instructions that neither branch, nor call, nor open a block.
+// Instructions that do not branch, call or open a block.
 
 ghost use Rattle.std.specs.Prelude.{Decides, IfOk, OnErr, List, length, None, ◌≡◌};
 ghost use Rattle.wasm_num.specs.Shapes.{num_operands};
@@ -101,7 +101,7 @@ fn access(stack: &mut Stack, memory: &mut Memory, instr: &Instr) -> Result<Optio
     }
 }
 
-// Whether it takes one operand. A `match` is quicker here than the list of their types.
+// Whether the instruction takes one operand. This `match` is quicker than a look at the list of operand types.
 #[inline(always)]
 fn is_unary(op: NumOp) -> bool
     ensures { Decides result (length (num_operands op) ≡ 1) }
@@ -180,8 +180,8 @@ fn number(stack: &mut Stack, instr: &Instr) -> Option<Trap>
     None
 }
 
-/// An instruction that neither branches, nor calls, nor opens a block, or why it traps. Only `memory.grow` takes memory;
-/// after an `Err` all is as before. (Standard, 4.4.1 to 4.4.5)
+/// Executes an instruction that does not branch, call or open a block; answers why it traps, if it does. Takes memory
+/// only at a `memory.grow`; after an `Err` all is as before. (Standard, 4.4.1 to 4.4.5)
 #[inline(always)]
 pub(crate) fn straight(
     stack: &mut Stack,

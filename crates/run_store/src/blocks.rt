@@ -14,8 +14,7 @@ pub struct BlockCounts {
     pub results: usize,
 }
 
-/// The counts of a block's type, which stands among those of the module where it is one by an index. It takes constant time.
-/// (Standard, 3.2.2)
+/// The counts of a block of this type in `module`. Takes constant time. (Standard, 3.2.2)
 pub fn block_counts(module: &Module, ty: BlockType) -> BlockCounts
     requires { (t : func_type) × (block_type «module».now.types ty ≡ Some t) }
     ensures { (t : func_type) → block_type «module».now.types ty ≡ Some t → result ≡ record { starts = length t.params; results = length t.results } }

@@ -13,7 +13,8 @@ use std::alloc::{AllocError, Global};
 use wasm_num::{NoMemory, ValType};
 use wasm_valid::ValidModule;
 
-/// How much a function's frame takes: its declared locals, its greatest height and its nesting.
+/// What a function's frame needs: the number of its declared locals, the greatest height of its body, and the nesting
+/// of its code.
 #[derive(Clone, Copy)]
 pub struct Size {
     pub locals: usize,
@@ -21,7 +22,8 @@ pub struct Size {
     pub nesting: usize,
 }
 
-/// A function of a module: answered by the script, a hook, or the module's own, with what its frame takes. (Standard, 4.2.6)
+/// A function of a module: an import that the script answers, a hook, or the module's own with what its frame needs.
+/// (Standard, 4.2.6)
 #[derive(Clone, Copy)]
 pub enum Function<'m> {
     Host(&'m FuncType),
@@ -30,7 +32,7 @@ pub enum Function<'m> {
 }
 
 impl<'m> Function<'m> {
-    /// Its type.
+    /// The type of the function.
     pub fn ty(&self) -> &'m FuncType
         ensures { result.now ≡ callee_type (callee_for self.now) }
     {
@@ -42,7 +44,7 @@ impl<'m> Function<'m> {
     }
 }
 
-// Whether two types are the same, of results or of parameters.
+// Whether two lists of results, or of parameters, have the same types.
 fn same_types(these: &[ValType], those: &[ValType]) -> bool
     ensures { result ≡ have_same_types these.now those.now }
 {
@@ -57,14 +59,12 @@ pub fn same_func_type(this: &FuncType, that: &FuncType) -> bool
         && same_types(this.results.as_slice(), that.results.as_slice())
 }
 
-// Whether an import is a hook.
 fn names_a_hook(import: &Import) -> bool
     ensures { result ≡ is_hook import.now }
 {
     import.module.as_str() == HOOK_MODULE
 }
 
-// How many locals a body declares.
 fn count_locals(groups: &[Group]) -> usize
     requires { locals_of groups.now < 2 ^ 32 }
     ensures { result ≡ locals_of groups.now }
@@ -76,7 +76,7 @@ fn count_locals(groups: &[Group]) -> usize
     count
 }
 
-// A function of the module's own. An `Err` comes where no memory could hold its frame.
+// A function that the module defines. `NoMemory` if no memory could hold its frame.
 fn own_function<'m>(valid: &'m ValidModule, defined: u32) -> Result<Function<'m>, NoMemory>
     requires { defined < length valid.now.bodies }
     ensures size { IfOk result (λ f. HasSize valid.now f) }
@@ -97,7 +97,7 @@ fn own_function<'m>(valid: &'m ValidModule, defined: u32) -> Result<Function<'m>
     Ok(Function::Own(ty, body, size))
 }
 
-// The function that an import names, where it names one. (Standard, 2.5.11)
+// The function that an import names; `None` if the import is of another kind. (Standard, 2.5.11)
 fn imported_function<'m>(types: &'m [FuncType], import: &Import) -> Option<Function<'m>>
     ensures stands { MatchOption result (item_callees types.now (is_hook import.now) import.now.item ≡ []) (λ f. item_callees types.now (is_hook import.now) import.now.item ≡ callee_for f ∷ []) }
     ensures size { IfSome result (λ f. (m : valid_module) → HasSize m f) }
@@ -113,7 +113,6 @@ fn imported_function<'m>(types: &'m [FuncType], import: &Import) -> Option<Funct
     })
 }
 
-// The imported functions, in order.
 fn imported_functions<'m>(alloc: Global, m: &'m Module) -> Result<Vec<Function<'m>>, NoMemory>
     ensures stand { IfOk result (λ v. map callee_for v.items ≡ import_callees m.now.types m.now.imports) }
     ensures sizes { IfOk result (λ v. (n : valid_module) → All (HasSize n) v.items) }
@@ -127,8 +126,8 @@ fn imported_functions<'m>(alloc: Global, m: &'m Module) -> Result<Vec<Function<'
     Ok(functions)
 }
 
-/// The functions of a module by their indices, imports first. It goes once over the imports and over the code of each
-/// body. An `Err` comes where there is no memory for the list, or could be none for a frame of one of them.
+/// The functions of a module by their indices, imports first. Walks the imports and the code of each body once.
+/// `NoMemory` if memory for the list runs out, or if no memory could hold the frame of one of the functions.
 pub fn functions_of<'m>(
     alloc: Global,
     valid: &'m ValidModule,

@@ -14,7 +14,7 @@ use std::alloc::Global;
 use wasm_num::{NoMemory, ValType, Value};
 use wasm_sem::Script;
 
-// What an instruction alone gives as an initialiser. (Standard, 3.3.7)
+// The value of an initialiser that is this one instruction. (Standard, 3.3.7)
 fn initial_value_in(ty: ValType, imports: &[Value], instr: &Instr) -> Value
     ensures { result ≡ initial_value ty imports.now (before instr.now done) }
 {
@@ -26,7 +26,7 @@ fn initial_value_in(ty: ValType, imports: &[Value], instr: &Instr) -> Value
     }
 }
 
-// What an initialiser gives, which reads imported globals alone. (Standard, 3.3.7)
+// The value of an initialiser, which reads only imported globals. (Standard, 3.3.7)
 fn initial_value(ty: ValType, imports: &[Value], init: &Code) -> Value
     ensures { result ≡ initial_value ty imports.now init.now }
 {
@@ -37,7 +37,7 @@ fn initial_value(ty: ValType, imports: &[Value], init: &Code) -> Value
     }
 }
 
-// Where a segment begins whose offset is this instruction alone. (Standard, 4.5.4)
+// The offset of a segment whose offset expression is this one instruction. (Standard, 4.5.4)
 fn offset_in(globals: &[Value], instr: &Instr) -> u32
     ensures { result ≡ offset_of globals.now (before instr.now done) }
 {
@@ -51,7 +51,7 @@ fn offset_in(globals: &[Value], instr: &Instr) -> u32
     }
 }
 
-/// Where a segment begins. (Standard, 4.5.4)
+/// The address or slot where a segment with this offset expression begins. (Standard, 4.5.4)
 pub fn offset_of(globals: &[Value], offset: &Code) -> u32
     ensures { result ≡ offset_of globals.now offset.now }
 {
@@ -61,7 +61,7 @@ pub fn offset_of(globals: &[Value], offset: &Code) -> u32
     }
 }
 
-// The imported globals take the script's values in order, and 0 past the last.
+// The values of the imported globals: those of the script in order, and 0 for each global past the last of them.
 fn open_imports(alloc: Global, m: &Module, script: &Script) -> Result<Vec<Value>, NoMemory>
     ensures { IfOk result (λ v. v.items ≡ opening_imports m.now script.now) }
 {
@@ -75,8 +75,8 @@ fn open_imports(alloc: Global, m: &Module, script: &Script) -> Result<Vec<Value>
     Ok(values)
 }
 
-/// The values of the globals when a run opens: of the imported ones as the script gives them, then of the others as their
-/// initialisers do. (Standard, 4.5.4)
+/// The values of the globals when a run opens: the imported ones as the script gives them, then the others by their
+/// initialisers. `NoMemory` if memory runs out. (Standard, 4.5.4)
 pub fn open_globals(alloc: Global, m: &Module, script: &Script) -> Result<Vec<Value>, NoMemory>
     ensures { IfOk result (λ v. v.items ≡ opening_globals m.now script.now) }
 {
@@ -89,7 +89,7 @@ pub fn open_globals(alloc: Global, m: &Module, script: &Script) -> Result<Vec<Va
     Ok(values)
 }
 
-// The size of the module's table, imported or its own, if it has one. (Standard, 2.5.4)
+// The limits of the module's table, imported or not; `None` if there is no table. (Standard, 2.5.4)
 fn table_range(m: &Module) -> Option<Range>
     ensures { result ≡ slice_get (tables_of m.now) 0 }
 {
@@ -101,7 +101,7 @@ fn table_range(m: &Module) -> Option<Range>
     m.tables.as_slice().first().copied()
 }
 
-// The size of the module's memory, imported or its own, if it has one. (Standard, 2.5.5)
+// The limits of the module's memory, imported or not; `None` if there is no memory. (Standard, 2.5.5)
 fn memory_range(m: &Module) -> Option<Range>
     ensures { result ≡ slice_get (memories_of m.now) 0 }
 {
@@ -113,7 +113,7 @@ fn memory_range(m: &Module) -> Option<Range>
     m.memories.as_slice().first().copied()
 }
 
-// The data of all segments is put into the memory, in order; it ends within it. (Standard, 4.5.4)
+// Writes the data of all segments to the memory, in order. Each ends within the memory. (Standard, 4.5.4)
 fn write_segments(memory: &mut Memory, globals: &[Value], segments: &[Segment])
     requires { fit_segments globals.now (length memory.old.bytes) segments.now ≡ true }
     ensures bytes { memory.new.bytes ≡ with_segments globals.now segments.now memory.old.bytes }
@@ -121,19 +121,19 @@ fn write_segments(memory: &mut Memory, globals: &[Value], segments: &[Segment])
 {
     for segment in segments {
         let start = offset_of(globals, &segment.offset);
-        // it ends within the memory
+        // It can't fail: the segment ends within the memory.
         let _ = memory.write(u64::from(start), segment.bytes.as_slice());
     }
 }
 
-// How many pages the memory has at first, and may have at most.
+// How many pages a memory has at first, and how many it may have.
 #[derive(Clone, Copy)]
 struct Pages {
     least: u32,
     most: u32,
 }
 
-// Of the module's memory, 0 without one; the script's cap is one of the bounds. (Standard, 4.4.4)
+// The pages of the module's memory; 0 if there is no memory. The script's cap is one of the bounds. (Standard, 4.4.4)
 #[tactic(auto, using(crate::proofs::Ranges::first_least, crate::proofs::Ranges::first_most, crate::proofs::Ranges::none_least, crate::proofs::Ranges::none_most))]
 fn pages_of(m: &Module, script: &Script) -> Pages
     ensures least { result.least ≡ least_size (memories_of m.now) }
@@ -148,7 +148,8 @@ fn pages_of(m: &Module, script: &Script) -> Pages
     }
 }
 
-/// The memory when a run opens: zeros, and on them the data of all segments. (Standard, 4.5.4)
+/// The memory when a run opens: zeros, over which the data of all segments is written. `NoMemory` if memory runs out.
+/// (Standard, 4.5.4)
 pub fn open_memory(
     alloc: Global,
     m: &Module,
@@ -167,7 +168,7 @@ pub fn open_memory(
     Ok(memory)
 }
 
-/// How many pages the module's memory has at least, 0 without one. (Standard, 2.5.5)
+/// The least number of pages of the module's memory; 0 if there is no memory. (Standard, 2.5.5)
 #[tactic(auto, using(crate::proofs::Ranges::first_least, crate::proofs::Ranges::none_least))]
 pub fn least_pages(m: &Module) -> u32
     ensures { result ≡ least_size (memories_of m.now) }
@@ -178,7 +179,7 @@ pub fn least_pages(m: &Module) -> u32
     }
 }
 
-/// How many slots the module's table has at least, 0 without one. (Standard, 2.5.4)
+/// The least number of slots of the module's table; 0 if there is no table. (Standard, 2.5.4)
 #[tactic(auto, using(crate::proofs::Ranges::first_least, crate::proofs::Ranges::none_least))]
 pub fn least_slots(m: &Module) -> u32
     ensures { result ≡ least_size (tables_of m.now) }
@@ -189,7 +190,7 @@ pub fn least_slots(m: &Module) -> u32
     }
 }
 
-// These functions stand in the slots from a place on, and end within the table.
+// Puts functions into the slots from `start` on. They end within the table.
 fn place_functions(
     alloc: Global,
     slots: &mut Vec<Option<u32>>,
@@ -207,7 +208,8 @@ fn place_functions(
     Ok(())
 }
 
-/// The table when a run opens: empty slots, and in them the functions of all elements. (Standard, 4.5.4)
+/// The table when a run opens: empty slots, into which the functions of all element segments are put. `NoMemory` if
+/// memory runs out. (Standard, 4.5.4)
 pub fn open_table(alloc: Global, m: &Module, globals: &[Value]) -> Result<Table, NoMemory>
     requires { fit_elements globals.now (least_size (tables_of m.now)) m.now.elements ≡ true }
     ensures { IfOk result (λ t. t ≡ with_elements globals.now m.now.elements (replicate (least_size (tables_of m.now)) None)) }

@@ -17,7 +17,7 @@ begun_block (begins.Written kind None) = of_kind kind Empty
 begun_block (begins.Written kind (Some t)) = of_kind kind (Value t)
 begun_block (begins.Indexed kind x) = of_kind kind (Indexed x)
 
--- the block that begins at each position of code, where one does
+-- for each position of code the block that begins there, if one does
 abbrev pub code_row : Tree → List (Option Block)
 code_row done = []
 code_row (plain i k) = None ∷ code_row k
@@ -31,12 +31,12 @@ abbrev pub row_block : List (Option Block) → ℤ → Option Block
 row_block row (pos n) = slice_index_or row n None
 row_block row (negsuc n) = None
 
--- of a function
+-- the row of a function
 abbrev pub callee_row : Callee → List (Option Block)
 callee_row (own ty locals code) = code_row code
 callee_row (host ty) = []
 callee_row (hook ty) = []
 
--- of each function
+-- the rows of all functions
 abbrev pub block_rows : Module → List (List (Option Block))
 block_rows m = map callee_row (callees_of m)

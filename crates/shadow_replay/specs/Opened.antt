@@ -10,7 +10,7 @@ use Rattle.shadow_replay.specs.Replayed.{Replay, shadow_seen}
 use Rattle.shadow_replay.specs.Tagged.{opening_taint}
 use Rattle.shadow_replay.specs.Taint.{Watch, each_marked}
 
--- the store of the run as it opens, with no mark and no frame
+-- the store of the run at its opening, without marks and frames
 abbrev pub opening_replay : Module → Script → Watch → Replay
 opening_replay m s w = record {
   «module» = m;
@@ -19,7 +19,7 @@ opening_replay m s w = record {
   shadow = tainted (opening_taint (opening_store m s)) (shadow_of (opening_store m s) []);
 }
 
--- with these bytes, of which none is marked, these globals, and no frame
+-- a state with these bytes, none of which is marked, these globals, and no frame
 abbrev pub replay_with : Module → (limit : ℕ) → Watch → (bytes : List ℕ) → (globals : List Marked) → Replay
 replay_with m limit w bytes globals = record {
   «module» = m;

@@ -1,4 +1,5 @@
--- What a shadow is seen as: a state with its marks, beside the module, the bound on its pages, and what is watched.
+-- What contracts see of a shadow: a state with its marks, the module, the bound on its pages, and which imports are
+-- watched.
 use Rattle.std.specs.Prelude.{◌≡◌, ℕ, List, [], ◌∷◌, length, map, reverse, take, drop, slice_get, Option, Some, None, option_map, option_and_then, IsSome, Bool}
 use Rattle.wasm_num.specs.declared.ValType.TheVariants as types
 use Rattle.wasm_sem.specs.Types.{NumOp, Value, FuncType, Loc, Module, StoreOp, Event}
@@ -22,12 +23,12 @@ pub record Replay : Type 0 where
   pub watch : Watch
   pub shadow : TaintedShadow
 
--- locals that are prepared, with the call that prepared them
+-- the locals that are prepared for a function, and the call that prepared them
 pub record PreparedLocals : Type 0 where
   pub call : Option Loc
   pub locals : List Marked
 
--- values that a branch takes along, the lowest first
+-- the values that a branch takes with it, the lowest first
 pub record HeldOperands : Type 0 where
   pub operands : List Marked
   pub label : ℕ
@@ -46,7 +47,7 @@ values_prepared p = option_map (λ (p : PreparedLocals). values_in p.locals) p
 abbrev pub marks_prepared : Option PreparedLocals → Option PreparedMarks
 marks_prepared p = option_map (λ (p : PreparedLocals). record { call = p.call; marks = marks_in p.locals }) p
 
--- the state that is kept so
+-- the state that a shadow keeps in these parts
 abbrev pub shadow_seen : (memory : List ℕ) → List Bool → (globals : List Marked) → Standing → Option PreparedLocals → Option HeldOperands → (given : Option (List Marked)) → List Warning → TaintedShadow
 shadow_seen memory ks gs st p h g ws = record {
   state = record {
@@ -65,7 +66,7 @@ shadow_seen memory ks gs st p h g ws = record {
   };
 }
 
--- ---- what its calls leave
+-- ---- how calls change it
 
 -- with another stack
 abbrev pub with_standing : Standing → TaintedShadow → TaintedShadow
@@ -81,7 +82,7 @@ standing_in sh = record { frames = sh.state.frames; operands = sh.marks.taint.op
 abbrev pub with_marked_memory : (bytes : List ℕ) → List Bool → TaintedShadow → TaintedShadow
 with_marked_memory bytes ks sh = record { state = record sh.state { memory = bytes }; marks = record sh.marks { taint = record sh.marks.taint { memory = ks } } }
 
--- an item moves the state, and nothing else
+-- an item changes the state, and nothing else
 pub record TakesItem (i : TraceItem) (old new : Replay) : Type 0 where
   pub effect : tainted_effect old.module old.limit old.watch old.shadow i ≡ Some new.shadow
   pub «module» : new.module ≡ old.module
@@ -91,7 +92,7 @@ pub record TakesItem (i : TraceItem) (old new : Replay) : Type 0 where
 abbrev pub IsFitEvent : Event → Replay → Type 0
 IsFitEvent e r = IsSome (event_effect r.module r.limit r.shadow.state e)
 
--- events of instructions on operands alone
+-- events of instructions that concern only operands
 abbrev pub IsOnOperands : Event → Type 0
 IsOnOperands (events.If p x) = Unit {0}
 IsOnOperands (events.Const p v) = Unit {0}
@@ -102,7 +103,7 @@ IsOnOperands (events.Select p a b x) = Unit {0}
 IsOnOperands (events.MemorySize p n) = Unit {0}
 IsOnOperands _ = ⊥
 
--- of instructions on variables
+-- events of instructions on variables
 abbrev pub IsOnLocal : Event → Type 0
 IsOnLocal (events.Local p op x v) = Unit {0}
 IsOnLocal _ = ⊥
@@ -111,14 +112,14 @@ abbrev pub IsOnGlobal : Event → Type 0
 IsOnGlobal (events.Global p op x v) = Unit {0}
 IsOnGlobal _ = ⊥
 
--- of instructions on the memory
+-- events of instructions on the memory
 abbrev pub IsOnMemory : Event → Type 0
 IsOnMemory (events.Load p op offset a v) = Unit {0}
 IsOnMemory (events.Store p op offset a v) = Unit {0}
 IsOnMemory (events.MemoryGrow p by previous) = Unit {0}
 IsOnMemory _ = ⊥
 
--- the operands, labels and frames move so, and nothing else
+-- the operands, labels and frames change in this way, and nothing else changes
 abbrev pub MovesStanding : (Standing → Standing) → (old new : Replay) → Type 0
 MovesStanding change old new = new ≡ record old { shadow = with_standing (change (standing_in old.shadow)) old.shadow }
 
@@ -126,11 +127,11 @@ MovesStanding change old new = new ≡ record old { shadow = with_standing (chan
 abbrev pub number_effect : NumOp → (result : Value) → Shadow → Option Shadow
 number_effect op r sh = if_true (have_type (num_result op) r) (swap (num_operands op) (r ∷ []) sh)
 
--- its result, marked where one of its operands is
+-- the result of a number instruction, which is marked if one of its operands is
 abbrev pub joined : NumOp → (result : Value) → TaintedShadow → Marked
 joined op r sh = record { value = r; mark = some_marked (take (length (num_operands op)) sh.marks.taint.operands) }
 
--- the memory has so many pages more
+-- the memory has `by` pages more
 pub record Grows (by : ℕ) (old new : Replay) : Type 0 where
   pub memory : grown_memory old.limit by old.shadow.state.memory ≡ Some new.shadow.state.memory
   pub rest : new ≡ record old { shadow = with_marked_memory new.shadow.state.memory (add_pages by old.shadow.marks.taint).memory old.shadow }
@@ -152,21 +153,21 @@ IsBranch (events.BrTable p x n target) = Unit {0}
 IsBranch (events.Return p vs) = Unit {0}
 IsBranch _ = ⊥
 
--- without so many operands
+-- the state without the topmost `count` operands
 abbrev pub below : (count : ℕ) → Shadow → Shadow
 below n sh = record sh { frames = exchanged_in n [] sh.frames }
 
 abbrev pub held_below : (above label : ℕ) → Shadow → Option Shadow
 held_below above n sh = holds n (below above sh).frames (below above sh)
 
--- these are held
+-- a branch holds these values
 abbrev pub held_in : (label : ℕ) → List Marked → TaintedShadow → TaintedShadow
 held_in n ms sh = record {
   state = record sh.state { held = Some (record { values = values_in ms; label = n }) };
   marks = record sh.marks { held = reverse (marks_in ms) };
 }
 
--- the values that a branch takes to a label, below so many operands
+-- a branch to a label holds the values that it takes, which are below the topmost `above` operands
 pub record HoldsValues (label above : ℕ) (old new : Replay) : Type 0 where
   pub operands : List Marked
   pub values : values_in operands ≡ reverse (take (arity_in label old.shadow.state.frames) (drop above (top_operands old.shadow.state.frames)))
@@ -185,7 +186,7 @@ pub record EndsLabel (old new : Replay) : Type 0 where
   pub effect : ended old.shadow ≡ Some new.shadow
   pub rest : new ≡ record old { shadow = new.shadow }
 
--- what is given goes onto the operands
+-- the values that a call gave are put on top
 abbrev pub given_taken : TaintedShadow → Option TaintedShadow
 given_taken sh = with_marks (takes_given_marks sh.marks) (option_and_then (λ (vs : List Value). swap [] vs (record sh.state { given = None })) sh.state.given)
 
@@ -193,7 +194,7 @@ pub record TakesGiven (old new : Replay) : Type 0 where
   pub effect : given_taken old.shadow ≡ Some new.shadow
   pub rest : new ≡ record old { shadow = new.shadow }
 
--- of ends, and behind calls
+-- events of ends, and events behind calls
 abbrev pub IsReturn : Event → Type 0
 IsReturn (events.End p kind begin) = Unit {0}
 IsReturn (events.CallPost p vs) = Unit {0}
@@ -201,7 +202,7 @@ IsReturn _ = ⊥
 
 -- ---- calls
 
--- of calls
+-- events of calls
 abbrev pub IsCallEvent : Event → Type 0
 IsCallEvent (events.CallPre p f args) = Unit {0}
 IsCallEvent (events.IndirectPre p ty slot f args) = Unit {0}
@@ -223,7 +224,7 @@ pub record BeginsBlock (loc : Loc) (old new : Replay) : Type 0 where
   pub effect : with_marks old.shadow.marks (block_begun loc old) ≡ Some new.shadow
   pub rest : new ≡ record old { shadow = new.shadow }
 
--- a call takes its arguments off
+-- a call takes its arguments off the stack
 abbrev pub called : (func : ℕ) → Replay → Option Shadow
 called f r = calls_callee r.shadow.state (slice_get (callees_of r.module) f)
 
@@ -231,7 +232,7 @@ pub record CallsFunction (loc : Loc) (func : ℕ) (old new : Replay) : Type 0 wh
   pub effect : with_marks (calls_marks loc (slice_get (callees_of old.module) func) old.shadow.marks) (called func old) ≡ Some new.shadow
   pub rest : new ≡ record old { shadow = new.shadow }
 
--- a call through a slot takes the slot's number and its arguments off
+-- a call through a slot takes the number of the slot and its arguments off the stack
 abbrev pub called_through : (ty : ℕ) → (func : Option ℕ) → Replay → Option Shadow
 called_through ty f r = option_and_then (calls_typed r.module f (slice_get r.module.types ty)) (swap (types.I32 ∷ []) [] r.shadow.state)
 
@@ -239,7 +240,7 @@ pub record CallsSlot (loc : Loc) (ty : ℕ) (func : Option ℕ) (old new : Repla
   pub effect : with_marks (calls_typed_marks old.module loc func (slice_get old.module.types ty) (move (exchange 1 []) old.shadow.marks)) (called_through ty func old) ≡ Some new.shadow
   pub rest : new ≡ record old { shadow = new.shadow }
 
--- what it prepares for the function of the slot
+-- what a call through a slot prepares for the function in the slot
 pub record Prepares (loc : Loc) (asked : FuncType) (func : Option ℕ) (args : List Marked) (r : Replay) (p : Option PreparedLocals) : Type 0 where
   pub values : values_prepared p ≡ prepared_slot r.module asked func (values_in args)
   pub marks : marks_prepared p ≡ slot_marks r.module loc asked func (marks_in args)

@@ -1,5 +1,6 @@
--- The operands, labels and frames of a shadow as they are kept: the operands of all labels of all frames in one list, each
--- with its mark, and for each label how many stand below its own. Topmost and innermost first.
+-- The operands, labels and frames of a shadow as they are kept: the operands of all labels of all frames in one list,
+-- each with its mark, and for each label how many operands are below its own. The topmost operand is first, and so are
+-- the innermost label and frame.
 use Rattle.std.specs.Prelude.{◌≡◌, ℕ, ◌-◌, ◌<◌, ◌≤◌, ℤ, negsuc, List, [], ◌∷◌, ◌++◌, length, map, reverse, take, drop, Bool, slice_set}
 use Rattle.wasm_sem.specs.Types.{Value, BlockKind}
 use Rattle.wasm_num.specs.declared.BlockKind.TheVariants as kinds
@@ -14,20 +15,20 @@ values_in ms = map (λ (m : Marked). m.value) ms
 abbrev pub marks_in : List Marked → List Bool
 marks_in ms = map (λ (m : Marked). m.mark) ms
 
--- a label: how many values a branch to it takes, and how many operands stand below its own
+-- a label: how many values a branch to it takes, and how many operands are below its own
 pub record KeptLabel : Type 0 where
   pub kind : BlockKind
   pub begin : ℤ
   pub arity : ℕ
   pub height : ℕ
 
--- a frame: how many labels stand below its own
+-- a frame: how many labels are below its own
 pub record KeptFrame : Type 0 where
   pub func : ℕ
   pub locals : List Marked
   pub labels : ℕ
 
--- ---- the frames that are kept so
+-- ---- the frames that are kept in this way
 
 abbrev pub labels_from : (operands : List Value) → List KeptLabel → List ShadowLabel
 labels_from vs [] = []
@@ -37,7 +38,7 @@ labels_from vs (s ∷ ss) =
 abbrev pub no_label : ShadowLabel
 no_label = record { kind = kinds.Function; begin = negsuc 0; arity = 0; ops = [] }
 
--- a frame with these labels, of which there is one
+-- a frame with these labels, of which there is at least one
 abbrev pub frame_from : KeptFrame → List ShadowLabel → ShadowFrame
 frame_from b [] = record { func = b.func; locals = values_in b.locals; top = no_label; outer = [] }
 frame_from b (l ∷ ls) = record { func = b.func; locals = values_in b.locals; top = l; outer = ls }
@@ -86,9 +87,9 @@ standing os ss bs = record { frames = frames_kept os ss bs; operands = marks_in 
 abbrev pub AreWellKept : List Marked → List KeptLabel → List KeptFrame → Type 0
 AreWellKept os ss bs = AreFramesKept (values_in os) ss bs (frames_kept os ss bs)
 
--- ---- what its calls leave
+-- ---- how calls change it
 
--- as many operands on top of the innermost label
+-- the innermost label has at least `count` operands
 abbrev pub Has : (count : ℕ) → List ShadowFrame → Type 0
 Has n [] = ⊥
 Has n (fr ∷ below) = n ≤ length fr.top.ops
@@ -97,7 +98,7 @@ abbrev pub exchanged_in : (count : ℕ) → List Value → List ShadowFrame → 
 exchanged_in n vs [] = []
 exchanged_in n vs (fr ∷ below) = record fr { top = record fr.top { ops = vs ++ drop n fr.top.ops } } ∷ below
 
--- so many operands go, and these come
+-- the topmost `count` operands are replaced by others
 abbrev pub exchanged : (count : ℕ) → List Marked → Standing → Standing
 exchanged n ms st = record { frames = exchanged_in n (values_in ms) st.frames; operands = marks_in ms ++ drop n st.operands; locals = st.locals }
 
@@ -106,7 +107,7 @@ abbrev pub operand_count : List ShadowFrame → ℕ
 operand_count [] = 0
 operand_count (fr ∷ below) = length fr.top.ops
 
--- the innermost frame has another label around its innermost one, or none
+-- the innermost frame has another label around its innermost one; or it has none
 abbrev pub IsNested : List ShadowFrame → Type 0
 IsNested [] = ⊥
 IsNested (fr ∷ below) = 0 < length fr.outer
@@ -123,11 +124,11 @@ abbrev pub label_closed_in : List ShadowFrame → List ShadowFrame
 label_closed_in [] = []
 label_closed_in (fr ∷ below) = closed_labels fr below fr.outer
 
--- the innermost label goes, and its operands stay
+-- the innermost label is closed, and its operands stay
 abbrev pub label_closed : Standing → Standing
 label_closed st = record st { frames = label_closed_in st.frames }
 
--- it goes with its operands, and these come to the label around it
+-- the innermost label is closed without its operands, and the values go to the label around it
 abbrev pub label_landed : List Marked → Standing → Standing
 label_landed ms st = exchanged 0 ms (label_closed (exchanged (operand_count st.frames) [] st))
 
@@ -138,11 +139,11 @@ label_opened_in kind begin n a (fr ∷ below) = record fr {
   outer = record fr.top { ops = drop n fr.top.ops } ∷ fr.outer;
 } ∷ below
 
--- a block begins, with so many operands of the label around it
+-- a block begins, whose first operands are the topmost `starts` values
 abbrev pub label_opened : BlockKind → (begin : ℤ) → (starts arity : ℕ) → Standing → Standing
 label_opened kind begin n a st = record st { frames = label_opened_in kind begin n a st.frames }
 
--- a function begins, with these locals
+-- a function begins with these locals
 abbrev pub frame_entered : (func arity : ℕ) → List Marked → Standing → Standing
 frame_entered f a ms st = record {
   frames = record { func = f; locals = values_in ms; top = record { kind = kinds.Function; begin = negsuc 0; arity = a; ops = [] }; outer = [] } ∷ st.frames;
@@ -150,7 +151,7 @@ frame_entered f a ms st = record {
   locals = marks_in ms ∷ st.locals;
 }
 
--- the innermost frame goes, with its operands and locals
+-- the innermost frame is left, without its operands and locals
 abbrev pub frame_left : Standing → Standing
 frame_left st = record { frames = drop 1 st.frames; operands = drop (operand_count st.frames) st.operands; locals = drop 1 st.locals }
 
@@ -175,7 +176,7 @@ abbrev pub HasLabel : (label : ℕ) → List ShadowFrame → Type 0
 HasLabel n [] = ⊥
 HasLabel n (fr ∷ below) = n ≤ length fr.outer
 
--- how many labels the innermost frame has beside its innermost one
+-- how many labels the innermost frame has around its innermost label
 abbrev pub outer_count : List ShadowFrame → ℕ
 outer_count [] = 0
 outer_count (fr ∷ below) = length fr.outer
@@ -184,7 +185,7 @@ abbrev pub top_operands : List ShadowFrame → List Value
 top_operands [] = []
 top_operands (fr ∷ below) = fr.top.ops
 
--- so many operands below so many others, the lowest first
+-- `count` operands below the topmost `above`, the lowest first
 pub record AreOperandsBelow (above count : ℕ) (ms : List Marked) (st : Standing) : Type 0 where
   pub values : values_in ms ≡ reverse (take count (drop above (top_operands st.frames)))
   pub marks : marks_in ms ≡ reverse (take count (drop above st.operands))

@@ -1,4 +1,4 @@
--- The machine with a mark on each byte and value: one step moves the marks as it moves what is marked.
+-- The machine with a mark on each byte and value: a step moves marks as it moves the bytes and values.
 use Rattle.std.specs.Prelude.{ℕ, zero, suc, ◌+◌, List, [], ◌∷◌, ◌++◌, length, reverse, take, Option, Some, None, Bool, false, slice_get, slice_index_or}
 use Rattle.wasm_sem.specs.Types.{Value, FuncType, Loc, Module}
 use Rattle.wasm_num.specs.declared.Value.TheVariants.{I32}
@@ -11,7 +11,7 @@ use Rattle.wasm_sem.specs.declared.Script.{Script}
 use Rattle.wasm_sem.specs.Execution.{Store, values_of, zeros, answer_at, writes_done, Callee, host, hook, own, callee_type, Entry, Instance, instance, opening_store, Label, Frame, Env, Configuration, configuration, Next, reduces, traps, ends, stuck, Phase, starting, calling, over, at_zero, frame_behind, start_entry, call_entry, step, after_step, opening_configuration, here}
 use Rattle.shadow_replay.specs.Taint.{Watch, Taint, is_watched, each_marked, nth_mark, exchange, join, local_mark, mark_local, mark_global, read_mark, mark_bytes, add_pages, unmark_writes, begin_frame, end_frame, no_frames, warn}
 
--- ---- instructions on the store, locals and operands alone
+-- ---- instructions that concern only the store, locals and operands
 
 -- a memory that grew has bytes more, which are not marked
 abbrev pub taint_grown : (by : ℕ) → Option (List ℕ) → Taint → Taint
@@ -43,7 +43,8 @@ branch_arity zero t outer = t.arity
 branch_arity (suc n) t [] = 0
 branch_arity (suc n) t (l ∷ ls) = branch_arity n l ls
 
--- the operands of the labels that it leaves go, and what it took comes; with the function's label its locals go
+-- a branch leaves labels with their operands, and the values that it took come on top; with the function's label the
+-- locals go
 abbrev pub taint_left : (taken : List Bool) → (ops : List Value) → (label : ℕ) → List Label → Taint → Taint
 taint_left ks o zero [] t = exchange (length o) ks (end_frame t)
 taint_left ks o zero (l ∷ ls) t = exchange (length o) ks t
@@ -53,25 +54,26 @@ taint_left ks o (suc n) (l ∷ ls) t = taint_left ks l.ops n ls (exchange (lengt
 abbrev pub taint_branch : Frame → (ops : List Value) → (label : ℕ) → Taint → Taint
 taint_branch fr o n t = taint_left (take (branch_arity n fr.top fr.outer) t.operands) o n fr.outer t
 
--- what stands at the end of a sequence stays; at the end of the function it is the results
+-- the operands at the end of a sequence stay; at the end of a function they are the results
 abbrev pub taint_exit : Label → List Label → Taint → Taint
 taint_exit l [] t = taint_left (take l.arity t.operands) l.ops 0 [] t
 taint_exit l (k ∷ ks) t = t
 
 -- ---- calls
 
--- a host function's results are marked where it is a source, and its writes are not
+-- the results of a host function are marked if it is a source, and its writes are not marked
 abbrev pub taint_host : Watch → Option Loc → (func : ℕ) → FuncType → HostAnswer → (memory : List ℕ) → (args : List Bool) → Taint → Taint
 taint_host w p f ty a memory ks t =
     exchange 0 (each_marked (is_watched w.sources f) (values_of ty.results a.results)) (warn w p f ks (unmark_writes (writes_done memory a.writes) t))
 
--- a function is called with arguments of these marks, the first one first, by an instruction or by none
+-- a function is called with arguments of these marks, the first argument first, by the instruction at a place or by
+-- none
 abbrev pub taint_invoke : Watch → Instance → Env → Option Loc → (func : ℕ) → Callee → (args : List Bool) → Taint → Taint
 taint_invoke w inst e p f (own ty locals code) ks t = begin_frame (ks ++ each_marked false locals) t
 taint_invoke w inst e p f (host ty) ks t = taint_host w p f ty (answer_at inst.hosts e.store.hosts) e.store.memory ks t
 taint_invoke w inst e p f (hook ty) ks t = exchange 0 (each_marked false (zeros ty.results)) t
 
--- so many arguments are taken off
+-- takes `count` arguments off the stack, and calls
 abbrev pub taint_popped : Watch → Instance → Env → Loc → (func : ℕ) → Callee → (count : ℕ) → Taint → Taint
 taint_popped w inst e p f c n t = taint_invoke w inst e (Some p) f c (reverse (take n t.operands)) (exchange n [] t)
 
@@ -94,7 +96,7 @@ taint_through w inst e p i (Some ty) t = taint_slot w inst e p ty (slice_get e.s
 
 -- ---- one instruction
 
--- an instruction with no sequence in it, where the innermost label stands behind it already
+-- an instruction without a nested sequence; the innermost label is already behind it
 abbrev pub taint_plain : Watch → Instance → Env → Frame → Plain → (ops : List Value) → Taint → Taint
 taint_plain w inst e fr (br n) o t = taint_branch fr o n t
 taint_plain w inst e fr (br_if n) (I32 x ∷ o) t = at_zero x (exchange 1 [] t) (taint_branch fr o n (exchange 1 [] t))
@@ -104,7 +106,7 @@ taint_plain w inst e fr (call f) o t = taint_call w inst e (here fr) f (slice_ge
 taint_plain w inst e fr (call_indirect x) (I32 i ∷ o) t = taint_through w inst e (here fr) i (slice_get inst.types x) (exchange 1 [] t)
 taint_plain w inst e fr i o t = taint_calc inst.limit i e.store o t
 
--- a block begins with the operands that it takes
+-- one instruction; a block begins with the operands that it takes
 abbrev pub taint_code : Watch → Instance → Env → Frame → Tree → (ops : List Value) → Taint → Taint
 taint_code w inst e fr done o t = taint_exit fr.top fr.outer t
 taint_code w inst e fr (plain i k) o t = taint_plain w inst e (frame_behind fr k) i o t
@@ -130,7 +132,7 @@ taint_phase w inst e over t = t
 
 -- ---- steps and runs
 
--- how the next step moves the marks, where it does not trap
+-- how the next step moves the marks, if it does not trap
 abbrev pub taint_moved : Watch → Instance → Configuration → Taint → Taint
 taint_moved w inst (configuration e []) t = taint_phase w inst e e.phase t
 taint_moved w inst (configuration e (fr ∷ below)) t = taint_code w inst e fr fr.top.rest fr.top.ops t
@@ -146,7 +148,7 @@ taint_after (traps cause) t u = no_frames t
 taint_after ends t u = t
 taint_after stuck t u = t
 
--- a configuration, with the marks of its bytes and values
+-- a configuration with the marks of its bytes and values
 pub record Tagged : Type 0 where
   pub state : Configuration
   pub taint : Taint
@@ -157,12 +159,12 @@ tagged_step w inst g = record {
   taint = taint_after (step inst g.state) g.taint (taint_moved w inst g.state g.taint);
 }
 
--- what stands after so many steps, or at the end where the run ends sooner
+-- the configuration after that many steps, or at the end of the run if that comes before
 abbrev pub tagged_run : Watch → Instance → ℕ → Tagged → Tagged
 tagged_run w inst zero g = g
 tagged_run w inst (suc n) g = tagged_run w inst n (tagged_step w inst g)
 
--- nothing of a store is marked when its run opens
+-- nothing in the store is marked when the run opens
 abbrev pub opening_taint : Store → Taint
 opening_taint st = record { memory = each_marked false st.memory; globals = each_marked false st.globals; locals = []; operands = []; warnings = [] }
 

@@ -1,4 +1,4 @@
--- Marks on the bytes and values of a state, true where something comes from a source, and the warnings so far.
+-- Marks on the bytes and values of a state, which are true for what comes from a source; and the warnings so far.
 use Rattle.std.specs.Prelude.{ℕ, suc, ◌*◌, List, [], ◌∷◌, ◌++◌, map, take, drop, replicate, Option, Some, None, Bool, false, ◌==◌, slice_index_or, slice_set}
 use Rattle.std.specs.List.{list_any}
 use Rattle.wasm_sem.specs.Types.{Loc}
@@ -7,7 +7,7 @@ use Rattle.module_ast.specs.Memory.{page_size, overlay}
 use Rattle.wasm_sem.specs.declared.HostWrite.{HostWrite}
 use Rattle.shadow_replay.specs.declared.Warning.{Warning}
 
--- the imports whose results are marked, and those that warn of marked arguments
+-- the imports whose results are marked, and the imports of which marked arguments are warned of
 pub record Watch : Type 0 where
   pub sources : List ℕ
   pub sinks : List ℕ
@@ -26,7 +26,7 @@ pub record Taint : Type 0 where
 abbrev pub is_watched : List ℕ → ℕ → Bool
 is_watched fs f = list_any (λ g. g == f) fs
 
--- the same mark for each
+-- the same mark for each element
 abbrev pub each_marked : {A : Type 0} → Bool → List A → List Bool
 each_marked k xs = map (λ x. k) xs
 
@@ -38,11 +38,11 @@ nth_mark ks n = slice_index_or ks n false
 
 -- ---- operands
 
--- so many go off the top, and these come
+-- takes the topmost `takes` marks, and pushes others
 abbrev pub exchange : (takes : ℕ) → (pushed : List Bool) → Taint → Taint
 exchange n ks t = record t { operands = ks ++ drop n t.operands }
 
--- so many on top go, and a value comes that is marked where one of them is
+-- takes the topmost `takes` marks, and pushes one that is set if one of them was
 abbrev pub join : (takes : ℕ) → Taint → Taint
 join n t = exchange n (some_marked (take n t.operands) ∷ []) t
 
@@ -63,7 +63,7 @@ mark_global x k t = record t { globals = slice_set t.globals x k }
 
 -- ---- memory
 
--- whether one of so many bytes from an address on is marked
+-- whether one of `width` bytes from an address on is marked
 abbrev pub read_mark : (address width : ℕ) → Taint → Bool
 read_mark a n t = some_marked (take n (drop a t.memory))
 
@@ -95,7 +95,7 @@ no_frames t = record t { locals = []; operands = [] }
 
 -- ---- warnings
 
--- one for each marked argument, where the first has this number
+-- a warning for each marked argument; the first argument has this number
 abbrev pub argument_warnings : Loc → («import» number : ℕ) → (args : List Bool) → List Warning
 argument_warnings p f n [] = []
 argument_warnings p f n (k ∷ ks) = when k (record { loc = p; «import» = f; argument = n } ∷ []) ++ argument_warnings p f (suc n) ks

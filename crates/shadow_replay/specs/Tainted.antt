@@ -1,4 +1,5 @@
--- The shadow state with a mark on each byte and value, which the items of a trace move beside what they rebuild.
+-- The shadow state with a mark on each byte and value. The items of a trace move the marks along with what they
+-- rebuild.
 use Rattle.std.specs.Prelude.{ℕ, zero, suc, ◌+◌, ◌-◌, ◌^◌, ◌==◌, List, [], ◌∷◌, ◌++◌, length, reverse, take, Option, Some, None, option_and_then, Bool, false, cond, slice_get}
 use Rattle.wasm_sem.specs.Types.{Value, FuncType, Loc, Module, Event}
 use Rattle.wasm_num.specs.declared.BlockKind.TheVariants as kinds
@@ -13,12 +14,12 @@ use Rattle.shadow_replay.specs.Taint.{Watch, Taint, is_watched, each_marked, nth
 
 -- ---- the state
 
--- the marks of prepared locals, and the call that prepared them; an entry is none
+-- the marks of prepared locals, and the call that prepared them; an entry is no call
 pub record PreparedMarks : Type 0 where
   pub call : Option Loc
   pub marks : List Bool
 
--- marks beside a shadow: of its bytes and values, of the locals that are prepared, and of the values that are held and
+-- the marks of a shadow: of its bytes and values, of the locals that are prepared, and of the values that are held and
 -- that are given, topmost first
 pub record ShadowMarks : Type 0 where
   pub taint : Taint
@@ -35,7 +36,7 @@ pub record TaintedShadow : Type 0 where
 abbrev pub move : (Taint → Taint) → ShadowMarks → ShadowMarks
 move change k = record k { taint = change k.taint }
 
--- how many values a branch takes to a label, counted outwards from one of this arity
+-- how many values a branch to a label takes; the label is counted outwards from one whose branches take `arity` values
 abbrev pub held_arity : (label : ℕ) → (arity : ℕ) → List ShadowLabel → ℕ
 held_arity zero a outer = a
 held_arity (suc n) a [] = 0
@@ -49,13 +50,13 @@ abbrev pub holds_results_marks : List ShadowFrame → ShadowMarks → ShadowMark
 holds_results_marks [] k = k
 holds_results_marks (fr ∷ below) k = holds_marks (length fr.outer) (fr ∷ below) k
 
--- the innermost label goes with its operands, and its frame where it is the function's
+-- a branch closes the innermost label with its operands, and leaves the frame if the label is the function's
 abbrev pub drops_held_marks : (count : ℕ) → List ShadowLabel → (label : ℕ) → ShadowMarks → ShadowMarks
 drops_held_marks n [] label k = record k { taint = end_frame (exchange n [] k.taint); held = []; given = k.held }
 drops_held_marks n (l ∷ ls) zero k = record k { taint = exchange n k.held k.taint; held = [] }
 drops_held_marks n (l ∷ ls) (suc label) k = move (exchange n []) k
 
--- where none are held, what stands on it stays; at the function's it is given
+-- without a branch, the operands of the innermost label stay; if the label is the function's, they are given
 abbrev pub drops_fallen_marks : (count arity : ℕ) → List ShadowLabel → ShadowMarks → ShadowMarks
 drops_fallen_marks n a [] k = record k { taint = end_frame (exchange n [] k.taint); given = take a k.taint.operands }
 drops_fallen_marks n a (l ∷ ls) k = k
@@ -80,7 +81,7 @@ abbrev pub prepared_marks : Option Loc → Option Callee → (args : List Bool) 
 prepared_marks p None ks = None
 prepared_marks p (Some c) ks = Some (record { call = p; marks = local_marks c ks })
 
--- of a function that has the type that is asked for
+-- the marks for a function, if it has the type that the call names
 abbrev pub typed_marks : Loc → FuncType → Option Callee → (args : List Bool) → Option PreparedMarks
 typed_marks p ty None ks = None
 typed_marks p ty (Some c) ks = cond (same_func_type (callee_type c) ty) (prepared_marks (Some p) (Some c) ks) None
@@ -89,7 +90,7 @@ abbrev pub slot_marks : Module → Loc → FuncType → Option ℕ → (args : L
 slot_marks m p ty None ks = None
 slot_marks m p ty (Some f) ks = typed_marks p ty (slice_get (callees_of m) f) ks
 
--- so many arguments are taken off; the first one's mark stands first
+-- takes `count` arguments off the stack; the mark of the first argument is first
 abbrev pub takes_marks : (count : ℕ) → (prepared : List Bool → Option PreparedMarks) → ShadowMarks → ShadowMarks
 takes_marks n prepared k = record k { taint = exchange n [] k.taint; prepared = prepared (reverse (take n k.taint.operands)) }
 
@@ -105,15 +106,15 @@ abbrev pub bits_prepared : Option PreparedMarks → List Bool
 bits_prepared None = []
 bits_prepared (Some p) = p.marks
 
--- a frame is made with the locals that were prepared for it
+-- a frame begins with the locals that were prepared for it
 abbrev pub begins_marks : ShadowMarks → ShadowMarks
 begins_marks k = record k { taint = begin_frame (bits_prepared k.prepared) k.taint; prepared = None }
 
--- an entry begins anew; its arguments are not marked
+-- an entry starts anew, with arguments that are not marked
 abbrev pub enters_marks : (args : List Value) → Option Callee → ShadowMarks → ShadowMarks
 enters_marks args c k = record { taint = no_frames k.taint; prepared = prepared_marks None c (each_marked false args); held = []; given = [] }
 
--- a host function is called with what is prepared, and what it gives is marked where it is a source
+-- a host function is called with what is prepared, and what it gives is marked if it is a source
 abbrev pub answers_marks : Watch → (func : ℕ) → (results : List Value) → List HostWrite → Option PreparedMarks → ShadowMarks → ShadowMarks
 answers_marks w f vs ws None k = k
 answers_marks w f vs ws (Some p) k =
@@ -159,7 +160,7 @@ event_marks m sh (events.CallPost p vs) k = takes_given_marks k
 event_marks m sh (events.Return p vs) k = holds_results_marks sh.frames k
 event_marks m sh (events.Stray h) k = k
 
--- how an item that is fit for a state moves its marks
+-- how an item that is fit for a state moves the marks
 abbrev pub item_marks : Module → Watch → Shadow → TraceItem → ShadowMarks → ShadowMarks
 item_marks m w sh (entry c) k = enters_marks c.args (slice_get (callees_of m) c.func) k
 item_marks m w sh (host_call f vs rs ws) k = answers_marks w f rs ws k.prepared k
@@ -171,11 +172,12 @@ abbrev pub with_marks : ShadowMarks → Option Shadow → Option TaintedShadow
 with_marks k None = None
 with_marks k (Some sh) = Some (record { state = sh; marks = k })
 
--- what an item makes of the state and its marks, within this number of pages; none where it does not find what it names
+-- the state and the marks that an item makes, with at most `limit` pages; `None` if the item does not find what it
+-- names
 abbrev pub tainted_effect : Module → (limit : ℕ) → Watch → TaintedShadow → TraceItem → Option TaintedShadow
 tainted_effect m limit w sh i = with_marks (item_marks m w sh.state i sh.marks) (effect m limit sh.state i)
 
--- what items make of them, one after another
+-- the state and the marks that items make, one after another
 abbrev pub tainted_effects : Module → (limit : ℕ) → Watch → Option TaintedShadow → List TraceItem → Option TaintedShadow
 tainted_effects m limit w sh [] = sh
 tainted_effects m limit w sh (i ∷ is) = tainted_effects m limit w (option_and_then (λ (sh : TaintedShadow). tainted_effect m limit w sh i) sh) is

@@ -16,21 +16,21 @@ use std::marker::Model;
 use std::mem::size_of;
 use wasm_num::{BlockKind, NoMemory, ValType};
 
-/// A block, a loop or a part of an `if`: its kind, and its type as it is written.
+/// A block, a loop or a branch of an `if`: its kind, and its block type as the module has it.
 #[derive(Clone, Copy)]
 pub struct Block {
     pub kind: BlockKind,
     pub ty: BlockType,
 }
 
-/// How many values a block takes, and how many a branch to its label. (Standard, 4.4.6)
+/// How many values a block takes, and how many a branch to its label takes. (Standard, 4.4.6)
 #[derive(Clone, Copy)]
 pub(crate) struct Counts {
     pub starts: usize,
     pub arity: usize,
 }
 
-// How many values a block of this kind takes, and how many a branch to its label, where it leaves so many.
+// The counts of a block of this kind that takes `starts` values and leaves `results`.
 fn counts_for(kind: BlockKind, starts: usize, results: usize) -> Counts
     ensures { (t : func_type) → starts ≡ length t.params → results ≡ length t.results → result ≡ record { starts = length t.params; arity = label_arity kind t } }
 {
@@ -42,7 +42,7 @@ fn counts_for(kind: BlockKind, starts: usize, results: usize) -> Counts
 }
 
 impl Block {
-    /// The counts of a block whose type is there.
+    /// The counts of the block in `module`, which has its type.
     pub fn counts(&self, module: &Module) -> Counts
         requires { (t : func_type) × (block_type «module».now.types self.now.ty ≡ Some t) }
         ensures { (t : func_type) → block_type «module».now.types self.now.ty ≡ Some t → result ≡ record { starts = length t.params; arity = label_arity self.now.kind t } }
@@ -52,7 +52,8 @@ impl Block {
     }
 }
 
-// What begins at a position. Types that are written out stand apart from those of an index, so that it has eight bytes.
+/// What begins at a position. `Written` has a type that is written out, `Indexed` the index of a type: apart, so that
+/// each takes eight bytes.
 #[derive(Clone, Copy)]
 pub(crate) enum Begun {
     Nothing,
@@ -60,7 +61,7 @@ pub(crate) enum Begun {
     Indexed(BlockKind, u32),
 }
 
-// A position of a function. Contracts see the block that begins there, if one does.
+/// A position of a function. Contracts see the block that begins there, if one does.
 #[derive(Drop)]
 pub(crate) struct Place {
     begun: Begun,
@@ -76,11 +77,11 @@ impl Model for Place {
     ghost view = { λ a. begun_block a.begun };
 }
 
-// A row has one place for each position.
+// There is a place for each position of the module.
 const _: () = prove!(size_of::<Place>() <= 8);
 
 impl Place {
-    // No block begins.
+    // A position at which no block begins.
     fn none() -> Place
         ensures { result ≡ None }
     {
@@ -89,7 +90,7 @@ impl Place {
         }
     }
 
-    // A block of this kind and type begins.
+    // A position at which a block of this kind and type begins.
     fn new(kind: BlockKind, ty: BlockType) -> Place
         ensures { result ≡ of_kind kind ty }
     {
@@ -101,7 +102,7 @@ impl Place {
         Place { begun }
     }
 
-    // The block that begins, if one does.
+    // The block that begins at the position, if one does.
     fn block(&self) -> Option<Block>
         ensures { result ≡ self.now }
     {
@@ -123,7 +124,7 @@ impl Place {
     }
 }
 
-// Notes a position where no block begins.
+// Appends a position at which no block begins.
 fn note_none(row: &mut Vec<Place>) -> Result<(), NoMemory>
     ensures { OnOk result (row.new.items ≡ row.old.items ++ None ∷ []) }
 {
@@ -131,7 +132,7 @@ fn note_none(row: &mut Vec<Place>) -> Result<(), NoMemory>
     Ok(())
 }
 
-// Notes where a block, a loop or a part of an `if` begins, and the positions inside.
+// Appends the position at which a block, a loop or a branch of an `if` begins, and the positions inside.
 #[cycle(rows)]
 fn note_part(
     row: &mut Vec<Place>,
@@ -145,7 +146,7 @@ fn note_part(
     note_code(row, body)
 }
 
-// Notes a block or a loop, or an `if` with one part, and its end.
+// Appends the positions of a block, a loop, or an `if` without `else`, and that of its end.
 #[cycle(rows)]
 fn note_block(
     row: &mut Vec<Place>,
@@ -159,7 +160,7 @@ fn note_block(
     note_none(row)
 }
 
-// Notes the positions of an instruction.
+// Appends the positions of an instruction.
 #[cycle(rows)]
 fn note_instr(row: &mut Vec<Place>, instr: &Instr) -> Result<(), NoMemory>
     ensures { OnOk result ((t : Tree) → row.new.items ++ code_row t ≡ row.old.items ++ code_row (before instr.now t)) }
@@ -176,7 +177,7 @@ fn note_instr(row: &mut Vec<Place>, instr: &Instr) -> Result<(), NoMemory>
     }
 }
 
-// Notes the positions of code.
+// Appends the positions of code.
 #[cycle(rows)]
 fn note_code(row: &mut Vec<Place>, code: &Code) -> Result<(), NoMemory>
     ensures { OnOk result (row.new.items ≡ row.old.items ++ code_row code.now) }
@@ -203,7 +204,7 @@ impl Model for Row {
 }
 
 impl Row {
-    // The block that begins at a position; none at the function's entry.
+    // The block that begins at a position; `None` at the function's entry.
     fn at(&self, position: i32) -> Option<Block>
         ensures { result ≡ row_block self.now position }
     {
@@ -217,7 +218,7 @@ impl Row {
     }
 }
 
-// The row of a function: empty for one that is not the module's own.
+// The row of a function; empty if the module does not define the function.
 fn row_of(alloc: Global, function: &Function) -> Result<Row, NoMemory>
     ensures { IfOk result (λ r. r ≡ callee_row (callee_for function.now)) }
 {
@@ -228,12 +229,13 @@ fn row_of(alloc: Global, function: &Function) -> Result<Row, NoMemory>
     Ok(Row { places })
 }
 
-/// Which block begins at each place of a module. Contracts see a row for each function. It is as long as the code.
+/// Which block begins at each place of a module. Contracts see a row for each function. Takes memory in proportion to
+/// the code.
 pub(crate) struct Blocks {
     rows: Vec<Row>,
 }
 
-// By a call of its own, so that a way out past it is one step in a proof.
+// Dropped by hand: each early return past a value of this type then costs one proof step instead of one per field.
 impl Drop for Blocks {
     fn drop(self) {
         let Blocks { rows: _rows } = self;
@@ -250,7 +252,7 @@ impl Model for Blocks {
 }
 
 impl Blocks {
-    /// The blocks of these functions, in one pass over their code.
+    /// The blocks of these functions, from one pass over their code. `NoMemory` if memory runs out.
     pub fn new(alloc: Global, functions: &[Function]) -> Result<Blocks, NoMemory>
         ensures { IfOk result (λ b. b ≡ map callee_row (map callee_for functions.now)) }
     {
@@ -261,7 +263,7 @@ impl Blocks {
         Ok(Blocks { rows })
     }
 
-    /// The block that begins at a place of the module, if one does. It takes constant time.
+    /// The block that begins at a place of the module, if one does. Takes constant time.
     pub fn at(&self, loc: Loc) -> Option<Block>
         ensures { (m : valid_module) → self.now ≡ block_rows m → result ≡ block_at m loc }
     {

@@ -11,7 +11,7 @@ use run_store::{Function, zero};
 use std::alloc::AllocError;
 use wasm_num::NoMemory;
 
-/// The locals that a function begins with: its arguments, and zeros for those that it declares.
+/// The locals that a function begins with: its arguments, and zeros for the locals that it declares.
 pub(crate) fn begun_locals(function: &Function, args: Vec<Marked>) -> Result<Vec<Marked>, NoMemory>
     ensures { IfOk result (λ v. v.items ≡ begun_with (callee_for function.now) args.items) }
 {
@@ -22,7 +22,7 @@ pub(crate) fn begun_locals(function: &Function, args: Vec<Marked>) -> Result<Vec
     Ok(locals)
 }
 
-// So many zeros of one type are appended.
+// Appends the zeros of a group of locals.
 fn push_zeros_of(locals: &mut Vec<Marked>, group: &Group) -> Result<(), NoMemory>
     ensures { OnOk result (locals.new.items ≡ locals.old.items ++ zero_locals (replicate group.now.count group.now.ty)) }
 {
@@ -39,7 +39,7 @@ fn push_zeros_of(locals: &mut Vec<Marked>, group: &Group) -> Result<(), NoMemory
     Ok(())
 }
 
-// Zeros for declared locals are appended.
+// Appends zeros for declared locals.
 fn push_zeros(locals: &mut Vec<Marked>, groups: &[Group]) -> Result<(), NoMemory>
     ensures { OnOk result (locals.new.items ≡ locals.old.items ++ zero_locals (declared_locals groups.now)) }
 {

@@ -1,4 +1,4 @@
-// Marks of lists of values and of bytes.
+// Marks of values and of bytes.
 
 ghost use Rattle.std.specs.Prelude.{◌≡◌, true, false, length, replicate, IfOk};
 ghost use Rattle.wasm_sem.specs.Execution.{is_within, written_memory};
@@ -16,7 +16,7 @@ use std::alloc::{AllocError, Global};
 use wasm_num::{NoMemory, Value, Values};
 use wasm_sem::HostWrite;
 
-/// Whether one of these is marked.
+/// Whether one of the marks is set.
 pub(crate) fn is_some_marked(marks: &[bool]) -> bool
     ensures { result ≡ some_marked marks.now }
 {
@@ -28,14 +28,14 @@ pub(crate) fn is_some_marked(marks: &[bool]) -> bool
     false
 }
 
-/// All are marked so.
+/// Sets each of the marks to `mark`.
 pub(crate) fn mark_all(marks: &mut [bool], mark: bool)
     ensures { marks.new ≡ replicate (length marks.old) mark }
 {
     marks.fill(mark);
 }
 
-/// Whether a function is among these.
+/// Whether a function is among `funcs`.
 pub(crate) fn is_watched(funcs: &[u32], func: u32) -> bool
     ensures { result ≡ is_watched funcs.now func }
 {
@@ -65,7 +65,7 @@ pub(crate) fn marked_values(
     Ok(list)
 }
 
-/// These values, not marked.
+/// These values, without marks.
 pub(crate) fn unmarked(alloc: Global, values: &[Value]) -> Result<Vec<Marked>, NoMemory>
     ensures { IfOk result (λ v. v.items ≡ marked_values false values.now) }
 {
@@ -79,7 +79,8 @@ pub(crate) fn unmarked(alloc: Global, values: &[Value]) -> Result<Vec<Marked>, N
     Ok(list)
 }
 
-/// A warning for each marked argument of a call, in order. An `Err` comes also where they are more than 32 bits number.
+/// A warning for each marked argument of a call, in order. `NoMemory` if memory runs out, or if there are 2^32
+/// arguments or more.
 pub(crate) fn argument_warnings(
     alloc: Global,
     loc: Loc,
@@ -104,7 +105,7 @@ pub(crate) fn argument_warnings(
     Ok(warnings)
 }
 
-// Bytes are written within the memory, and are not marked.
+// Writes bytes, which end within the memory, and clears their marks.
 fn write(memory: &mut Memory, marks: &mut [bool], write: &HostWrite)
     requires aligned { length marks.old ≡ length memory.old.bytes }
     requires within { is_within (length memory.old.bytes) write.now ≡ true }
@@ -119,7 +120,7 @@ fn write(memory: &mut Memory, marks: &mut [bool], write: &HostWrite)
     mark_all(&mut marks[start..start + bytes.len()], false);
 }
 
-/// The writes are done in order within the memory, and what they write is not marked.
+/// Does the writes in order, which end within the memory, and clears the marks of what they write.
 pub(crate) fn write_all(memory: &mut Memory, marks: &mut [bool], writes: &[HostWrite])
     requires aligned { length marks.old ≡ length memory.old.bytes }
     requires within { lie_within (length memory.old.bytes) writes.now ≡ true }

@@ -1,4 +1,4 @@
-// The state that items rebuild.
+// The shadow: the state that items rebuild.
 
 ghost use Rattle.std.specs.Prelude.{◌≡◌, ◌+◌, ◌∷◌, [], length, slice_get, None, Some, IsSome, IfOk, OnOk, OnErr};
 ghost use Rattle.hook_select.specs.declared.Event.TheVariants.{Begin};
@@ -32,7 +32,7 @@ use wasm_num::{BlockKind, NoMemory, NumOp, Value, Values};
 use wasm_sem::{HostWrite, Script};
 use wasm_valid::ValidModule;
 
-// Locals that are prepared for a function, and the call that prepared them.
+// The locals of a function that is about to begin, and the place of the call that prepared them.
 #[derive(Drop)]
 struct Prepared {
     call: Option<Loc>,
@@ -47,7 +47,7 @@ impl Model for Prepared {
     ghost view = { λ a. record { call = a.call; locals = a.locals.items } };
 }
 
-// Values that a branch takes along, the lowest first, and how many labels it leaves beside the innermost.
+// The values that a branch takes with it, the lowest first, and how many labels it has yet to leave before its target.
 #[derive(Drop)]
 struct Held {
     operands: Vec<Marked>,
@@ -62,7 +62,7 @@ impl Model for Held {
     ghost view = { λ a. record { operands = a.operands.items; label = a.label } };
 }
 
-/// The machine's state, with a mark on each byte and value, as the items told so far rebuild it; and the warnings so far.
+/// The machine's state, with a mark on each byte and value, as the items so far rebuild it, and the warnings so far.
 pub struct Shadow<'m> {
     alloc: Global,
     valid: &'m ValidModule,
@@ -80,7 +80,7 @@ pub struct Shadow<'m> {
     warnings: Vec<Warning>,
 }
 
-// By a call of its own, so that a way out past it is one step in a proof.
+// Dropped by hand: each early return past a value of this type then costs one proof step instead of one per field.
 impl Drop for Shadow<'_> {
     fn drop(self) {
         let Shadow {
@@ -130,9 +130,11 @@ impl<'m> Model for Shadow<'m> {
 }
 
 impl<'m> Shadow<'m> {
-    /// The state before the first step of a run of a module under a script with which it links: its memory, with the data
-    /// of its segments, and its globals. Nothing is marked. The results of the sources will be, and marked arguments of the
-    /// sinks be warned of. (Standard, 4.5.4)
+    /// The state before the first step of a run of a module under a script with which it links: its memory, with the
+    /// data of its segments, and its globals. (Standard, 4.5.4)
+    ///
+    /// Nothing is marked yet. The results of imports in `sources` will be marked, and there will be a warning for each
+    /// marked argument of an import in `sinks`. `NoMemory` if memory runs out.
     pub fn new(
         alloc: Global,
         valid: &'m ValidModule,
@@ -192,14 +194,14 @@ impl<'m> Shadow<'m> {
         self.warnings.as_slice()
     }
 
-    /// The bytes of the memory now, none without one.
+    /// The bytes of the memory now; none if there is no memory.
     pub fn bytes(&self) -> &[u8]
         ensures { result.now ≡ self.now.shadow.state.memory }
     {
         self.memory.bytes()
     }
 
-    // The event of an instruction on operands alone.
+    // Takes the event of an instruction that only concerns operands.
     fn take_on_operands(&mut self, e: &Event) -> Result<(), NoMemory>
         requires kind { IsOnOperands e.now }
         requires fit { IsFitEvent e.now self.old }
@@ -246,7 +248,7 @@ impl<'m> Shadow<'m> {
         }
     }
 
-    // A number instruction has this result.
+    // A number instruction had this result.
     fn take_number(&mut self, op: NumOp, value: Value)
         requires fit { IsSome (number_effect op value self.old.shadow.state) }
         ensures { MovesStanding (exchanged (length (num_operands op)) (joined op value self.old.shadow ∷ [])) self.old self.new }
@@ -256,7 +258,7 @@ impl<'m> Shadow<'m> {
         self.stack.replace(count, Marked { value, mark });
     }
 
-    // The event of an instruction on a local.
+    // Takes the event of an instruction on a local.
     fn take_on_local(&mut self, e: &Event) -> Result<(), NoMemory>
         requires kind { IsOnLocal e.now }
         requires fit { IsFitEvent e.now self.old }
@@ -292,7 +294,7 @@ impl<'m> Shadow<'m> {
         }
     }
 
-    // The event of an instruction on a global.
+    // Takes the event of an instruction on a global.
     fn take_on_global(&mut self, e: &Event) -> Result<(), NoMemory>
         requires kind { IsOnGlobal e.now }
         requires fit { IsFitEvent e.now self.old }
@@ -324,7 +326,7 @@ impl<'m> Shadow<'m> {
         }
     }
 
-    // The mark of a global; none past the last one.
+    // The mark of a global; `false` past the last one.
     fn global_mark(&self, index: u32) -> bool
         ensures { result ≡ nth_mark self.now.shadow.marks.taint.globals index }
     {
@@ -334,7 +336,7 @@ impl<'m> Shadow<'m> {
         }
     }
 
-    // The event of an instruction on the memory.
+    // Takes the event of an instruction on the memory.
     fn take_on_memory(&mut self, e: &Event) -> Result<(), NoMemory>
         requires kind { IsOnMemory e.now }
         requires fit { IsFitEvent e.now self.old }
@@ -388,7 +390,7 @@ impl<'m> Shadow<'m> {
         }
     }
 
-    // Whether one of the bytes that a load reads is marked. They lie within the memory.
+    // Whether one of the bytes that a load reads is marked. The load ends within the memory.
     fn read_mark(&self, op: LoadOp, address: u32, offset: u32) -> bool
         requires { IsSome (load_value op (address + offset) self.now.shadow.state.memory) }
         ensures { result ≡ read_mark (address + offset) (load_width op) self.now.shadow.marks.taint }
@@ -397,7 +399,7 @@ impl<'m> Shadow<'m> {
         is_some_marked(&self.memory_marks[start..start + op.width() as usize])
     }
 
-    // The lowest bytes of a value are written, marked as it is. They lie within the memory.
+    // Writes the lowest bytes of a value, each with the value's mark. The store ends within the memory.
     fn store(&mut self, op: StoreOp, address: u32, offset: u32, value: Value, mark: bool)
         requires { IsSome (stored_memory op (address + offset) value self.old.shadow.state.memory) }
         ensures { StoresBytes (address + offset) op value mark self.old self.new }
@@ -412,7 +414,7 @@ impl<'m> Shadow<'m> {
         );
     }
 
-    // The memory has so many pages more, within its bound, which are not marked.
+    // Adds `by` pages to the memory, within its bound. Their bytes are not marked.
     fn grow(&mut self, by: u32) -> Result<(), NoMemory>
         requires { IsSome (grown_memory self.old.limit by self.old.shadow.state.memory) }
         ensures ok { OnOk result (Grows by self.old self.new) }
@@ -429,7 +431,7 @@ impl<'m> Shadow<'m> {
         Ok(())
     }
 
-    // The values that a branch takes to a label, below so many operands, are held.
+    // Holds the values that a branch takes to a label, which are below the topmost `above` operands.
     fn hold(&mut self, label: usize, above: usize) -> Result<(), NoMemory>
         requires above { Has above self.old.shadow.state.frames }
         requires fit { IsSome (held_below above label self.old.shadow.state) }
@@ -442,7 +444,7 @@ impl<'m> Shadow<'m> {
         Ok(())
     }
 
-    // The event of a branch.
+    // Takes the event of a branch.
     fn take_branch(&mut self, e: &Event) -> Result<(), NoMemory>
         requires kind { IsBranch e.now }
         requires fit { IsFitEvent e.now self.old }
@@ -473,7 +475,8 @@ impl<'m> Shadow<'m> {
         }
     }
 
-    // The innermost label goes; what stands on it goes to the label around it, and at the function's it is given.
+    // Closes the innermost label without a branch. Its operands go to the label around it; if it is the function's,
+    // they are given.
     fn fall(&mut self) -> Result<(), NoMemory>
         requires held { self.old.shadow.state.held ≡ None }
         requires fit { IsSome (ended self.old.shadow) }
@@ -491,7 +494,7 @@ impl<'m> Shadow<'m> {
         Ok(())
     }
 
-    // The innermost label goes.
+    // Closes the innermost label. If a branch holds values, they go on towards its target.
     fn end(&mut self) -> Result<(), NoMemory>
         requires fit { IsSome (ended self.old.shadow) }
         ensures ok { OnOk result (EndsLabel self.old self.new) }
@@ -520,7 +523,7 @@ impl<'m> Shadow<'m> {
         Ok(())
     }
 
-    // The event of an end, or the one behind a call.
+    // Takes the event of an end, or the event after a call.
     fn take_return(&mut self, e: &Event) -> Result<(), NoMemory>
         requires kind { IsReturn e.now }
         requires fit { IsFitEvent e.now self.old }
@@ -534,7 +537,7 @@ impl<'m> Shadow<'m> {
         }
     }
 
-    // The frame that made a call has what it gave.
+    // Puts what a call gave on top of the frame that made the call.
     fn take_given(&mut self) -> Result<(), NoMemory>
         requires frame { Has 0 self.old.shadow.state.frames }
         requires given { IsSome self.old.shadow.state.given }
@@ -551,7 +554,6 @@ impl<'m> Shadow<'m> {
         Ok(())
     }
 
-    // A function of the module.
     fn function(&self, func: u32) -> Function<'m>
         requires { IsSome (slice_get (callees_of self.now.module) func) }
         ensures { slice_get (callees_of self.now.module) func ≡ Some (callee_for result) }
@@ -559,7 +561,7 @@ impl<'m> Shadow<'m> {
         self.functions[func as usize]
     }
 
-    // The function begins whose locals are prepared.
+    // Begins the function whose locals are prepared.
     fn begin(&mut self, func: u32) -> Result<(), NoMemory>
         requires fit { IsSome (function_begun func self.old) }
         ensures ok { OnOk result (BeginsFunction func self.old self.new) }
@@ -580,7 +582,6 @@ impl<'m> Shadow<'m> {
         }
     }
 
-    // A block begins.
     fn open(&mut self, loc: Loc) -> Result<(), NoMemory>
         requires fit { IsSome (block_begun loc self.old) }
         ensures ok { OnOk result (BeginsBlock loc self.old self.new) }
@@ -594,7 +595,7 @@ impl<'m> Shadow<'m> {
             .open(block.kind, loc.instr, counts.starts, counts.arity)
     }
 
-    // The event of a function or a block that begins.
+    // Takes the event of a function or a block that begins.
     fn take_begin(&mut self, loc: Loc, kind: BlockKind) -> Result<(), NoMemory>
         requires fit { IsFitEvent (Begin loc kind) self.old }
         ensures ok { OnOk result (TakesItem (event (Begin loc kind)) self.old self.new) }
@@ -606,7 +607,7 @@ impl<'m> Shadow<'m> {
         }
     }
 
-    // A call takes its arguments off, which are prepared.
+    // Takes the arguments of a call off the stack, and prepares the locals of its function.
     fn call(&mut self, loc: Loc, callee: u32) -> Result<(), NoMemory>
         requires fit { IsSome (called callee self.old) }
         ensures ok { OnOk result (CallsFunction loc callee self.old self.new) }
@@ -624,7 +625,8 @@ impl<'m> Shadow<'m> {
         Ok(())
     }
 
-    // What a call through a slot prepares for the function there, where there is one and it has the type that is asked for.
+    // What a call through a slot prepares: the locals of the function in the slot; `None` if the slot has no function
+    // or one of another type.
     fn prepare(
         &self,
         loc: Loc,
@@ -650,7 +652,7 @@ impl<'m> Shadow<'m> {
         }))
     }
 
-    // A call through a slot takes the slot's number and its arguments off.
+    // Takes the number of the slot and the arguments of a call off the stack, and prepares the locals of its function.
     fn call_slot(&mut self, loc: Loc, ty: u32, callee: Option<u32>) -> Result<(), NoMemory>
         requires fit { IsSome (called_through ty callee self.old) }
         ensures ok { OnOk result (CallsSlot loc ty callee self.old self.new) }
@@ -665,7 +667,7 @@ impl<'m> Shadow<'m> {
         Ok(())
     }
 
-    // The event of a call.
+    // Takes the event of a call.
     fn take_call(&mut self, e: &Event) -> Result<(), NoMemory>
         requires kind { IsCallEvent e.now }
         requires fit { IsFitEvent e.now self.old }
@@ -684,8 +686,8 @@ impl<'m> Shadow<'m> {
         }
     }
 
-    /// The start or a call of the script is entered with these arguments, which are not marked. After an `Err` nothing has
-    /// changed.
+    /// Takes the entry of the start or of a call of the script with these arguments, which are not marked. `NoMemory`
+    /// if memory runs out; nothing has then changed.
     pub fn enter(&mut self, func: u32, args: &Values) -> Result<(), NoMemory>
         requires fit { IsItemFit self.old.module self.old.limit self.old.shadow.state (entry (record { func = func; args = args.now })) }
         ensures ok { OnOk result (TakesItem (entry (record { func = func; args = args.now })) self.old self.new) }
@@ -700,7 +702,7 @@ impl<'m> Shadow<'m> {
         Ok(())
     }
 
-    // The warnings of the call that is prepared, where it calls a sink and an instruction makes it.
+    // The warnings of the call that is prepared, if it calls a sink and an instruction made the call.
     fn warnings_of(&self, import: u32) -> Result<Vec<Warning>, NoMemory>
         requires { IsSome self.now.shadow.state.prepared }
         ensures { IfOk result (λ ws. ws.items ≡ call_warnings self.now.watch import self.now.shadow.marks.prepared) }
@@ -716,9 +718,10 @@ impl<'m> Shadow<'m> {
         }
     }
 
-    /// A host function answers with these results and writes the call whose arguments are prepared. The results are marked
-    /// where it is a source, and what it writes is not. Each marked argument is warned of where it is a sink, unless the
-    /// script entered it. After an `Err` nothing has changed.
+    /// Takes a host call: the answer to the call whose arguments are prepared, with these results and writes. The
+    /// results are marked if the import is a source; the bytes that are written are not. There is a warning for each
+    /// marked argument if the import is a sink, unless the script entered it. `NoMemory` if memory runs out; nothing
+    /// has then changed.
     pub fn host(
         &mut self,
         import: u32,
@@ -739,7 +742,8 @@ impl<'m> Shadow<'m> {
         Ok(())
     }
 
-    /// An instruction, or a function or block that begins or ends, is told by its event. After an `Err` nothing has changed.
+    /// Takes the event of an instruction, or of a function or block that begins or ends. `NoMemory` if memory runs out;
+    /// nothing has then changed.
     pub fn take(&mut self, e: &Event) -> Result<(), NoMemory>
         requires fit { IsItemFit self.old.module self.old.limit self.old.shadow.state (event e.now) }
         ensures ok { OnOk result (TakesItem (event e.now) self.old self.new) }

@@ -1,4 +1,4 @@
-// Operands, labels and frames, with a mark on each value.
+// The stack of a shadow: operands, labels and frames, with a mark on each value.
 
 ghost use Rattle.std.specs.Prelude.{◌≡◌, ◌+◌, ◌<◌, ◌≤◌, ◌∷◌, [], OnOk, OnErr, IfOk, IfErr, length, reverse, take, slice_set};
 ghost use Rattle.module_ast.specs.Lists.{first_or};
@@ -10,7 +10,7 @@ use std::alloc::Global;
 use std::marker::Model;
 use wasm_num::{BlockKind, NoMemory};
 
-/// A label: its block, how many values a branch to it takes, and how many operands stand below its own.
+/// A label: its block, how many values a branch to it takes, and how many operands are below its own.
 #[derive(Drop)]
 pub(crate) struct Label {
     kind: BlockKind,
@@ -27,14 +27,14 @@ impl Model for Label {
     ghost view = { λ a. record { kind = a.kind; begin = a.begin; arity = a.arity; height = a.height } };
 }
 
-/// A frame: its function, its locals, and how many labels stand below its own.
+/// A frame: its function, its locals, and how many labels are below its own.
 pub(crate) struct Frame {
     func: u32,
     locals: Vec<Marked>,
     labels: usize,
 }
 
-// By a call of its own, so that a way out past it is one step in a proof.
+// Dropped by hand: each early return past a value of this type then costs one proof step instead of one per field.
 impl Drop for Frame {
     fn drop(self) {
         let Frame {
@@ -53,14 +53,15 @@ impl Model for Frame {
     ghost view = { λ a. record { func = a.func; locals = a.locals.items; labels = a.labels } };
 }
 
-/// The operands, labels and frames of a shadow, each in one vector. Contracts see the frames as they stand, and the marks.
+/// The operands, labels and frames of a shadow, each in one vector. Contracts see the frames of the machine, and the
+/// marks. A call fails only if memory runs out; nothing has then changed.
 pub(crate) struct Stack {
     operands: Vec<Marked>,
     labels: Vec<Label>,
     frames: Vec<Frame>,
 }
 
-// By a call of its own, so that a way out past it is one step in a proof.
+// Dropped by hand: each early return past a value of this type then costs one proof step instead of one per field.
 impl Drop for Stack {
     fn drop(self) {
         let Stack {
@@ -83,7 +84,6 @@ impl Model for Stack {
 }
 
 impl Frame {
-    // A local, which is there, is set.
     fn set_local(&mut self, index: usize, value: Marked)
         requires { index < length self.old.locals }
         ensures { self.new ≡ record self.old { locals = slice_set self.old.locals index value } }
@@ -93,7 +93,7 @@ impl Frame {
 }
 
 impl Stack {
-    /// No operand, no label and no frame. It takes no memory.
+    /// A stack without operands, labels and frames. Takes no memory.
     pub fn new(alloc: Global) -> Stack
         ensures { result ≡ record { frames = []; operands = []; locals = [] } }
     {
@@ -104,7 +104,7 @@ impl Stack {
         }
     }
 
-    /// A value is put on top.
+    /// Puts a value on top.
     pub fn push(&mut self, value: Marked) -> Result<(), NoMemory>
         requires { Has 0 self.old.frames }
         ensures ok { OnOk result (self.new ≡ exchanged 0 (value ∷ []) self.old) }
@@ -114,7 +114,7 @@ impl Stack {
         Ok(())
     }
 
-    /// So many values are taken off the top.
+    /// Drops the topmost `count` values.
     pub fn pop(&mut self, count: usize)
         requires { Has count self.old.frames }
         ensures { self.new ≡ exchanged count [] self.old }
@@ -122,7 +122,7 @@ impl Stack {
         self.operands.truncate(self.operands.len() - count);
     }
 
-    /// A value stands for so many on top, of which there is one.
+    /// Replaces the topmost `count` values, at least one, by `value`.
     pub fn replace(&mut self, count: usize, value: Marked)
         requires some { 1 ≤ count }
         requires has { Has count self.old.frames }
@@ -133,7 +133,7 @@ impl Stack {
         self.operands.truncate(last + 1);
     }
 
-    /// These values are put on top, in order.
+    /// Puts these values on top, in order.
     pub fn extend(&mut self, values: &[Marked]) -> Result<(), NoMemory>
         requires { Has 0 self.old.frames }
         ensures ok { OnOk result (self.new ≡ exchanged 0 (reverse values.now) self.old) }
@@ -143,7 +143,7 @@ impl Stack {
         Ok(())
     }
 
-    /// A block begins, with so many operands of the label around it.
+    /// Begins a block, whose first operands are the topmost `starts` values.
     pub fn open(
         &mut self,
         kind: BlockKind,
@@ -164,7 +164,7 @@ impl Stack {
         Ok(())
     }
 
-    /// The innermost label goes, and its operands stay.
+    /// Closes the innermost label. Its operands stay.
     pub fn close(&mut self)
         requires { IsNested self.old.frames }
         ensures { self.new ≡ label_closed self.old }
@@ -172,7 +172,7 @@ impl Stack {
         self.labels.truncate(self.labels.len() - 1);
     }
 
-    /// The innermost label goes with its operands, and these come to the label around it.
+    /// Closes the innermost label and drops its operands. `values` go to the label around it.
     pub fn land(&mut self, values: &[Marked]) -> Result<(), NoMemory>
         requires { IsNested self.old.frames }
         ensures ok { OnOk result (self.new ≡ label_landed (reverse values.now) self.old) }
@@ -188,7 +188,7 @@ impl Stack {
         Ok(())
     }
 
-    /// A function begins with these locals, which come back where there is no memory for it.
+    /// Begins a function with these locals, which are given back if memory runs out.
     pub fn enter(&mut self, func: u32, arity: usize, locals: Vec<Marked>) -> Result<(), Vec<Marked>>
         ensures ok { OnOk result (self.new ≡ frame_entered func arity locals.items self.old) }
         ensures back { IfErr result (λ back. back.items ≡ locals.items) }
@@ -212,7 +212,7 @@ impl Stack {
         Ok(())
     }
 
-    /// The innermost frame goes, with its operands and locals.
+    /// Leaves the innermost frame, and drops its operands and locals.
     pub fn leave(&mut self)
         requires { IsOutermost self.old.frames }
         ensures { self.new ≡ frame_left self.old }
@@ -223,7 +223,7 @@ impl Stack {
         self.frames.truncate(self.frames.len() - 1);
     }
 
-    /// All frames go.
+    /// Leaves all frames.
     pub fn clear(&mut self)
         ensures { self.new ≡ record { frames = []; operands = []; locals = [] } }
     {
@@ -232,7 +232,7 @@ impl Stack {
         self.frames.truncate(0);
     }
 
-    /// A local, which is there, is set.
+    /// Sets a local of the innermost frame.
     pub fn set_local(&mut self, index: u32, value: Marked)
         requires { HasLocal index self.old.frames }
         ensures { self.new ≡ local_set index value self.old }
@@ -249,7 +249,7 @@ impl Stack {
         self.operands.len() - self.labels[self.labels.len() - 1].height
     }
 
-    /// How many labels the innermost frame has beside its innermost one.
+    /// How many labels the innermost frame has around its innermost label.
     pub fn outer_count(&self) -> usize
         requires { Has 0 self.now.frames }
         ensures { result ≡ outer_count self.now.frames }
@@ -257,7 +257,7 @@ impl Stack {
         self.labels.len() - 1 - self.frames[self.frames.len() - 1].labels
     }
 
-    /// How many values a branch takes to the label of this number, counted outwards.
+    /// How many values a branch to the label of this number takes, counted outwards from 0.
     pub fn arity(&self, label: usize) -> usize
         requires { HasLabel label self.now.frames }
         ensures { result ≡ arity_in label self.now.frames }
@@ -265,7 +265,7 @@ impl Stack {
         self.labels[self.labels.len() - 1 - label].arity
     }
 
-    /// So many values below so many others, the lowest first.
+    /// Copies of `count` values below the topmost `above`, the lowest first.
     pub fn values_below(
         &self,
         alloc: Global,
@@ -281,14 +281,14 @@ impl Stack {
         Ok(values)
     }
 
-    /// The mark of the operand with so many above it; none past the lowest.
+    /// The mark of the operand that has `above` operands above it; `false` if there is none.
     pub fn mark(&self, above: usize) -> bool
         ensures { result ≡ nth_mark self.now.operands above }
     {
         above < self.operands.len() && self.operands[self.operands.len() - 1 - above].mark
     }
 
-    /// Whether one of one or two operands on top is marked.
+    /// Whether one of the topmost `count` operands, one or two, is marked.
     pub fn joined(&self, count: usize) -> bool
         requires some { 1 ≤ count }
         requires few { count ≤ 2 }
@@ -297,7 +297,7 @@ impl Stack {
         self.mark(0) || count == 2 && self.mark(1)
     }
 
-    /// The mark of a local of the innermost frame; none past the last one.
+    /// The mark of a local of the innermost frame; `false` past the last one.
     pub fn local_mark(&self, index: u32) -> bool
         requires { Has 0 self.now.frames }
         ensures { result ≡ nth_mark (first_or self.now.locals []) index }

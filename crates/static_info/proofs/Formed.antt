@@ -13,7 +13,7 @@ use Rattle.std.proofs.lemmas.Option.{slice_get-get_or, slice_get_within, get_or_
 use Rattle.wasm_sem.specs.Types.{BlockKind, FuncType, Body, Module, Hooks, HookKey}
 use Rattle.wasm_num.specs.declared.BlockKind.TheVariants as kinds
 use Rattle.module_ast.specs.Lists.{when}
-use Rattle.module_ast.specs.Validation.{IsWhole, push, IsValid, function_types, body_context}
+use Rattle.module_ast.specs.Validation.{IsWhole, push, IsValid, function_types, body_context, deepest, longest_file}
 use Rattle.module_ast.specs.Places.{Scope, Place, Opcode, enters, acts, opens, alternates, closes, at, code_size, code_places, ends_live, places, function_scope}
 use Rattle.module_ast.specs.Structure.{imported_funcs, Tree, Plain, br, br_if, br_table, return_, call, call_indirect}
 use Rattle.module_ast.proofs.Each.{all_both, all_when, all_each, all_filtered, all_flat}
@@ -31,7 +31,7 @@ use Rattle.static_info.proofs.KeysRead.{all_distinct}
 
 -- ---- blocks and tables
 
-position_of : (n : ℕ) → n ≤ 268435456 → IsPosition (pos n)
+position_of : (n : ℕ) → n ≤ longest_file → IsPosition (pos n)
 position_of n l = (omega (arith, ints), omega (arith, ints))
 
 pub when_nil : {A : Type 0} (b : Bool) → when {A = A} b [] ≡ []
@@ -62,11 +62,11 @@ last_label : (ls : List ℕ) (l : ℕ) → ls ++ l ∷ [] ≡ [] → ⊥
 last_label [] l e = cc
 last_label (m ∷ ls) l e = cc
 
-acted : (p : ℕ) (live : Bool) (i : Plain) (scopes : List Scope) → p ≤ 268435456 → HasFewLabels i → (last : ℤ) (rest : List TableInfo) → last <ℤ pos p
+acted : (p : ℕ) (live : Bool) (i : Plain) (scopes : List Scope) → p ≤ longest_file → HasFewLabels i → (last : ℤ) (rest : List TableInfo) → last <ℤ pos p
     → ((l : ℤ) → l <ℤ pos (p + 1) → AreTablesAfter l rest) → AreTablesAfter last (place_tables (at p live (acts i) scopes) ++ rest)
 acted p false i scopes le h last rest m k = k last (omega (arith, ints))
 acted p true (br_table ls l) scopes le h last rest m k =
-    (m, position_of p le, (last_label ls l, All-append (λ x. x ≤ 1002) ls (l ∷ []) h.1 (All-cons (λ x. x ≤ 1002) l [] h.0 (All-nil (λ x. x ≤ 1002)))), k (pos p) (omega (arith, ints)))
+    (m, position_of p le, (last_label ls l, All-append (λ x. x ≤ deepest) ls (l ∷ []) h.1 (All-cons (λ x. x ≤ deepest) l [] h.0 (All-nil (λ x. x ≤ deepest)))), k (pos p) (omega (arith, ints)))
 acted p true i scopes le h last rest m k = k last (omega (arith, ints))
 
 no_table : (p : ℕ) (live : Bool) (last : ℤ) (rest : List TableInfo) → last <ℤ pos p → ((l : ℤ) → l <ℤ pos (p + 1) → AreTablesAfter l rest) → AreTablesAfter last (when live [] ++ rest)
@@ -94,7 +94,7 @@ told_body f After t none code few labels =
     (code_in f After HasFewLabels t (s ∷ []) true 0 code (omega arith) labels (negsuc 0) (f last ++ []) before_zero
     (λ l n. subst (λ xs. After l (xs ++ [])) (sym (t.closing s.end (ends_live true code) s [])) (none l)))
 
-pub body_formed : (code : Tree) → code_size code + 1 ≤ 268435456 → EachPlain HasFewLabels code → AreBlocks (live_blocks code) × AreTablesAfter (negsuc 0) (live_tables code)
+pub body_formed : (code : Tree) → code_size code + 1 ≤ longest_file → EachPlain HasFewLabels code → AreBlocks (live_blocks code) × AreTablesAfter (negsuc 0) (live_tables code)
 body_formed code few labels = (
   (refl, refl, position_of (code_size code) (omega arith), position_of (code_size code + 1) few, told_body place_blocks AreBlocksAfter blocks_tell (λ l. tt) code (omega arith) labels),
   told_body place_tables AreTablesAfter tables_tell (λ l. tt) code (omega arith) labels,

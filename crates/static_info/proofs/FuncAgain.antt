@@ -3,6 +3,7 @@ use Rattle.std.proofs.Common.{◌≡◌, ℕ, ◌-◌, ◌^◌, ◌≤◌, take,
 use Rattle.std.proofs.lemmas.Int.{ints}
 use Rattle.std.proofs.lemmas.List.{take-append-drop}
 use Rattle.std.proofs.lemmas.List.Elements.{All-nil, All-cons, All-append}
+use Rattle.module_ast.specs.Validation.Limits.{deepest}
 use Rattle.wasm_sem.specs.Types.{ValType, BlockKind}
 use Rattle.wasm_num.specs.declared.ValType.TheVariants.{I32, I64}
 use Rattle.wasm_num.specs.declared.BlockKind.TheVariants.{Function}
@@ -54,8 +55,8 @@ all_blocks (b ∷ bs) h =
     let start : position_form (number_data b.begin) ≡ Some b.begin = subst (λ z. position_form (number_data z) ≡ Some z) (sym h.1) refl in
     All-cons IsBlockAgain b bs (block_again b start h.2 h.3) (later_blocks (negsuc 0) bs h.4)
 
-labels_again : (labels : List ℕ) → All (λ l. l ≤ 1002) labels → list_form label_form (list_of (map count_data labels)) ≡ Some labels
-labels_again labels h = list_again label_form count_data labels (λ k d within. count_again 0 1002 _ (omega arith) (h k d within))
+labels_again : (labels : List ℕ) → All (λ l. l ≤ deepest) labels → list_form label_form (list_of (map count_data labels)) ≡ Some labels
+labels_again labels h = list_again label_form count_data labels (λ k d within. count_again 0 deepest _ (omega arith) (h k d within))
 
 table_again : (t : TableInfo) → IsPosition t.pos → AreLabels t.labels → table_form (table_data t) ≡ Some t
 table_again t position labels =

@@ -2,6 +2,7 @@
 use Rattle.std.proofs.Common.{◌≡◌, ◌⊎◌, inl, inr, ℕ, ◌-◌, ◌^◌, ◌==◌, ℤ, pos, negsuc, List, [], ◌∷◌, Bool, true, false, cond, Option, Some, None, option_map, refl, sym, ap, ap₂, ◌∙◌}
 use Rattle.std.proofs.lemmas.Bool.{eqb-true}
 use Rattle.std.proofs.lemmas.Option.{option_and_then_some}
+use Rattle.module_ast.specs.Validation.Limits.{deepest}
 use Rattle.wasm_sem.specs.Types.{ValType, BlockKind}
 use Rattle.wasm_num.specs.declared.ValType.TheVariants.{I32, I64}
 use Rattle.serde_json.specs.Data.{Data, string, array, item, no_items}
@@ -56,7 +57,7 @@ position_exact : (d : Data) (z : ℤ) → position_form d ≡ Some z → number_
 position_exact d z e = whole_exact (negsuc 0) (pos (2 ^ 31 - 1)) d z e
 
 label_exact : (d : Data) (n : ℕ) → label_form d ≡ Some n → count_data n ≡ d
-label_exact d n e = count_exact 0 1002 d n e
+label_exact d n e = count_exact 0 deepest d n e
 
 -- an item of a list whose items are known
 at_item : {A : Type 0} (d known : Data) (place : ℕ) (form : Data → Option A) (a : A) → d ≡ known → item_form place form d ≡ Some a → item_form place form known ≡ Some a

@@ -1,5 +1,6 @@
 -- The shape of the JSON value of information, before its places are compared.
 use Rattle.std.specs.Prelude.{◌-◌, ◌^◌, ◌==◌, ◌&&◌, ℕ, ℤ, pos, negsuc, List, [], ◌∷◌, length, fold, Bool, true, false, cond, codes, bytes_eq, Option, Some, option_and_then}
+use Rattle.module_ast.specs.Validation.Limits.{deepest}
 use Rattle.wasm_sem.specs.Types.{ValType, BlockKind, GroupName, Hooks, HookKey}
 use Rattle.wasm_num.specs.Kinds.{kind_of_number}
 use Rattle.serde_json.specs.Data.{Data, object, Members, no_members, member}
@@ -26,7 +27,7 @@ abbrev pub position_form : Data → Option ℤ
 position_form d = whole_form (negsuc 0) (pos (2 ^ 31 - 1)) d
 
 abbrev pub label_form : Data → Option ℕ
-label_form d = count_form 0 1002 d
+label_form d = count_form 0 deepest d
 
 abbrev pub block_form : Data → Option Block
 block_form d = do

@@ -7,6 +7,7 @@ ghost use Rattle.static_info.specs.Checks.{IsNextBlock, IsNextTable, AreFunction
 
 use crate::{FuncInfo, TableInfo};
 use branch_resolve::Block;
+use module_ast::module::DEEPEST;
 use wasm_num::BlockKind;
 
 // Whether these are the functions of information, so many imported ones first.
@@ -110,9 +111,9 @@ fn is_position(position: i32) -> bool
     0 <= position
 }
 
-// Whether there are labels, each of at most 1,002.
+// Whether there are labels, and none is above the deepest nesting.
 fn are_labels(labels: &[u32]) -> bool
     ensures { IsTrue result ↔ AreLabels labels.now }
 {
-    !labels.is_empty() && labels.iter().all(|label| *label <= 1_002)
+    !labels.is_empty() && labels.iter().all(|label| *label <= DEEPEST)
 }

@@ -17,12 +17,13 @@ use indexmap::IndexSet;
 use json_form::{
     Form, FormFault, check_length, has_length, item, read_count, read_list, read_whole,
 };
+use module_ast::module::DEEPEST;
 use module_ast::seq::Seq;
 use serde_json::Value;
 use std::alloc::Global;
 use wasm_num::{BlockKind, NoMemory, ValType};
 
-// A label of at most 1,002.
+// A label, which is at most the deepest nesting.
 pub(crate) struct LabelForm;
 
 impl Form for LabelForm {
@@ -31,7 +32,7 @@ impl Form for LabelForm {
     ghost form = { label_form };
 
     fn read(_alloc: Global, value: &Value) -> Result<u32, FormFault> {
-        Ok(read_count(value, 0, 1_002)? as u32)
+        Ok(read_count(value, 0, DEEPEST as u64)? as u32)
     }
 }
 

@@ -1,6 +1,7 @@
 // A module whose bytes are known.
 
 ghost use Rattle.std.specs.Prelude.{◌≤◌};
+ghost use Rattle.module_ast.specs.Validation.Limits.{longest_file};
 
 use crate::files::file_of;
 use module_ast::module::Limits;
@@ -12,7 +13,7 @@ use wasm_encode::{EncodeFault, encode};
 // What the module of a short file is written as, in at most so many bytes; `None` where there is none.
 #[tactic(auto, using(module_ast::proofs::LeastModules::module_least))]
 fn written(alloc: Global, file: &[u8], max: u64) -> Option<Result<Vec<u8>, EncodeFault>>
-    requires { max ≤ 268435456 }
+    requires { max ≤ longest_file }
 {
     if file.len() > 128 {
         return None;

@@ -5,7 +5,7 @@ ghost use Rattle.module_ast.specs.Binary.{Gram};
 ghost use Rattle.module_ast.specs.Validation.{IsWhole};
 
 use leb_binary::put_u32;
-use module_ast::module::{Limits, Module};
+use module_ast::module::{LONGEST_FILE, Limits, Module};
 use std::alloc::{AllocError, Global};
 use std::test::Fail;
 use wasm_decode::decode;
@@ -69,7 +69,7 @@ pub(crate) fn module_of(alloc: Global, file: &[u8]) -> Option<Module>
     ensures gram { IfSome result (λ m. Gram file.now m) }
     ensures whole { IfSome result (λ m. IsWhole m) }
 {
-    if file.len() > 268_435_456 {
+    if file.len() as u64 > LONGEST_FILE {
         return None;
     }
     decode(alloc, file, &Limits::wide()).ok()

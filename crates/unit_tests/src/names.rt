@@ -5,7 +5,7 @@ ghost use Rattle.name_map.specs.Sections.{IsFile};
 
 use crate::files::bytes_of;
 use index_remap::Remap;
-use module_ast::module::Limits;
+use module_ast::module::{LONGEST_FILE, Limits};
 use name_map::laws::modules_are_files;
 use name_map::{Names, map_names, put_section, read_names, unmap_names};
 use std::alloc::Global;
@@ -20,7 +20,7 @@ static MODULE: &str =
 fn is_module(alloc: Global, bytes: &[u8]) -> Result<(), Fail>
     ensures { OnOk result (IsFile bytes.now) }
 {
-    if bytes.len() > 268_435_456 {
+    if bytes.len() as u64 > LONGEST_FILE {
         return Err("too long".into());
     }
     let Ok(module) = decode(alloc, bytes, &Limits::wide()) else {
@@ -57,7 +57,7 @@ fn come_back(alloc: Global, mapped: &Names, remap: Remap, text: &str) -> Result<
 }
 
 // Whether names are written so in an output with 15 hooks, and so when they are taken back from there.
-fn follow(alloc: Global, names: &Names, there: &str, back: &str) -> Result<bool, Fail>
+fn map_both_ways(alloc: Global, names: &Names, there: &str, back: &str) -> Result<bool, Fail>
     requires functions { All (λ n. n.index < 2) names.now.functions }
     requires locals { All (λ l. l.func < 2) names.now.locals }
 {
@@ -72,7 +72,7 @@ fn follow(alloc: Global, names: &Names, there: &str, back: &str) -> Result<bool,
 // The same of the names of the module with these sections.
 fn names_follow(alloc: Global, sections: &str, there: &str, back: &str) -> Result<bool, Fail> {
     let names = names_of(alloc, sections)?;
-    follow(alloc, &names, there, back)
+    map_both_ways(alloc, &names, there, back)
 }
 
 // What the module carries behind its last section, its names in the output, and the names taken back.

@@ -1,9 +1,10 @@
 // Trace files: events written, and read again.
 
 ghost use Rattle.std.specs.Prelude.{◌≤◌};
+ghost use Rattle.module_ast.specs.Validation.Limits.{longest_file};
 
 use hook_select::Event;
-use module_ast::module::Loc;
+use module_ast::module::{LONGEST_FILE, Loc};
 use std::alloc::Global;
 use std::test::Fail;
 use trace_file::{ReadTraceFault, TraceFault, TraceWriter, read_trace};
@@ -16,7 +17,7 @@ const NOP: [u8; 9] = *b"WTR1\x02\x00\x00\x00\x01";
 
 // The file of one event.
 fn file_of(alloc: Global, max: u64, event: &Event) -> Result<Vec<u8>, TraceFault>
-    requires { max ≤ 268435456 }
+    requires { max ≤ longest_file }
 {
     let mut writer = TraceWriter::new(alloc, max);
     writer.put(event)?;
@@ -26,7 +27,7 @@ fn file_of(alloc: Global, max: u64, event: &Event) -> Result<Vec<u8>, TraceFault
 // A file read, and its events written.
 fn written_again(alloc: Global, bytes: &[u8]) -> Result<Vec<u8>, Fail> {
     let events = read_trace(alloc, bytes)?;
-    let mut writer = TraceWriter::new(alloc, 268_435_456);
+    let mut writer = TraceWriter::new(alloc, LONGEST_FILE);
     for event in events.as_slice() {
         writer.put(event)?;
     }
@@ -39,7 +40,7 @@ fn nop() -> Event {
 
 // Whether an event has a file of these bytes, where there may be so many.
 fn is_file(alloc: Global, max: u64, event: &Event, wanted: &[u8]) -> bool
-    requires { max ≤ 268435456 }
+    requires { max ≤ longest_file }
 {
     match file_of(alloc, max, event) {
         Ok(file) => file.as_slice() == wanted,

@@ -1,4 +1,4 @@
--- What an expression that was read is of a tree.
+-- What a reader keeps of an expression, and its tree.
 use Rattle.std.specs.Prelude.{◌≡◌, ℕ, ◌<◌, ◌≤◌, true}
 use Rattle.module_ast.specs.Structure.{Tree}
 use Rattle.module_ast.specs.Binary.Grammar as grammar

@@ -1,4 +1,4 @@
--- A module as far as it was read.
+-- What was read of a module so far.
 use Rattle.std.specs.Prelude.{◌≡◌, ℕ, ◌^◌, ◌<◌, List, [], ◌∷◌, length}
 use Rattle.module_ast.specs.Binary.Grammar as grammar
 use Rattle.module_ast.specs.Binary.{Kind, custom_section, type_section, import_section, function_section, table_section, memory_section, global_section, export_section, start_section, element_section, code_section, data_section, local_count}
@@ -17,7 +17,7 @@ abbrev pub HaveFewLocals : List grammar.BodyNode → Type 0
 HaveFewLocals [] = Unit {0}
 HaveFewLocals (b ∷ bs) = (local_count b.groups < 2 ^ 32) × HaveFewLocals bs
 
--- the draft holds what the module has in sections of one kind
+-- the draft has what the module has in sections of one kind
 abbrev pub DraftHolds : (bound : ℕ) → Draft → grammar.ModuleNode → Kind → Type 0
 DraftHolds bound d m custom_section = d.customs.items ≡ m.customs
 DraftHolds bound d m type_section = IsVectorRead func_type_form bound d.types m.types

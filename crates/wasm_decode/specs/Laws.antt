@@ -5,8 +5,8 @@ use Rattle.module_ast.specs.declared.module.Limits.{Limits}
 use Rattle.module_ast.specs.declared.module.Which.{Which}
 use Rattle.module_ast.specs.Binary.{IsFault, module_bytes, without_customs, IsWithin, Gram, FileFloats, FileExceeds, Fits}
 
--- A decoder that is exact has one answer for the canonical bytes of a module, want of memory aside: the module without its
--- custom sections, where that is within the limits.
+-- An exact decoder has one answer for the canonical bytes of a module, unless memory runs out: the module without its
+-- custom sections, if that is within the limits.
 pub record IsDecodedAgain (m : Module) : Type 0 where
   pub answer : (decoded : Module) → Gram (module_bytes m) decoded → decoded ≡ without_customs m
   pub not_malformed : (section : ℕ) → IsFault (module_bytes m) section → ⊥

@@ -1,4 +1,4 @@
--- Items of the grammar, of their parts.
+-- Items of the grammar, made from their parts.
 use Rattle.std.specs.Prelude.{ℕ, List}
 use Rattle.module_ast.specs.Binary.{GlobalTypeNode, GlobalNode, ElementNode, SegmentNode, GroupNode, BodyNode, CodeNode}
 

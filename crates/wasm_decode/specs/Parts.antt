@@ -1,4 +1,4 @@
--- Items as a reader hands them on.
+-- Items in the form in which a reader passes them on.
 use Rattle.std.specs.Prelude.{◌≡◌, ℕ, ◌<◌, ◌≤◌, List, true}
 use Rattle.wasm_decode.specs.declared.part.Piece.{Piece}
 use Rattle.wasm_decode.specs.declared.part.Piece.TheVariants.{Whole, Floats, Deep}

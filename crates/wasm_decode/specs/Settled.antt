@@ -31,7 +31,7 @@ without_deep bound m = record m {
   segments = map (draft_items segment_form bound) m.segments;
 }
 
--- no part has a floating node
+-- no part has a floating-point node
 pub record FloatsNowhere (d : Draft) : Type 0 where
   pub types : d.types.floats ≡ false
   pub imports : d.imports.floats ≡ false

@@ -1,7 +1,8 @@
-// Bodies of functions.
+// The bodies of functions (5.5.13).
 
 ghost use Rattle.std.specs.Prelude.{◌≡◌, ◌≤◌, ℕ, List, true, map, length, MatchOption, IfOk, IsErrOf};
 ghost use Rattle.module_ast.specs.Binary.{IsNoBody, IsBody, IsSized, some_in};
+ghost use Rattle.module_ast.specs.Validation.Limits.{deepest, longest_file};
 ghost use Rattle.module_ast.specs.Binary.Grammar as grammar;
 ghost use Rattle.module_ast.specs.Binary.Profile as profile;
 ghost use Rattle.code_decode.specs.Locals.{group_floats};
@@ -19,7 +20,7 @@ use module_ast::module::{Body, Group};
 use module_ast::seq::Seq;
 use std::alloc::{AllocError, Global};
 
-// A body of its parts.
+// A body, from its locals and its code as they were read.
 fn make_body(
     alloc: Global,
     groups: Option<Vec<Group>>,
@@ -41,10 +42,10 @@ fn make_body(
     }
 }
 
-/// A body that fills the bytes (5.5.13).
+/// Reads the body that these bytes are (5.5.13).
 pub fn read_body(alloc: Global, content: &[u8], nesting: u32) -> Result<Piece<Body>, Fault>
-    requires bytes { length content.now ≤ 268435456 }
-    requires nesting { nesting ≤ 1002 }
+    requires bytes { length content.now ≤ longest_file }
+    requires nesting { nesting ≤ deepest }
     ensures ok { IfOk result (λ p. (b : grammar.BodyNode) × IsBody content.now b × IsPiece body_form nesting p b) }
     ensures malformed { IsErrOf result Fault.Malformed → IsNoBody content.now }
 {
@@ -58,7 +59,7 @@ pub fn read_body(alloc: Global, content: &[u8], nesting: u32) -> Result<Piece<Bo
     Ok(body)
 }
 
-/// Bodies, each behind its size (5.5.13).
+/// The entries of the code section (5.5.13): bodies, each behind its size.
 pub struct Bodies;
 
 impl Entry for Bodies {

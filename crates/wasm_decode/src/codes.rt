@@ -1,4 +1,4 @@
-// Items with code: globals and segments.
+// Entries with expressions: globals, element segments and data segments.
 
 ghost use Rattle.std.specs.Prelude.{◌≡◌, ℕ, true, MatchOption, IfOk, IsErrOf};
 ghost use Rattle.leb_binary.specs.Leb.{IsFront, HasNoFront};
@@ -21,7 +21,7 @@ use module_ast::module::{Element, GlobalDef, GlobalType, Segment};
 use module_ast::seq::Seq;
 use std::alloc::{AllocError, Global};
 
-// A global of its parts.
+// A global, from its type and its expression as they were read.
 fn global(alloc: Global, ty: Option<GlobalType>, init: Expr) -> Result<Piece<GlobalDef>, AllocError>
     ensures { (bound : ℕ) (g : grammar.GlobalTypeNode) (t : grammar.CodeNode) → MatchOption ty (is_floating g.ty ≡ true) (λ x. g ≡ profile.global_type_node x) → IsBuilt bound init t → IfOk result (λ p. IsPiece global_form bound p (global_by g t)) }
 {
@@ -38,7 +38,7 @@ fn global(alloc: Global, ty: Option<GlobalType>, init: Expr) -> Result<Piece<Glo
     }
 }
 
-/// Globals (5.5.9).
+/// The entries of the global section (5.5.9).
 pub struct Globals;
 
 impl Entry for Globals {
@@ -60,7 +60,7 @@ impl Entry for Globals {
     ghost one = { one_global };
 }
 
-// An element segment of its parts.
+// An element segment, from its parts as they were read.
 fn element(
     alloc: Global,
     table: u32,
@@ -90,7 +90,7 @@ fn element(
     }
 }
 
-/// Element segments (5.5.12).
+/// The entries of the element section (5.5.12).
 pub struct Elements;
 
 impl Entry for Elements {
@@ -114,7 +114,6 @@ impl Entry for Elements {
     ghost one = { one_element };
 }
 
-// The bytes of a slice, which are items of a vector.
 fn copied(alloc: Global, bytes: &[u8]) -> Result<Vec<u8>, AllocError>
     ensures ok { IfOk result (λ v. (v.items ≡ bytes.now) × AreItems IsByte bytes.now bytes.now) }
 {
@@ -122,7 +121,7 @@ fn copied(alloc: Global, bytes: &[u8]) -> Result<Vec<u8>, AllocError>
     Ok(copied)
 }
 
-// A vector of bytes, copied.
+// Takes a vector of bytes, copied.
 fn byte_vec(alloc: Global, cursor: &mut Cursor) -> Result<Vec<u8>, Fault>
     ensures ok { IfOk result (λ v. IsFront (IsVec IsByte) cursor.old.left cursor.new.left v.items) }
     ensures malformed { IsErrOf result Fault.Malformed → HasNoFront (IsVec IsByte) cursor.old.left }
@@ -133,7 +132,7 @@ fn byte_vec(alloc: Global, cursor: &mut Cursor) -> Result<Vec<u8>, Fault>
     Ok(bytes)
 }
 
-// A data segment of its parts.
+// A data segment, from its parts as they were read.
 fn segment(
     alloc: Global,
     memory: u32,
@@ -163,7 +162,7 @@ fn segment(
     }
 }
 
-/// Data segments (5.5.14).
+/// The entries of the data section (5.5.14).
 pub struct Segments;
 
 impl Entry for Segments {

@@ -1,4 +1,4 @@
-// What was read of a module.
+// What was read of a module so far.
 
 ghost use Rattle.std.specs.Prelude.{◌≡◌, ℕ};
 ghost use Rattle.module_ast.specs.Binary.{empty_module};
@@ -9,7 +9,7 @@ use module_ast::module::{Body, Element, Export, FuncType, GlobalDef, Import, Ran
 use module_ast::name::Name;
 use std::alloc::Global;
 
-/// What the sections so far hold. An absent section counts as empty.
+/// What the sections that were read have. A section that is absent counts as empty.
 #[derive(Drop)]
 pub struct Draft {
     pub types: Part<FuncType>,
@@ -27,7 +27,7 @@ pub struct Draft {
 }
 
 impl Draft {
-    /// What no sections hold.
+    /// A draft before the first section.
     pub fn new(alloc: Global) -> Draft
         ensures { (bound : ℕ) → IsDraft bound result empty_module }
     {

@@ -2,16 +2,16 @@
 
 use module_ast::module::Which;
 
-/// Why a file is not decoded. Its first fault is the answer: `Malformed` comes before `Float`, and that before `Limit`.
+/// Why a file is not decoded. `Malformed` takes precedence over `Float`, and `Float` over `Limit`.
 #[derive(Clone, Copy, Debug, PartialEq, Eq)]
 pub enum DecodeFault {
-    /// The bytes are no module. 256: the header is wrong. 257: there are not as many bodies as functions. Else the id
-    /// byte of the first section that is none, or stands out of order.
+    /// The bytes are no module. `section` is 256 if the header is wrong, and 257 if there are not as many bodies as
+    /// functions. Otherwise it is the id byte of the first section that is malformed or out of order.
     Malformed { section: u16 },
-    /// The module has a floating type or instruction, first in the section of this id.
+    /// The module has a floating-point type or instruction. `section` is the id of the first section that has one.
     Float { section: u16 },
-    /// The first quantity that is above its limit, and its first number that is.
+    /// A quantity is above its limit: the first such quantity, and the first number of it that is above.
     Limit { which: Which, value: u64 },
-    /// An allocation failed.
+    /// Memory ran out.
     NoMemory,
 }

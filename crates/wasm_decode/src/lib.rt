@@ -1,9 +1,9 @@
-// Whole modules from bytes.
+// The decoder of whole modules.
 #![tactic(auto)]
 
 ghost use Rattle.std.specs.Prelude.{◌≡◌, ◌≤◌, ℕ, length, IfOk, IsErrOf};
 ghost use Rattle.module_ast.specs.Binary.{IsFault, IsWithin, Gram, FileFloats, FileExceeds};
-ghost use Rattle.module_ast.specs.Validation.{IsWhole};
+ghost use Rattle.module_ast.specs.Validation.{IsWhole, deepest, longest_file};
 ghost use Rattle.module_ast.specs.declared.module.Which.{Which};
 ghost use Rattle.wasm_decode.specs.declared.fault.DecodeFault.{DecodeFault};
 
@@ -27,14 +27,14 @@ use leb_binary::Cursor;
 use module_ast::module::{Limits, Module};
 use std::alloc::Global;
 
-/// The module with these bytes (5.5.16), of at most 268,435,456.
+/// The module that is these bytes (5.5.15), at most 268,435,456 of them.
 ///
-/// The limits are those of the counted quantities, with nesting at most 1,002. It is linear in the bytes, and nothing is
-/// reserved by a number that they state. The module is whole: it has a body for each function, and can be written again.
-/// `DecodeFault` says when each error comes.
+/// `limits` are the limits of the counted quantities, with a nesting of at most 1,002. Takes time linear in the bytes,
+/// and reserves no memory by a number that they state. The module is whole: it has a body for each function, and can be
+/// written again. `DecodeFault` says when each error comes.
 pub fn decode(alloc: Global, bytes: &[u8], limits: &Limits) -> Result<Module, DecodeFault>
-    requires short { length bytes.now ≤ 268435456 }
-    requires nesting { limits.now.nesting ≤ 1002 }
+    requires short { length bytes.now ≤ longest_file }
+    requires nesting { limits.now.nesting ≤ deepest }
     ensures ok { IfOk result (λ m. Gram bytes.now m × IsWithin limits.now m) }
     ensures whole { IfOk result (λ m. IsWhole m) }
     ensures malformed { (n : ℕ) → IsErrOf result (DecodeFault.Malformed n) → IsFault bytes.now n }

@@ -9,7 +9,7 @@ ghost use Rattle.wasm_decode.specs.Counts.{AreFew};
 use module_ast::module::{Body, FuncType, Group, Limits, Module, Which};
 use module_ast::spaces::Counts;
 
-// The first number of parameters above the bound, or of results where a type has more of these.
+// The first number above the bound, if a type counts with its parameters or its results, whichever are more.
 fn first_parameters(types: &[FuncType], bound: u32) -> Option<u64>
     ensures { MatchOption result (AreWithin bound (map most_values types.now)) (IsFirstAbove bound (map most_values types.now)) }
 {
@@ -23,7 +23,7 @@ fn first_parameters(types: &[FuncType], bound: u32) -> Option<u64>
     None
 }
 
-// How many locals the groups have.
+// How many locals the groups declare.
 fn locals(groups: &[Group]) -> u64
     requires { locals_of groups.now < 2 ^ 32 }
     ensures { result ≡ locals_of groups.now }
@@ -49,7 +49,8 @@ fn first_locals(bodies: &[Body], bound: u32) -> Option<u64>
     None
 }
 
-/// The first of functions, types, parameters and locals that is above its limit, and its number.
+/// The first of functions, types, parameters and locals that is above its limit, with the first number that is; `None`
+/// if none is.
 pub fn first_exceeded(kept: &Module, limits: &Limits) -> Option<(Which, u64)>
     requires few { AreFew kept.now.bodies }
     ensures { MatchOption result ((w : Which) → order_of w < 4 → AreWithin (bound_of limits.now w) (limited_counts kept.now w)) (λ p. (order_of p.0 < 4) × IsFirstExceeded limits.now kept.now p.0 p.1) }

@@ -1,4 +1,4 @@
-// What a module takes from outside and gives to it, by names.
+// Imports and exports.
 
 ghost use Rattle.std.specs.Prelude.{◌≡◌, true, MatchOption, IfOk, OnErr, IsErrOf};
 ghost use Rattle.leb_binary.specs.Leb.{IsName, IsFront, HasNoFront};
@@ -16,7 +16,7 @@ use module_ast::module::{Export, ExportKind, Import, Item};
 use module_ast::name::Name;
 use std::alloc::Global;
 
-/// Takes a name (5.2.4), copied. After an `Err` it is not told where the cursor stands.
+/// Takes a name (5.2.4), copied. After an `Err` the cursor may be anywhere.
 pub fn read_name(alloc: Global, cursor: &mut Cursor) -> Result<Name, Fault>
     ensures ok { IfOk result (λ n. IsFront IsName cursor.old.left cursor.new.left n) }
     ensures malformed { IsErrOf result Fault.Malformed → HasNoFront IsName cursor.old.left }
@@ -26,7 +26,7 @@ pub fn read_name(alloc: Global, cursor: &mut Cursor) -> Result<Name, Fault>
     Ok(Name::from_string(text))
 }
 
-// What is imported (5.5.5); `None` is a global of a floating type.
+// Takes the description of an import (5.5.5); `None` is a global of a floating-point type.
 fn item(cursor: &mut Cursor) -> Result<Option<Item>, Bad>
     ensures ok { IfOk result (λ o. (i : grammar.ItemNode) × IsFront IsItem cursor.old.left cursor.new.left i × MatchOption o (item_floats i ≡ true) (λ x. i ≡ profile.item_node x)) }
     ensures bad { OnErr result (HasNoFront IsItem cursor.old.left) }
@@ -53,7 +53,7 @@ fn item(cursor: &mut Cursor) -> Result<Option<Item>, Bad>
     }
 }
 
-/// Imports (5.5.5).
+/// The entries of the import section (5.5.5).
 pub struct Imports;
 
 impl Entry for Imports {
@@ -77,7 +77,7 @@ impl Entry for Imports {
     ghost one = { one_import };
 }
 
-// The kind of what is exported (5.5.10).
+// Takes the kind of an export (5.5.10).
 fn export_kind(cursor: &mut Cursor) -> Result<ExportKind, Bad>
     ensures ok { IfOk result (λ k. IsFront IsExportKind cursor.old.left cursor.new.left k) }
     ensures bad { OnErr result (HasNoFront IsExportKind cursor.old.left) }
@@ -92,7 +92,7 @@ fn export_kind(cursor: &mut Cursor) -> Result<ExportKind, Bad>
     }
 }
 
-/// Exports (5.5.10).
+/// The entries of the export section (5.5.10).
 pub struct Exports;
 
 impl Entry for Exports {

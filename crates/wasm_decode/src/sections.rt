@@ -1,9 +1,10 @@
-// Sections.
+// Sections (5.5).
 
 ghost use Rattle.std.specs.Prelude.{◌≡◌, ◌≤◌, ℕ, List, length, IfOk, IsErrOf};
 ghost use Rattle.leb_binary.specs.Leb.{IsFront};
 ghost use Rattle.leb_binary.specs.Texts.{Text};
 ghost use Rattle.module_ast.specs.Binary.{ModuleNode, Section, IsU32, IsVec, IsSized, IsCustom, IsContent, id_of, with_section};
+ghost use Rattle.module_ast.specs.Validation.Limits.{deepest, longest_file};
 ghost use Rattle.wasm_decode.specs.Drafts.{IsVectorRead, IsDraft};
 
 use crate::bodies::Bodies;
@@ -17,10 +18,10 @@ use leb_binary::Cursor;
 use module_ast::name::Name;
 use std::alloc::Global;
 
-// A vector that fills the bytes.
+// A vector that the content of a section is.
 fn whole<E: Entry>(alloc: Global, content: &[u8], nesting: u32) -> Result<Part<E::Value>, Fault>
-    requires bytes { length content.now ≤ 268435456 }
-    requires nesting { nesting ≤ 1002 }
+    requires bytes { length content.now ≤ longest_file }
+    requires nesting { nesting ≤ deepest }
     ensures ok { IfOk result (λ p. (gs : List E.Shape) × IsVec E.is content.now gs × IsVectorRead E.form nesting p gs) }
     ensures malformed { IsErrOf result Fault.Malformed → (gs : List E.Shape) → IsVec E.is content.now gs → ⊥ }
 {
@@ -32,7 +33,7 @@ fn whole<E: Entry>(alloc: Global, content: &[u8], nesting: u32) -> Result<Part<E
     Ok(part)
 }
 
-// An index that fills the bytes.
+// The index that the content of the start section is.
 fn start(content: &[u8]) -> Result<u32, Fault>
     ensures ok { IfOk result (λ x. IsU32 content.now x) }
     ensures malformed { IsErrOf result Fault.Malformed → (x : ℕ) → IsU32 content.now x → ⊥ }
@@ -45,7 +46,7 @@ fn start(content: &[u8]) -> Result<u32, Fault>
     Ok(index)
 }
 
-// The name of a custom section (5.5.3), with any bytes behind it.
+// The name of a custom section (5.5.3), whatever bytes follow the name.
 fn custom(alloc: Global, content: &[u8]) -> Result<Name, Fault>
     ensures ok { IfOk result (λ n. IsCustom content.now n) }
     ensures malformed { IsErrOf result Fault.Malformed → (n : Text) → IsCustom content.now n → ⊥ }
@@ -55,10 +56,10 @@ fn custom(alloc: Global, content: &[u8]) -> Result<Name, Fault>
     Ok(name)
 }
 
-/// Puts the section of this id and content into the draft.
+/// Puts a section with this id and content into the draft.
 ///
-/// `Malformed` where no section has this id, and where its content is none: it has to fill the bytes. After an `Err` it is
-/// not told what the draft holds.
+/// `Malformed` if no section has this id, or if the content is not exactly one of that section. After an `Err` the
+/// draft may have anything.
 pub fn read_content(
     alloc: Global,
     draft: &mut Draft,
@@ -66,8 +67,8 @@ pub fn read_content(
     content: &[u8],
     nesting: u32,
 ) -> Result<(), Fault>
-    requires bytes { length content.now ≤ 268435456 }
-    requires nesting { nesting ≤ 1002 }
+    requires bytes { length content.now ≤ longest_file }
+    requires nesting { nesting ≤ deepest }
     ensures ok { IfOk result (λ _. (s : Section) × (id ≡ id_of s.0) × IsContent s.0 content.now s.1 × ((m : ModuleNode) → IsDraft nesting draft.old m → IsDraft nesting draft.new (with_section s m))) }
     ensures malformed { IsErrOf result Fault.Malformed → (s : Section) → id ≡ id_of s.0 → IsContent s.0 content.now s.1 → ⊥ }
 {
@@ -92,8 +93,8 @@ pub fn read_content(
     Ok(())
 }
 
-/// Takes what stands behind the id of a section: its size, and its content. After an `Err` it is not told where the cursor
-/// stands and what the draft holds.
+/// Takes a section from behind its id, its size and its content, and puts it into the draft. After an `Err` the cursor
+/// may be anywhere and the draft may have anything.
 pub fn read_section(
     alloc: Global,
     draft: &mut Draft,
@@ -101,8 +102,8 @@ pub fn read_section(
     cursor: &mut Cursor,
     nesting: u32,
 ) -> Result<(), Fault>
-    requires bytes { length cursor.now.left ≤ 268435456 }
-    requires nesting { nesting ≤ 1002 }
+    requires bytes { length cursor.now.left ≤ longest_file }
+    requires nesting { nesting ≤ deepest }
     ensures ok { IfOk result (λ _. (s : Section) × (id ≡ id_of s.0) × IsFront (IsSized (IsContent s.0)) cursor.old.left cursor.new.left s.1 × ((m : ModuleNode) → IsDraft nesting draft.old m → IsDraft nesting draft.new (with_section s m))) }
     ensures malformed { IsErrOf result Fault.Malformed → (s : Section) (rest : List ℕ) → id ≡ id_of s.0 → IsFront (IsSized (IsContent s.0)) cursor.old.left rest s.1 → ⊥ }
 {

@@ -1,4 +1,4 @@
-// A module of what was read.
+// The module, or its refusal, from what was read.
 
 ghost use Rattle.std.specs.Prelude.{◌≡◌, ◌≤◌, ℕ, MatchOption, IfOk, IsErrOf};
 ghost use Rattle.module_ast.specs.Binary.Grammar as grammar;
@@ -17,7 +17,7 @@ use crate::limits::first_exceeded;
 use module_ast::module::{Limits, Module, Which};
 use module_ast::seq::Seq;
 
-// The first section that has a floating node.
+// The id of the first section that has a floating-point type or instruction.
 fn first_float(draft: &Draft) -> Option<u16>
     ensures { (bound : ℕ) (m : grammar.ModuleNode) → IsDraft bound draft.now m → MatchOption result (FloatsNowhere draft.now) (λ id. (kind : Kind) × FloatsFirstIn m kind × (id ≡ id_of kind)) }
 {
@@ -51,7 +51,7 @@ fn or(first: Option<u32>, second: Option<u32>) -> Option<u32>
     }
 }
 
-// The first nesting above the bound.
+// The first nesting above the bound, in the order of the sections.
 fn deep(draft: &Draft) -> Option<u32>
     ensures { result ≡ deep_in draft.now }
 {
@@ -83,8 +83,8 @@ fn into_module(draft: Draft) -> Module
     }
 }
 
-// The module, where it is within the limits: of the module that these are of, `kept` lacks the code that is too deep,
-// and `deep` is the first nesting of that code.
+// The module if it is within the limits. `kept` is the module without the code that nests too deep, and `deep` is the
+// first nesting of such code.
 fn within(kept: Module, deep: Option<u32>, limits: &Limits) -> Result<Module, DecodeFault>
     requires few { AreFew kept.bodies }
     ensures ok { IfOk result (λ r. (m : Module) → kept ≡ without_deep limits.now.nesting m → deep ≡ first_above limits.now.nesting (limited_counts m Nesting) → (r ≡ m) × IsWithin limits.now m) }
@@ -105,7 +105,7 @@ fn within(kept: Module, deep: Option<u32>, limits: &Limits) -> Result<Module, De
     Ok(kept)
 }
 
-/// The module that was read, within the limits.
+/// The module that was read, or the first fault: floating-point first, then the limits.
 pub fn settle(draft: Draft, limits: &Limits) -> Result<Module, DecodeFault>
     requires drafted { (g : grammar.ModuleNode) × IsDraft limits.now.nesting draft g }
     ensures ok { IfOk result (λ m. (g : grammar.ModuleNode) → IsDraft limits.now.nesting draft g → (tree_of m ≡ g) × IsWithin limits.now m) }

@@ -1,4 +1,4 @@
-// Types, as a module's sections hold them.
+// Types, as the sections of a module have them.
 
 ghost use Rattle.std.specs.Prelude.{◌≡◌, ℕ, true, MatchOption, IfOk, OnErr, IsErrOf};
 ghost use Rattle.leb_binary.specs.Leb.{IsFront, HasNoFront};
@@ -14,7 +14,7 @@ use leb_binary::{Bad, Cursor};
 use module_ast::module::{FuncType, GlobalType, Range};
 use std::alloc::Global;
 
-/// Indices (5.5.1).
+/// The entries of the function section (5.5.6): indices of types (5.5.1).
 pub struct Indices;
 
 impl Entry for Indices {
@@ -34,7 +34,7 @@ impl Entry for Indices {
     ghost one = { one_u32 };
 }
 
-/// Types of functions (5.3.3).
+/// The entries of the type section: function types (5.3.3).
 pub struct FuncTypes;
 
 impl Entry for FuncTypes {
@@ -56,7 +56,7 @@ impl Entry for FuncTypes {
     ghost one = { one_func_type };
 }
 
-/// Takes a minimum, and a maximum where there is one (5.3.4). After an `Err` it is not told where the cursor stands.
+/// Takes limits: a minimum, and a maximum if there is one (5.3.4). After an `Err` the cursor may be anywhere.
 pub fn limits(cursor: &mut Cursor) -> Result<Range, Bad>
     ensures ok { IfOk result (λ r. IsFront IsMemoryType cursor.old.left cursor.new.left r) }
     ensures bad { OnErr result (HasNoFront IsMemoryType cursor.old.left) }
@@ -79,7 +79,7 @@ pub fn limits(cursor: &mut Cursor) -> Result<Range, Bad>
     }
 }
 
-/// Takes the type of a table (5.3.6). After an `Err` it is not told where the cursor stands.
+/// Takes a table type (5.3.6). After an `Err` the cursor may be anywhere.
 pub fn table_type(cursor: &mut Cursor) -> Result<Range, Bad>
     ensures ok { IfOk result (λ r. IsFront IsTableType cursor.old.left cursor.new.left r) }
     ensures bad { OnErr result (HasNoFront IsTableType cursor.old.left) }
@@ -92,7 +92,7 @@ pub fn table_type(cursor: &mut Cursor) -> Result<Range, Bad>
     Ok(range)
 }
 
-/// Memories, by their type (5.3.5).
+/// The entries of the memory section: memory types (5.3.5).
 pub struct Memories;
 
 impl Entry for Memories {
@@ -112,7 +112,7 @@ impl Entry for Memories {
     ghost one = { one_memory_type };
 }
 
-/// Tables, by their type (5.3.6).
+/// The entries of the table section: table types (5.3.6).
 pub struct Tables;
 
 impl Entry for Tables {
@@ -132,7 +132,7 @@ impl Entry for Tables {
     ghost one = { one_table_type };
 }
 
-// Whether a global can be written (5.3.7).
+// Takes a byte that says whether code may change a global (5.3.7).
 fn mutability(cursor: &mut Cursor) -> Result<bool, Bad>
     ensures ok { IfOk result (λ b. IsFront IsMutability cursor.old.left cursor.new.left b) }
     ensures bad { OnErr result (HasNoFront IsMutability cursor.old.left) }
@@ -145,7 +145,8 @@ fn mutability(cursor: &mut Cursor) -> Result<bool, Bad>
     }
 }
 
-/// Takes the type of a global (5.3.7); `None` is of a floating one. After an `Err` it is not told where the cursor stands.
+/// Takes the type of a global (5.3.7); `None` if its value type is floating-point. After an `Err` the cursor may be
+/// anywhere.
 pub fn global_type(cursor: &mut Cursor) -> Result<Option<GlobalType>, Bad>
     ensures ok { IfOk result (λ o. (g : grammar.GlobalTypeNode) × IsFront IsGlobalType cursor.old.left cursor.new.left g × MatchOption o (is_floating g.ty ≡ true) (λ t. g ≡ global_type_node t)) }
     ensures bad { OnErr result (HasNoFront IsGlobalType cursor.old.left) }

@@ -9,7 +9,7 @@ use Rattle.wasm_num.specs.Opcodes.{num_opcode, num_of_opcode}
 abbrev pub NumsAreFound : Type 0
 NumsAreFound = (op : NumOp) → num_of_opcode (num_opcode op) ≡ Some op
 
--- and what is found has the opcode
+-- what is found by an opcode has that opcode
 abbrev pub FoundNumsHaveTheOpcode : Type 0
 FoundNumsHaveTheOpcode = (opcode : ℕ) (op : NumOp) → num_of_opcode opcode ≡ Some op → num_opcode op ≡ opcode
 

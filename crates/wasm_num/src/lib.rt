@@ -1,4 +1,4 @@
-// Value types, kinds of block and number instructions.
+// Value types, kinds of block, number instructions and what they compute, and lists of a few values.
 #![tactic(auto)]
 
 ghost use Rattle.std.specs.Prelude.{◌≡◌, length};
@@ -11,17 +11,17 @@ use smallvec::SmallVec;
 use std::alloc::{AllocError, Global};
 use std::marker::Model;
 
-/// Memory ran out.
+/// Memory ran out: the error of the allocator.
 pub type NoMemory = AllocError;
 
-/// The type of a value: 32 or 64 bits. (Standard, 2.3.1)
+/// The type of a value: an integer of 32 or of 64 bits. (Standard, 2.3.1)
 #[derive(Clone, Copy, Debug, PartialEq, Eq)]
 pub enum ValType {
     I32,
     I64,
 }
 
-/// What a label belongs to. The two parts of an `if` are blocks of their own.
+/// What a label belongs to. The two branches of an `if` are blocks of their own.
 #[derive(Clone, Copy, PartialEq, Eq)]
 pub enum BlockKind {
     Function = 0,
@@ -34,7 +34,7 @@ pub enum BlockKind {
 impl BlockKind {
     ghost use Rattle.wasm_num.specs.Kinds.{kind_name, kind_number, kind_of_number};
 
-    /// Each kind once, in the order of their numbers.
+    /// Each kind once, in the order of the kinds' numbers.
     pub const ALL: [BlockKind; 5] = [
         BlockKind::Function,
         BlockKind::Block,
@@ -43,14 +43,14 @@ impl BlockKind {
         BlockKind::Else,
     ];
 
-    /// Its number, from 0 to 4, in reports and in information.
+    /// The number of the kind in reports and in information, 0 to 4.
     pub fn number(self) -> u8
         ensures { result ≡ kind_number self }
     {
         self as u8
     }
 
-    /// The kind of a number; none above 4.
+    /// The kind that has this number; `None` if the number is above 4.
     pub fn of_number(number: u8) -> Option<BlockKind>
         ensures { result ≡ kind_of_number number }
     {
@@ -64,7 +64,7 @@ impl BlockKind {
         }
     }
 
-    /// Its name in hooks and reports.
+    /// The name of the kind in hooks and reports.
     pub fn name(self) -> &'static str
         ensures { result.now ≡ kind_name self }
     {
@@ -78,7 +78,7 @@ impl BlockKind {
     }
 }
 
-/// The number instructions, constants left out, each with its opcode. (Standard, 2.4.1 and 5.4.5)
+/// The number instructions without constants, each with its opcode. (Standard, 2.4.1 and 5.4.5)
 #[derive(Clone, Copy, PartialEq, Eq)]
 pub enum NumOp {
     I32Eqz = 0x45,
@@ -154,7 +154,7 @@ impl NumOp {
     ghost use Rattle.wasm_num.specs.Names.{num_name};
     ghost use Rattle.wasm_num.specs.Opcodes.{num_opcode, num_of_opcode};
 
-    /// Each number instruction once, in the order of their opcodes.
+    /// Each number instruction once, in the order of the opcodes.
     pub const ALL: [NumOp; 66] = [
         NumOp::I32Eqz,
         NumOp::I32Eq,
@@ -224,14 +224,15 @@ impl NumOp {
         NumOp::I64Extend32S,
     ];
 
-    /// The byte that it is written as. (Standard, 5.4.5)
+    /// The byte that the instruction is written as. (Standard, 5.4.5)
     pub fn opcode(self) -> u8
         ensures { result ≡ num_opcode self }
     {
         self as u8
     }
 
-    /// The number instruction of an opcode; none where another instruction, or none, has it. (Standard, 5.4.5)
+    /// The number instruction that has this opcode; `None` if it is the opcode of another instruction or of none.
+    /// (Standard, 5.4.5)
     pub fn of_opcode(opcode: u8) -> Option<NumOp>
         ensures { result ≡ num_of_opcode opcode }
     {
@@ -306,14 +307,14 @@ impl NumOp {
         }
     }
 
-    /// How many operands it takes: 1 for tests, counts and conversions, else 2.
+    /// How many operands the instruction takes: 1 for tests, counts and conversions, 2 for all others.
     pub fn operands(&self) -> usize
         ensures { result ≡ length (num_operands self.now) }
     {
         self.operand_types().len()
     }
 
-    /// The types of its operands, the last one topmost. (Standard, 3.3.1)
+    /// The types of the instruction's operands, the topmost operand last. (Standard, 3.3.1)
     pub fn operand_types(&self) -> &'static [ValType]
         ensures { result.now ≡ num_operands self.now }
     {
@@ -350,7 +351,7 @@ impl NumOp {
         }
     }
 
-    /// The type of its result. (Standard, 3.3.1)
+    /// The type of the instruction's result. (Standard, 3.3.1)
     pub fn result_type(&self) -> ValType
         ensures { result ≡ num_result self.now }
     {
@@ -376,7 +377,7 @@ impl NumOp {
         }
     }
 
-    /// Its name in the text format. (Standard, 6.5.8)
+    /// The instruction's name in the text format. (Standard, 6.5.8)
     pub fn name(&self) -> &'static str
         ensures { result.now ≡ num_name self.now }
     {
@@ -451,7 +452,7 @@ impl NumOp {
     }
 }
 
-/// A value, as the unsigned number of its bits. (Standard, 4.2.1)
+/// A value: the bits of an integer, as an unsigned number. (Standard, 4.2.1)
 #[derive(Clone, Copy, Debug, PartialEq, Eq)]
 pub enum Value {
     I32(u32),
@@ -468,14 +469,13 @@ impl Default for Value {
     }
 }
 
-/// Values in order, which contracts see as a list: the arguments or results of a call. Up to four of them need no
-/// allocation.
+/// The arguments or results of a call, in order. Contracts see a list. Up to four values need no allocation.
 #[derive(Debug)]
 pub struct Values {
     items: SmallVec<Value, 4>,
 }
 
-// By a call of its own, so that a way out past it is one step in a proof.
+// Dropped by hand: each early return past a value of this type then costs one proof step instead of one per field.
 impl Drop for Values {
     fn drop(self) {
         let Values { items: _items } = self;
@@ -496,7 +496,7 @@ impl Model for Values {
 impl Values {
     ghost use Rattle.std.specs.Prelude.{◌<◌, [], ◌∷◌, ◌++◌, OnOk, OnErr, IsOk, slice_get};
 
-    /// No value yet. It allocates nothing.
+    /// No values. Allocates nothing.
     pub fn new(alloc: Global) -> Values
         ensures { result ≡ [] }
     {
@@ -505,8 +505,8 @@ impl Values {
         }
     }
 
-    /// Appends a value. It fails only where four or more stand already and there is no memory for one more, and changes
-    /// nothing then.
+    /// Appends a value. `NoMemory` if four or more values are there already and memory runs out; the values are then as
+    /// they were.
     pub fn push(&mut self, value: Value) -> Result<(), NoMemory>
         ensures ok { OnOk result (self.new ≡ self.old ++ value ∷ []) }
         ensures succeeds { length self.old < 4 → IsOk result }
@@ -516,14 +516,14 @@ impl Values {
         Ok(())
     }
 
-    /// The value at a place, counted from 0; none past the end.
+    /// The value at `index`, counted from 0; `None` if `index` is past the end.
     pub fn get(&self, index: usize) -> Option<Value>
         ensures { result ≡ slice_get self.now index }
     {
         self.items.as_slice().get(index).copied()
     }
 
-    /// How many values.
+    /// How many values there are.
     pub fn len(&self) -> usize
         ensures { result ≡ length self.now }
     {
@@ -531,7 +531,7 @@ impl Values {
     }
 }
 
-/// Why a number instruction has no value. (Standard, 4.3.2)
+/// Why a number instruction traps. (Standard, 4.3.2)
 #[derive(Clone, Copy, Debug, PartialEq, Eq)]
 pub enum NumTrap {
     DivideByZero,

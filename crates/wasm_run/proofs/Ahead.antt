@@ -8,7 +8,7 @@ use Rattle.module_ast.specs.Structure.{Tree, done, plain, Plain, br, br_if, br_t
 use Rattle.module_ast.specs.Validation.{push}
 use Rattle.wasm_sem.specs.Execution.{outermost, TraceItem, Instance, Label, Frame, Env, Configuration, configuration, Next, reduces, pop_values, branch_with, branch, exit_label, frame_behind, reduce_code, env_after, return_to}
 use Rattle.wasm_sem.specs.declared.Answer.TheVariants.{Returned}
-use Rattle.wasm_sem.proofs.Rules.{Jumps, lands, leaves, crosses, unfed, unheld, Branches, by_br, by_br_if, by_table, by_return, Rule, computes, halts, jumps, stays, calls, misses, opens, skips, falls, finishes, enters, rests, lacks, rule_of, by_index, by_slot, frame_before, frame_after}
+use Rattle.wasm_sem.proofs.Rules.{Jumps, lands, leaves, crosses, unfed, unheld, TakesBranch, by_br, by_br_if, by_table, by_return, StepRule, computes, halts, jumps, stays, calls, misses, opens, skips, falls, finishes, enters, rests, lacks, rule_of, by_index, by_slot, frame_before, frame_after}
 use Rattle.run_stack.specs.Calls.{NextIsNoCall}
 use Rattle.run_stack.specs.Comes.{IsUnstuck}
 use Rattle.run_stack.specs.Below.{IsBelow}
@@ -147,7 +147,7 @@ module _ (inst : Instance) where
   IsLeaving (configuration e []) next = Unit {0}
   IsLeaving (configuration e (fr ∷ below)) next = NextIsNoCall fr.top.rest → NextLeaves inst e fr below fr.top.rest fr.top.ops next
 
-  by_branch : (e : Env) (fr : Frame) (below : List Frame) (i : Plain) (k : Tree) (o : List Value) (n : ℕ) (left : List Value) {is js : List TraceItem} {next : Next} → Branches (frame_after fr k o) i o n left is
+  by_branch : (e : Env) (fr : Frame) (below : List Frame) (i : Plain) (k : Tree) (o : List Value) (n : ℕ) (left : List Value) {is js : List TraceItem} {next : Next} → TakesBranch (frame_after fr k o) i o n left is
       → Jumps inst e (frame_after fr k o) below left n (frame_after fr k o).top fr.outer js next → NextLeaves inst e (frame_before fr (plain i k) o) below (plain i k) o next
   by_branch e fr below _ k _ _ _ (by_br n o) j =
       jump_leaves inst e (frame_before fr (plain (br n) k) o) below (frame_after fr k o) (plain (br n) k) o o 0 refl j (is_outermost n (length fr.outer) 0) (last_same fr.outer)
@@ -174,7 +174,7 @@ module _ (inst : Instance) where
       last_same [] = refl
       last_same (l ∷ ls) = refl
 
-  by_rule : {c : Configuration} {is ts : List TraceItem} {next : Next} → Rule inst c is ts next → IsLeaving c next
+  by_rule : {c : Configuration} {is ts : List TraceItem} {next : Next} → StepRule inst c is ts next → IsLeaving c next
   by_rule (computes e fr below i k o new l left si sr q same) = λ no_call. tt
   by_rule (halts e fr below i k o t si sr q) = λ no_call. tt
   by_rule (jumps e fr below i k o n left b q j) = λ no_call. by_branch e fr below i k o n left b j

@@ -6,7 +6,7 @@ use Rattle.wasm_sem.specs.Types.{ValType, Value, Body, FuncType}
 use Rattle.module_ast.specs.Validation.{push, declared_locals}
 use Rattle.wasm_sem.specs.Execution.{values_of, zeros}
 use Rattle.wasm_run.specs.Entering.{StandsAlone}
-use Rattle.run_stack.specs.Flat.{Spot, Base, Flat, Enters}
+use Rattle.run_stack.specs.Flat.{Spot, Base, Flat, PutsFrame}
 use Rattle.wasm_run.proofs.Answered.{values_count}
 use Rattle.run_stack.proofs.Pushed.{push_length, push_reversed}
 use Rattle.wasm_run.proofs.Rooms.{zeros_count}
@@ -16,7 +16,7 @@ pub numbers_pushed : (ts : List ValType) (zs : List ℤ) (xs : List Value) → l
 numbers_pushed ts zs xs = omega (arith, push_length (values_of ts zs) xs, values_count ts zs)
 
 module _ (ty : FuncType) (body : Body) (numbers : List ℤ) (high nesting : ℕ) (g u : Flat) (values : g.values ≡ push (values_of ty.params numbers) []) (spots : g.spots ≡ []) (bases : g.bases ≡ [])
-    (enters : Enters (length ty.params) (zeros (declared_locals body.groups)) body.code (length ty.results) high nesting g u) where
+    (enters : PutsFrame (length ty.params) (zeros (declared_locals body.groups)) body.code (length ty.results) high nesting g u) where
   abbrev args : List Value
   args = values_of ty.params numbers
 
@@ -53,9 +53,9 @@ module _ (ty : FuncType) (body : Body) (numbers : List ℤ) (high nesting : ℕ)
 
 pub alone_on : {E : Type 0} (r : Result (Unit {0}) E) (ty : FuncType) (body : Body) (numbers : List ℤ) (params results : List ValType) (high nesting : ℕ) (g u : Flat) → params ≡ ty.params → results ≡ ty.results
     → g.values ≡ push (values_of params numbers) [] → g.spots ≡ [] → g.bases ≡ []
-    → OnOk r (Enters (length params) (zeros (declared_locals body.groups)) body.code (length results) high nesting g u) → OnOk r (StandsAlone ty body numbers high nesting u)
+    → OnOk r (PutsFrame (length params) (zeros (declared_locals body.groups)) body.code (length results) high nesting g u) → OnOk r (StandsAlone ty body numbers high nesting u)
 alone_on (Ok x) ty body numbers params results high nesting g u p q values spots bases enters =
     stands_alone ty body numbers high nesting g u (values ∙ ap (λ ts. push (values_of ts numbers) []) p) spots bases
-    (subst (λ ts. Enters (length ty.params) (zeros (declared_locals body.groups)) body.code (length ts) high nesting g u) q
-    (subst (λ ts. Enters (length ts) (zeros (declared_locals body.groups)) body.code (length results) high nesting g u) p enters))
+    (subst (λ ts. PutsFrame (length ty.params) (zeros (declared_locals body.groups)) body.code (length ts) high nesting g u) q
+    (subst (λ ts. PutsFrame (length ts) (zeros (declared_locals body.groups)) body.code (length results) high nesting g u) p enters))
 alone_on (Err e) ty body numbers params results high nesting g u p q values spots bases enters = tt

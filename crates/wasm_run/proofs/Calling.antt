@@ -9,7 +9,7 @@ use Rattle.wasm_sem.specs.declared.Script.{Script}
 use Rattle.wasm_sem.specs.declared.Trap.{Trap}
 use Rattle.wasm_sem.specs.declared.Trap.TheVariants.{Depth}
 use Rattle.wasm_sem.specs.Execution.{own, Instance, instance, Frame, Env, Configuration, configuration, Next, reduces, traps, with_ops, new_frame, env_after, after_step, run_of, zeros}
-use Rattle.run_stack.specs.Flat.{Flat, Enters}
+use Rattle.run_stack.specs.Flat.{Flat, PutsFrame}
 use Rattle.wasm_run.specs.Entering.{IsCalling, entered_next, HasEntered}
 use Rattle.wasm_run.specs.Moves.{RunsOn, EndsWith}
 use Rattle.run_stack.specs.Slots.{behind_call}
@@ -60,7 +60,7 @@ module _ (m : Module) (s : Script) (made : ℕ) (f : Flat) (memory : Held) (glob
   }
 
   abbrev Entered : Option Trap → Flat → (high nesting : ℕ) → Type 0
-  Entered trap u high nesting = trap ≡ None → Enters (length ty.params) (zeros (declared_locals body.groups)) body.code (length ty.results) high nesting t u
+  Entered trap u high nesting = trap ≡ None → PutsFrame (length ty.params) (zeros (declared_locals body.groups)) body.code (length ty.results) high nesting t u
 
   module _ (locals high nesting : ℕ) (u : Flat) (size : IsSizeOf m ty body locals high nesting) where
     entering : (trap : Option Trap) (b : Bool) → Entered trap u high nesting → HasEntered x.env trap (next_by b) u → KeptBy trap (after_step inst start (next_by b)) u

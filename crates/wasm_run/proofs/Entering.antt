@@ -9,12 +9,12 @@ use Rattle.wasm_sem.specs.Execution.{Instance, zeros, Frame, Env, configuration,
 use Rattle.wasm_run.specs.Entering.{IsCalling, entered_next, HasEntered}
 use Rattle.std.proofs.lemmas.List.{reverse-append, length-reverse}
 use Rattle.module_ast.specs.Structure.{Tree}
-use Rattle.run_stack.specs.Flat.{Flat, Enters}
+use Rattle.run_stack.specs.Flat.{Flat, PutsFrame}
 use Rattle.run_stack.specs.Kept.{under, all_values, all_spots, all_bases, Lies}
 use Rattle.run_stack.proofs.Popped.{Parts, parts}
 
 module _ (s u : Flat) (fr : Frame) (below : List Frame) (f : ℕ) (ty : FuncType) (locals : List ValType) (code : Tree) (args rest : List Value) (height nesting : ℕ) (lies : Lies s (fr ∷ below))
-    (popped : pop_values (length ty.params) fr.top.ops [] ≡ Some (args, rest)) (enters : Enters (length ty.params) (zeros locals) code (length ty.results) height nesting s u) where
+    (popped : pop_values (length ty.params) fr.top.ops [] ≡ Some (args, rest)) (enters : PutsFrame (length ty.params) (zeros locals) code (length ty.results) height nesting s u) where
   abbrev caller : Frame
   caller = with_ops fr rest
 
@@ -70,7 +70,7 @@ module _ (s : Flat) (inst : Instance) (e : Env) (fr : Frame) (below : List Frame
       let k : inst.depth ≤ length (with_ops fr rest ∷ below) = omega (arith, h, limit, frames_are s fr below n calling.lies frames) in
       subst (λ b. HasEntered e (Some Depth) (within_depth inst e (with_ops fr rest) below new b) s) (sym (le-ltb (length (with_ops fr rest ∷ below)) inst.depth k)) refl
 
-  pub goes_in : n < depth → (u : Flat) (height nesting : ℕ) → Enters (length ty.params) (zeros (declared_locals body.groups)) body.code (length ty.results) height nesting s u → HasEntered e None (entered_next inst e fr below f ty body args rest) u
+  pub goes_in : n < depth → (u : Flat) (height nesting : ℕ) → PutsFrame (length ty.params) (zeros (declared_locals body.groups)) body.code (length ty.results) height nesting s u → HasEntered e None (entered_next inst e fr below f ty body args rest) u
   goes_in h u height nesting enters =
       let k : length (with_ops fr rest ∷ below) < inst.depth = omega (arith, h, limit, frames_are s fr below n calling.lies frames) in
       subst (λ b. HasEntered e None (within_depth inst e (with_ops fr rest) below new b) u) (sym (lt-ltb (length (with_ops fr rest ∷ below)) inst.depth k))

@@ -11,7 +11,7 @@ use Rattle.wasm_sem.specs.declared.HostAnswer.{HostAnswer}
 use Rattle.wasm_sem.specs.declared.Script.{Script}
 use Rattle.wasm_sem.specs.Execution.{TraceItem, entry, event, host_call, host_item, Callee, host, callee_type, Instance, instance, Frame, Env, Configuration, configuration, Next, run_of, values_of, answer_at, writes_done, told_invoke, told_popped, told_items, items_by, items, has_group}
 use Rattle.wasm_sem.specs.Rules.{next_answer, answered_values}
-use Rattle.wasm_sem.proofs.Rules.{AreEvents, no_more, an_event, only_quiet, quiet_events, post_events, jump_events, begin_events, Invokes, begins, too_deep, replies, hears, Rule, computes, halts, jumps, stays, calls, misses, opens, skips, falls, finishes, enters, rests, lacks, rule_of}
+use Rattle.wasm_sem.proofs.Rules.{AreEvents, no_more, an_event, only_quiet, quiet_events, post_events, jump_events, begin_events, Invokes, begins, too_deep, replies, hears, StepRule, computes, halts, jumps, stays, calls, misses, opens, skips, falls, finishes, enters, rests, lacks, rule_of}
 use Rattle.wasm_run.specs.declared.note.Entry.{Entry}
 use Rattle.wasm_run.specs.declared.note.HostNote.{HostNote}
 use Rattle.run_store.specs.declared.functions.Function.{Function}
@@ -50,7 +50,7 @@ invoke_outside (too_deep ty locals code deep) = refl
 invoke_outside {inst = inst} {e = e} {below = below} {f = f} {args = args} (replies ty) = ap (λ (js : List TraceItem). host_item e f ty (next_answer inst e) args ∷ js) (none_outside (post_events below (answered_values inst e ty)))
 invoke_outside (hears ty) = refl
 
-rule_outside : {inst : Instance} {c : Configuration} {is ts : List TraceItem} {next : Next} → Rule inst c is ts next → outside_items is ≡ outside_items ts
+rule_outside : {inst : Instance} {c : Configuration} {is ts : List TraceItem} {next : Next} → StepRule inst c is ts next → outside_items is ≡ outside_items ts
 rule_outside (computes e fr below i k o new l left si sr q same) = none_outside (only_quiet q)
 rule_outside (halts e fr below i k o t si sr q) = none_outside (only_quiet q)
 rule_outside (jumps e fr below i k o n left b q j) = none_outside (quiet_events q (jump_events j))

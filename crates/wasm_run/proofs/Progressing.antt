@@ -11,7 +11,7 @@ use Rattle.wasm_run.specs.declared.progress.Progress.{Progress}
 use Rattle.wasm_run.specs.declared.progress.Stage.{Stage}
 use Rattle.wasm_run.specs.declared.progress.Stage.TheVariants as stages
 use Rattle.wasm_run.specs.Moves.{env_beside, HasSameAnswers, MovesBy, MayWant}
-use Rattle.wasm_run.specs.Progress.{IsStage, Tells, Follows, StepsInside, env_by, KeepsAnswers, GoesOn}
+use Rattle.wasm_run.specs.Progress.{IsStage, TellsProgress, MovesOn, StepsInside, env_by, KeepsAnswers, TakesStep}
 use Rattle.wasm_run.specs.Running.{Run, configuration_of, one_more}
 use Rattle.std.proofs.lemmas.Bool.{cases_lt}
 use Rattle.wasm_sem.specs.declared.Script.{Script}
@@ -22,20 +22,20 @@ use Rattle.wasm_run.proofs.NextCalls.{calls_count}
 -- ---- answers
 
 -- the start has ended
-pub started_tells : (m : Module) (inst : Instance) (e : Env) (p q : Progress) (f : ℕ) (a : Answer) → p.stage ≡ stages.Start f → Tells m e p → IsStage m q.stage (after_start inst a) → q.started ≡ Some a → q.answers ≡ p.answers → Tells m (env_after inst e.phase e a) q
+pub started_tells : (m : Module) (inst : Instance) (e : Env) (p q : Progress) (f : ℕ) (a : Answer) → p.stage ≡ stages.Start f → TellsProgress m e p → IsStage m q.stage (after_start inst a) → q.started ≡ Some a → q.answers ≡ p.answers → TellsProgress m (env_after inst e.phase e a) q
 started_tells m inst e p q f a at t stage started answers =
-    subst (λ ph. Tells m (env_after inst ph e a) q) (sym (subst (λ st. IsStage m st e.phase) at t.stage).1)
+    subst (λ ph. TellsProgress m (env_after inst ph e a) q) (sym (subst (λ st. IsStage m st e.phase) at t.stage).1)
     (record { stage = stage; started = started; answers = ap (λ v. v.items) answers ∙ t.answers })
 
 -- a call has ended
-pub called_tells : (m : Module) (inst : Instance) (e : Env) (p q : Progress) (n : ℕ) (a : Answer) → p.stage ≡ stages.Call n → Tells m e p → IsStage m q.stage (call_from inst (n + 1)) → q.started ≡ p.started → q.answers.items ≡ p.answers.items ++ a ∷ [] → Tells m (env_after inst e.phase e a) q
+pub called_tells : (m : Module) (inst : Instance) (e : Env) (p q : Progress) (n : ℕ) (a : Answer) → p.stage ≡ stages.Call n → TellsProgress m e p → IsStage m q.stage (call_from inst (n + 1)) → q.started ≡ p.started → q.answers.items ≡ p.answers.items ++ a ∷ [] → TellsProgress m (env_after inst e.phase e a) q
 called_tells m inst e p q n a at t stage started answers =
-    subst (λ ph. Tells m (env_after inst ph e a) q) (sym (subst (λ st. IsStage m st e.phase) at t.stage))
+    subst (λ ph. TellsProgress m (env_after inst ph e a) q) (sym (subst (λ st. IsStage m st e.phase) at t.stage))
     (record { stage = subst (λ k. IsStage m q.stage (call_from inst k)) (omega arith) stage; started = started ∙ t.started; answers = answers ∙ ap (λ others. others ++ a ∷ []) t.answers })
 
 -- ---- steps
 
-same_tells : (m : Module) (e f : Env) (p : Progress) → HasSameAnswers e f → Tells m e p → Tells m f p
+same_tells : (m : Module) (e f : Env) (p : Progress) → HasSameAnswers e f → TellsProgress m e p → TellsProgress m f p
 same_tells m e f p same t = record {
   stage = subst (IsStage m p.stage) (sym same.phase) t.stage;
   started = t.started ∙ sym same.started;
@@ -43,7 +43,7 @@ same_tells m e f p same t = record {
 }
 
 -- with room for an answer
-pub with_room : (m : Module) (e : Env) (p q : Progress) → q.stage ≡ p.stage → q.started ≡ p.started → q.answers.items ≡ p.answers.items → Tells m e p → Tells m e q
+pub with_room : (m : Module) (e : Env) (p q : Progress) → q.stage ≡ p.stage → q.started ≡ p.started → q.answers.items ≡ p.answers.items → TellsProgress m e p → TellsProgress m e q
 with_room m e p q stage started answers t = record {
   stage = subst (λ st. IsStage m st e.phase) (sym stage) t.stage;
   started = started ∙ t.started;
@@ -53,7 +53,7 @@ with_room m e p q stage started answers t = record {
 -- a step was made
 pub moved_answers : (old new : Run) (p q : Progress) (functions : List ℕ) (a : Option Answer) → KeepsAnswers old p functions → length p.answers.items < vec_capacity p.answers → new ≡ one_more old
     → MovesBy (instance old.module old.script) a (configuration_of old) (configuration_of (one_more old))
-    → ((m : Module) (inst : Instance) (e : Env) → length inst.calls ≡ length functions → Tells m e p → Tells m (env_by inst a e) q) → (a ≡ None → q ≡ p) → KeepsAnswers new q functions
+    → ((m : Module) (inst : Instance) (e : Env) → length inst.calls ≡ length functions → TellsProgress m e p → TellsProgress m (env_by inst a e) q) → (a ≡ None → q ≡ p) → KeepsAnswers new q functions
 moved_answers old new p q functions None had room is moves ended same =
     subst (λ r. KeepsAnswers r q functions) (sym is)
     (subst (λ q. KeepsAnswers (one_more old) q functions) (sym (same refl)) (record {
@@ -76,7 +76,7 @@ moved_answers old new p q functions (Some a) had room is moves ended same =
 -- ---- a step inside a function
 
 -- it went on
-pub follows_none : (calls : ℕ) (p : Progress) → Follows calls None p p
+pub follows_none : (calls : ℕ) (p : Progress) → MovesOn calls None p p
 follows_none calls p = record { tells = λ m inst e counts t. t; same = λ h. refl }
 
 -- memory was wanting
@@ -86,7 +86,7 @@ steps_wanting calls (Err u) old new p h same may = ((same, may), refl)
 
 -- ---- what a step is said to have done
 
-pub turned : (b : Bool) (turn : Turn) (old new : Run) → turn ≡ next_turn old → GoesOn (Ok b) old new → MakesTurn (Ok turn) old new
+pub turned : (b : Bool) (turn : Turn) (old new : Run) → turn ≡ next_turn old → TakesStep (Ok b) old new → MakesTurn (Ok turn) old new
 turned true turn old new is (more, going) =
     (is, more ∙ by_hook (hook_in (items (instance old.module old.script) (configuration_of old))) (is ∙ ap (λ b. turn_by b (hook_in (items (instance old.module old.script) (configuration_of old)))) going))
   where
@@ -97,7 +97,7 @@ turned false turn old new is (same, done) =
     (is, same ∙ ap (λ t. after_turn t old) (sym (is ∙ ap (λ b. turn_by b (hook_in (items (instance old.module old.script) (configuration_of old)))) done)))
 
 -- before the first step
-pub opening_tells : (m : Module) (s : Script) (p : Progress) → IsStage m p.stage (first_phase (instance m s) m.start) → p.started ≡ None → p.answers.items ≡ [] → Tells m (env_beside (run_of m s 0)) p
+pub opening_tells : (m : Module) (s : Script) (p : Progress) → IsStage m p.stage (first_phase (instance m s) m.start) → p.started ≡ None → p.answers.items ≡ [] → TellsProgress m (env_beside (run_of m s 0)) p
 opening_tells m s p stage started answers = record { stage = stage; started = started; answers = answers }
 
 -- ---- several steps
@@ -110,7 +110,7 @@ pub record HasGone (steps : ℕ) (old new : Run) : Type 0 where
 pub gone_none : (r : Run) → HasGone 0 r r
 gone_none r = record { further = ap (λ n. record r { made = n }) (omega arith); going = λ fewer h. absurd (omega (arith, h)) }
 
-pub gone_more : (steps : ℕ) (old new next : Run) → HasGone steps old new → GoesOn (Ok true) new next → HasGone (steps + 1) old next
+pub gone_more : (steps : ℕ) (old new next : Run) → HasGone steps old new → TakesStep (Ok true) new next → HasGone (steps + 1) old next
 gone_more steps old new next had (more, going) = record {
   further = more ∙ ap one_more had.further ∙ ap (λ n. record old { made = n }) (omega arith);
   going = λ fewer h. elim (cases_lt fewer steps) [
@@ -125,7 +125,7 @@ pub gone_further : (most steps : ℕ) (old new : Run) → steps ≤ most → Has
 gone_further most steps old new few had = record { steps = steps; few = few; further = had.further; going = had.going }
 
 -- where memory is wanting
-pub wanted : (r : Result Bool AllocError) (old new : Run) → IsErr r → new ≡ old → MayWant (configuration_of old) → is_over (configuration_of old) ≡ false → GoesOn r old new
+pub wanted : (r : Result Bool AllocError) (old new : Run) → IsErr r → new ≡ old → MayWant (configuration_of old) → is_over (configuration_of old) ≡ false → TakesStep r old new
 wanted (Ok b) old new h same want going = absurd cc
 wanted (Err u) old new h same want going = (same, want, going)
 

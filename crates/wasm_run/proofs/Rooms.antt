@@ -17,7 +17,7 @@ use Rattle.wasm_sem.proofs.Runs.{run_add}
 use Rattle.wasm_sem.proofs.Sound.{never_lacks}
 use Rattle.wasm_sem.proofs.Heights.{stays_within}
 use Rattle.wasm_run.proofs.Following.{Follows, stays, returns, leaves, NextFollows, step_follows}
-use Rattle.run_stack.specs.Flat.{Flat, Enters}
+use Rattle.run_stack.specs.Flat.{Flat, PutsFrame}
 use Rattle.run_stack.specs.Kept.{ops_of, spots_of, all_values, low_of, all_spots, Lies}
 use Rattle.run_stack.specs.Comes.{IsUnstuck}
 use Rattle.run_stack.specs.Standing.{HasRoomFor, HasStepRoom, IsStanding, KeepsStore}
@@ -143,7 +143,7 @@ zeros_count [] = refl
 zeros_count (t ∷ ts) = ap suc (zeros_count ts)
 
 module _ (m : Module) (s u : Flat) (fr : Frame) (below : List Frame) (f : ℕ) (ty : FuncType) (locals : List ValType) (code : Tree) (args rest : List Value) (most nesting : ℕ) (lies : Lies s (fr ∷ below))
-    (popped : pop_values (length ty.params) fr.top.ops [] ≡ Some (args, rest)) (enters : Enters (length ty.params) (zeros locals) code (length ty.results) most nesting s u)
+    (popped : pop_values (length ty.params) fr.top.ops [] ≡ Some (args, rest)) (enters : PutsFrame (length ty.params) (zeros locals) code (length ty.results) most nesting s u)
     (at : slice_get (callees_of m) f ≡ Some (own ty locals code)) (high : most ≡ height (function_context m ty locals) code) (deep : nesting ≡ code_nesting code) where
   own_fits : (c : Callee) → Some (own ty locals code) ≡ Some c → (ty1 : FuncType) (declared : List ValType) (code1 : Tree) → c ≡ own ty1 declared code1
       → (length (all_values (with_ops fr rest ∷ below)) + length (ty1.params ++ declared) + height (function_context m ty1 declared) code1 ≤ u.value_room) × (length (all_spots (with_ops fr rest ∷ below)) + 1 + code_nesting code1 ≤ u.spot_room)

@@ -3,7 +3,7 @@ use Rattle.std.proofs.Common.{◌≡◌, ℕ, List, [], ◌∷◌, Some, refl}
 use Rattle.wasm_sem.specs.Types.{Value}
 use Rattle.wasm_sem.specs.declared.Trap.{Trap}
 use Rattle.wasm_sem.specs.Execution.{Store, Instance, Label, Frame, Env, Configuration, configuration, Next, reduces, traps, stuck, pop_values, return_to, reduce_code, TraceItem, outermost}
-use Rattle.wasm_sem.proofs.Rules.{Jumps, lands, leaves, crosses, unfed, unheld, by_index, by_slot, Rule, computes, halts, jumps, stays, calls, misses, opens, skips, falls, finishes, enters, rests, lacks, rule_of}
+use Rattle.wasm_sem.proofs.Rules.{Jumps, lands, leaves, crosses, unfed, unheld, by_index, by_slot, StepRule, computes, halts, jumps, stays, calls, misses, opens, skips, falls, finishes, enters, rests, lacks, rule_of}
 use Rattle.run_stack.specs.Calls.{NextIsNoCall}
 use Rattle.wasm_sem.specs.Rules.{HasSameRest}
 
@@ -37,7 +37,7 @@ module _ (inst : Instance) where
   IsWithin (configuration e []) next = Unit {0}
   IsWithin (configuration e (fr ∷ below)) next = NextIsNoCall fr.top.rest → Within inst e fr below next
 
-  by_rule : {c : Configuration} {is ts : List TraceItem} {next : Next} → Rule inst c is ts next → IsWithin c next
+  by_rule : {c : Configuration} {is ts : List TraceItem} {next : Next} → StepRule inst c is ts next → IsWithin c next
   by_rule (computes e fr below i k o new l left si sr q same) = λ no_call. moves new _ same refl
   by_rule (halts e fr below i k o t si sr q) = λ no_call. fails t
   by_rule (jumps e fr below i k o n left b q j) = λ no_call. by_jump e _ _ below left j refl (same_last _ _ fr.outer refl)

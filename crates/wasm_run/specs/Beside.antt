@@ -1,5 +1,5 @@
--- What a run has beside its frames, memory and globals: what runs, the answers so far, the table and how many host calls
--- were made.
+-- What a run has apart from its frames, memory and globals: what runs, the answers so far, the table, and the number of
+-- host calls.
 use Rattle.std.specs.Prelude.{◌≡◌, ℕ, ◌≤◌, List, Option}
 use Rattle.wasm_sem.specs.Types.{Module, Value}
 use Rattle.module_ast.specs.Memory.{pages}
@@ -12,7 +12,7 @@ use Rattle.run_store.specs.Resolved.{AreFunctionsOf}
 use Rattle.run_stack.specs.Flat.{Flat}
 use Rattle.wasm_run.specs.Running.{IsRunning}
 
--- the same runs, with the answers so far
+-- the same runs, and the answers are the same
 pub record GoesOnBeside (old new : Env) : Type 0 where
   pub phase : new.phase ≡ old.phase
   pub started : new.started ≡ old.started
@@ -27,7 +27,7 @@ hosts_in (configuration e fs) = e.store.hosts
 abbrev pub pages_in : Configuration → ℕ
 pages_in (configuration e fs) = pages e.store.memory
 
--- so many were made by the run, one in a step at most
+-- the run made `hosts` host calls, at most one in a step
 pub record HasMadeHosts (m : Module) (s : Script) (made hosts : ℕ) : Type 0 where
   pub counted : hosts_in (run_of m s made) ≡ hosts
   pub few : hosts ≤ made
@@ -36,7 +36,7 @@ pub record HasMadeHosts (m : Module) (s : Script) (made hosts : ℕ) : Type 0 wh
 abbrev pub IsTableOf : Module → Script → List (Option ℕ) → Type 0
 IsTableOf m s slots = slots ≡ (opening_store m s).slots
 
--- what the machine keeps of a run after so many steps
+-- what the machine keeps of a run after `made` steps
 pub record KeepsRun (m : Module) (s : Script) (made : ℕ) (f : Flat) (memory : Held) (globals : List Value) (hosts : ℕ) (functions : List Function) (table : List (Option ℕ)) : Type 0 where
   pub running : IsRunning m s made f memory globals
   pub counted : HasMadeHosts m s made hosts

@@ -12,7 +12,7 @@ pub record IsCalling (s : Flat) (inst : Instance) (fr : Frame) (below : List Fra
   pub lies : Lies s (fr ∷ below)
   pub popped : pop_values (length ty.params) fr.top.ops [] ≡ Some (args, rest)
 
--- the frame of the call, or a trap where there are too many
+-- the frame of the call, or a trap if there are too many frames
 abbrev pub entered_next : Instance → Env → Frame → List Frame → (func : ℕ) → FuncType → Body → (args rest : List Value) → Next
 entered_next inst e fr below f ty body args rest =
     enter inst e (with_ops fr rest ∷ below) (new_frame f ty (declared_locals body.groups) body.code args)
@@ -24,8 +24,8 @@ HasEntered e _ _ s = ⊥
 
 -- ---- the only frame
 
--- A function of the module has been entered by the start or by a call of the script, with what these numbers stand for. There
--- is room for its locals, so many operands and so many labels inside its own.
+-- A function of the module was entered by the start or by a call of the script, with the values that the numbers stand
+-- for. There is room for its locals, for `height` operands and for `nesting` labels inside its own.
 pub record StandsAlone (ty : FuncType) (body : Body) (numbers : List ℤ) (height nesting : ℕ) (f : Flat) : Type 0 where
   pub lies : (func : ℕ) → Lies f (new_frame func ty (declared_locals body.groups) body.code (values_of ty.params numbers) ∷ [])
   pub values_fit : length (ty.params ++ declared_locals body.groups) + height ≤ f.value_room

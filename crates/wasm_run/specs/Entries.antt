@@ -2,7 +2,7 @@
 use Rattle.std.specs.Prelude.{◌≡◌, ℕ, ℤ, List, [], ◌∷◌, Some, slice_get}
 use Rattle.wasm_sem.specs.Execution.{values_of, Callee, callee_type, Instance, Env, Configuration, configuration, invoke, enter_phase, entry, told_invoke, told_begins}
 
--- it is this function, with what these numbers stand for
+-- this function is entered next, with the values that the numbers stand for
 pub record EntersWith (inst : Instance) (e : Env) (func : ℕ) (numbers : List ℤ) (called : Callee) : Type 0 where
   pub callee : slice_get inst.funcs func ≡ Some called
   pub next_is : enter_phase inst e e.phase ≡ invoke inst e [] func called (values_of (callee_type called).params numbers)
@@ -15,5 +15,5 @@ EntersNext inst (configuration e []) func numbers called = EntersWith inst e fun
 EntersNext inst (configuration e (fr ∷ below)) func numbers called = ⊥
 
 -- this function is entered next, by whatever index and with whatever numbers
-abbrev pub Enters : Instance → Configuration → Callee → Type 0
-Enters inst c called = (func : ℕ) × (numbers : List ℤ) × EntersNext inst c func numbers called
+abbrev pub EntersFunction : Instance → Configuration → Callee → Type 0
+EntersFunction inst c called = (func : ℕ) × (numbers : List ℤ) × EntersNext inst c func numbers called

@@ -1,4 +1,4 @@
--- What a step of a run comes to: a function runs on, or what ran has ended; and where memory may be wanting.
+-- What a step of a run comes to: a function runs on, or what ran has ended. Also: where memory may run out.
 use Rattle.std.specs.Prelude.{◌≡◌, ℕ, ◌⊎◌, [], ◌∷◌, Result, Ok, Err, Option, Some, None, false}
 use Rattle.std.specs.declared.alloc.AllocError.{AllocError}
 use Rattle.module_ast.specs.Structure.{Tree, plain, call, call_indirect, memory_grow}
@@ -9,11 +9,11 @@ use Rattle.wasm_sem.specs.Execution.{Instance, instance, Env, Configuration, con
 use Rattle.run_stack.specs.Leaving.{LeavesMany}
 use Rattle.wasm_run.specs.Running.{Run, configuration_of, one_more, IsInside}
 
--- what stands beside the frames
+-- what a configuration has apart from the frames
 abbrev pub env_beside : Configuration → Env
 env_beside (configuration e fs) = e
 
--- what runs or is entered next is the same, and so are the answers
+-- what runs or is entered next is the same, and the answers are the same
 pub record HasSameAnswers (old new : Env) : Type 0 where
   pub phase : new.phase ≡ old.phase
   pub started : new.started ≡ old.started
@@ -36,8 +36,8 @@ CallsOrGrows (plain (call_indirect x) k) = Unit {0}
 CallsOrGrows (plain memory_grow k) = Unit {0}
 CallsOrGrows _ = ⊥
 
--- Memory may be wanting only where the start or a call of the script is entered, at a call or a `memory.grow`, or where the
--- last frame is left with more than four values.
+-- Memory may run out only at four steps: an entry of the start or of a call of the script, a call, a `memory.grow`, and
+-- one that leaves the last frame with more than four values.
 abbrev pub MayWant : Configuration → Type 0
 MayWant (configuration e []) = is_last e.phase ≡ false
 MayWant (configuration e (fr ∷ below)) = CallsOrGrows fr.top.rest ⊎ ((above : ℕ) × LeavesMany above fr below)
@@ -47,17 +47,17 @@ abbrev pub MovesBy : Instance → Option Answer → (old new : Configuration) �
 MovesBy inst None old new = RunsOn old new
 MovesBy inst (Some a) old new = EndsWith inst a old new
 
--- One step was made. Where memory is wanting none was.
+-- one step was made; none if memory ran out
 abbrev pub MakesStep : Result (Option Answer) AllocError → (old new : Run) → Type 0
 MakesStep (Ok a) old new = (new ≡ one_more old) × MovesBy (instance old.module old.script) a (configuration_of old) (configuration_of (one_more old))
 MakesStep (Err u) old new = (new ≡ old) × MayWant (configuration_of old)
 
--- the answer where a call traps; a function runs on where it does not
+-- the answer if a call traps; if it does not trap, a function runs on
 abbrev pub trap_answer : Option Trap → Option Answer
 trap_answer None = None
 trap_answer (Some t) = Some (Trapped t)
 
--- One step was made, which is a call, and may trap. Where memory is wanting none was.
+-- one step was made, a call, which may trap; none if memory ran out
 abbrev pub MakesCall : Result (Option Trap) AllocError → (old new : Run) → Type 0
 MakesCall (Ok t) old new = MakesStep (Ok (trap_answer t)) old new
 MakesCall (Err u) old new = MakesStep (Err u) old new

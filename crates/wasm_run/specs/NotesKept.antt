@@ -1,10 +1,10 @@
--- Why notes go on where there is nothing to note.
+-- A step that has nothing to note need not be noted.
 use Rattle.std.proofs.Common.{◌≡◌, ◌∙◌, ◌+◌, suc, [], ap, arith}
 use Rattle.wasm_run.specs.declared.note.Noted.{Noted}
 use Rattle.wasm_run.specs.Noting.{last_outside, next_outside, KeepsNote}
 use Rattle.wasm_run.specs.Running.{Run, one_more}
 
--- what a step tells is what the last one has told behind it
+-- what the next step shows is what the last step of the run with one step more showed
 pub further : (r : Run) → last_outside r.module r.script (r.made + 1) ≡ next_outside r
 further r = let one : r.made + 1 ≡ suc r.made = omega arith in ap (last_outside r.module r.script) one
 

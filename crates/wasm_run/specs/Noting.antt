@@ -28,20 +28,21 @@ noted_items n = entry_items n.entered ++ host_items n.host
 abbrev pub outside_items : List TraceItem → List TraceItem
 outside_items is = chosen_items (λ g. false) is
 
--- those that the trace of a run gained by the last of so many steps
+-- the entries and the host calls that the last of `made` steps added to the trace
 abbrev pub last_outside : Module → Script → (made : ℕ) → List TraceItem
 last_outside m s zero = []
 last_outside m s (suc n) = outside_items (items (instance m s) (run_of m s n))
 
--- those that it gains by the next step
+-- those that the next step adds
 abbrev pub next_outside : Run → List TraceItem
 next_outside r = last_outside r.module r.script (suc r.made)
 
--- The note is of the last step of the run: it has the entry and the host call that the trace gained by it, and nothing else.
+-- the note is of the last step of the run: it has the entry and the host call that the step added to the trace, and
+-- nothing else
 abbrev pub IsNoteOf : Note → Run → Type 0
 IsNoteOf n r = noted_items n ≡ last_outside r.module r.script r.made
 
--- Of a step since the one that was noted last there is nothing to note.
+-- since the step that was noted last there was nothing to note
 pub record KeepsNote (n : Noted) (r : Run) : Type 0 where
   pub few : n.made ≤ r.made
   pub last_is : n.made ≡ r.made → IsNoteOf n.last r

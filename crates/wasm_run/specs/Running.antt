@@ -1,4 +1,4 @@
--- A run as the machine keeps it: a module, a script, and how many steps have been made.
+-- A run as the machine keeps it: a module, a script, and how many steps were made.
 use Rattle.std.specs.Prelude.{◌≡◌, ℕ, ◌+◌, List, [], ◌∷◌, Bool, true, false}
 use Rattle.wasm_sem.specs.Types.{Value, Module}
 use Rattle.module_ast.specs.Validation.{IsValid, IsComplete}
@@ -10,17 +10,17 @@ use Rattle.run_stack.specs.Kept.{Lies}
 use Rattle.run_stack.specs.Standing.{KeepsStore}
 use Rattle.wasm_run.specs.Rooms.{HaveRoom}
 
--- what stands behind so many steps is `run_of «module» script made`
+-- the configuration after the steps is `run_of «module» script made`
 pub record Run : Type 0 where
   pub «module» : Module
   pub script : Script
   pub made : ℕ
 
--- where the run stands
+-- the configuration of the run
 abbrev pub configuration_of : Run → Configuration
 configuration_of r = run_of r.module r.script r.made
 
--- one step more
+-- the run with one step more
 abbrev pub one_more : Run → Run
 one_more r = record r { made = r.made + 1 }
 
@@ -31,7 +31,7 @@ pub record IsLinked (m : Module) (s : Script) : Type 0 where
   pub range : IsScriptInRange s
   pub links : Links m s
 
--- The machine keeps this configuration, with room for each frame. Where no frame is left, it may still have the values of
+-- The machine keeps this configuration, with room for each frame. If no frame is left, it may still have the values of
 -- the last one.
 abbrev pub KeepsConfiguration : Module → Script → Configuration → Flat → Held → List Value → Type 0
 KeepsConfiguration m s (configuration e []) f memory globals = (f.bases ≡ []) × KeepsStore (instance m s) e.store memory globals
@@ -47,12 +47,12 @@ abbrev pub IsInside : Configuration → Type 0
 IsInside (configuration e []) = ⊥
 IsInside (configuration e (fr ∷ below)) = Unit {0}
 
--- as the flag says
+-- the flag says whether A holds
 abbrev pub HoldsIf : Bool → Type 0 → Type 0
 HoldsIf true A = A
 HoldsIf false A = A → ⊥
 
--- the innermost frame is so
+-- there is an innermost frame, and P holds of it
 abbrev pub Innermost : (Frame → Type 0) → Configuration → Type 0
 Innermost P (configuration e []) = ⊥
 Innermost P (configuration e (fr ∷ below)) = P fr

@@ -27,23 +27,23 @@ after_turn (Hook h) r = one_more r
 abbrev pub next_turn : Run → Turn
 next_turn r = turn_of (instance r.module r.script) (configuration_of r)
 
--- The answer says what the step did. Where memory is wanting none was made.
+-- the answer says what the step did; no step was made if memory ran out
 abbrev pub MakesTurn : Result Turn AllocError → (old new : Run) → Type 0
 MakesTurn (Ok turn) old new = (turn ≡ next_turn old) × (new ≡ after_turn turn old)
 MakesTurn (Err u) old new = new ≡ old
 
--- so many steps more
+-- the run with that many steps more
 abbrev pub more_steps : ℕ → Run → Run
 more_steps n r = record r { made = r.made + n }
 
--- up to so many steps were made, none after the end
+-- at most `most` steps were made, and none after the end
 pub record IsFurther (most : ℕ) (old new : Run) : Type 0 where
   pub steps : ℕ
   pub few : steps ≤ most
   pub further : new ≡ more_steps steps old
   pub going : (fewer : ℕ) → fewer < steps → is_over (configuration_of (more_steps fewer old)) ≡ false
 
--- All of them were made, or fewer to the end of the run, or to where memory is wanting.
+-- all of them were made, or fewer, up to the end of the run or to where memory ran out
 abbrev pub RunsFor : (most : ℕ) → Result Stop AllocError → (old new : Run) → Type 0
 RunsFor most (Ok stops.OutOfSteps) old new = (new ≡ more_steps most old) × (is_over (configuration_of new) ≡ false)
 RunsFor most (Ok stops.Over) old new = IsFurther most old new × (is_over (configuration_of new) ≡ true)

@@ -11,8 +11,8 @@ use std::collections::BTreeMap;
 use wasm_num::NoMemory;
 use wasm_sem::Script;
 
-/// The exported functions by their names: of several with one name the first. In an ordered map, names cannot be chosen so
-/// that they collide. (Standard, 2.5.10)
+/// The exported functions by their names; if several exports have one name, the first of them. The map is ordered, so
+/// that no choice of names makes them collide. `NoMemory` if memory runs out. (Standard, 2.5.10)
 pub fn exported_functions<'m>(
     alloc: Global,
     exports: &'m [Export],
@@ -30,7 +30,7 @@ pub fn exported_functions<'m>(
     Ok(named)
 }
 
-/// The function of each call of a script, in order, by its index. Names are sorted once, and each call looks its own up.
+/// The index of the function of each call of a script, in order. Names are sorted once, and each call looks its own up.
 pub(crate) fn called_functions(
     alloc: Global,
     linked: &Module,

@@ -8,8 +8,8 @@ use module_ast::module::FuncType;
 use run_store::Function;
 use wasm_sem::Trap;
 
-/// A call of a function by its index: the code behind the call and, where it goes through a slot of the table, the slot,
-/// whose number is on top of the arguments. (Standard, 4.4.7)
+/// A call of a function: the function with its index, the code behind the call, and, if the call is through a slot of
+/// the table, the number of the slot, which is above the arguments. (Standard, 4.4.7)
 #[derive(Clone, Copy)]
 pub(crate) struct Invocation<'m> {
     pub func: u32,
@@ -19,7 +19,7 @@ pub(crate) struct Invocation<'m> {
 }
 
 impl<'m> Invocation<'m> {
-    /// How many operands stand above the arguments: the number of the slot, where there is one.
+    /// How many operands are above the arguments: one, the number of the slot, if the call is through a slot.
     pub fn above(&self) -> usize
         ensures { result ≡ index_count self.now.slot }
     {
@@ -27,7 +27,7 @@ impl<'m> Invocation<'m> {
     }
 }
 
-/// The call of a host function: by its index, with the code behind the call, the slot, where it goes through one, and its type.
+/// The call of a host function: its index and type, the code behind the call, and the slot, if the call is through one.
 #[derive(Clone, Copy)]
 pub(crate) struct HostCall<'m> {
     pub func: u32,
@@ -36,7 +36,7 @@ pub(crate) struct HostCall<'m> {
     pub ty: &'m FuncType,
 }
 
-/// How many operands stand above the arguments of a call through this slot, if through one: its number.
+/// How many operands are above the arguments of a call: one, the number of the slot, if the call is through a slot.
 pub(crate) fn index_count(slot: Option<u32>) -> usize
     ensures { result ≡ index_count slot }
 {
@@ -46,7 +46,7 @@ pub(crate) fn index_count(slot: Option<u32>) -> usize
     }
 }
 
-/// Where the next instruction leads: it is no call, it traps before it comes to a function, or it calls one.
+/// Where the next instruction leads: it is no call, it traps before it reaches a function, or it calls one.
 #[derive(Drop)]
 pub(crate) enum Target<'m> {
     NoCall,

@@ -1,4 +1,4 @@
-// What a host function answers. (Standard, 4.4.7)
+// The answers of host functions. (Standard, 4.4.7)
 
 ghost use Rattle.std.specs.Prelude.{◌≡◌, ◌+◌, ◌≤◌, length, drop, All, IfOk, OnOk, OnErr};
 ghost use Rattle.module_ast.specs.Validation.{push};
@@ -13,7 +13,8 @@ use std::alloc::Global;
 use wasm_num::{NoMemory, ValType, Value, Values};
 use wasm_sem::{HostAnswer, HostWrite, Script};
 
-/// A value for each type is put on top, for which there is room: what the numbers stand for in order, and 0 past the last.
+/// Puts a value for each type on top, for which there is room: those that the numbers stand for, in order, and 0 for
+/// each type past the last number.
 pub(crate) fn push_values(stack: &mut Stack, types: &[ValType], numbers: &[i128])
     requires { length stack.old.values + length types.now ≤ stack.old.value_room }
     ensures { stack.new ≡ record stack.old { values = push (values_of types.now numbers.now) stack.old.values } }
@@ -24,7 +25,7 @@ pub(crate) fn push_values(stack: &mut Stack, types: &[ValType], numbers: &[i128]
     }
 }
 
-/// A value for each type: what the numbers stand for in order, and 0 past the last.
+/// A value for each type: those that the numbers stand for, in order, and 0 for each type past the last number.
 pub(crate) fn values_of(
     alloc: Global,
     types: &[ValType],
@@ -40,27 +41,27 @@ pub(crate) fn values_of(
     Ok(values)
 }
 
-// The writes of an answer are done in order, but for those that end past the memory.
+// Does the writes of an answer, in order, except those that end past the memory.
 fn write_all(memory: &mut Memory, writes: &[HostWrite])
     requires { All IsWriteInRange writes.now }
     ensures bytes { memory.new.bytes ≡ written_memory (writes_done memory.old.bytes writes.now) memory.old.bytes }
     ensures max { memory.new.max ≡ memory.old.max }
 {
     for write in writes {
-        // one that ends past the memory is left out
+        // A write that ends past the memory is left out.
         let _ = memory.write(u64::from(write.address), write.bytes.as_slice());
     }
 }
 
-/// The answer to a host call, where so many were made before, if the script has one.
+/// The script's answer to a host call before which there were `hosts`, if the script has one.
 pub(crate) fn next_answer(script: &Script, hosts: u64) -> Option<&HostAnswer>
     ensures { answer_given result ≡ answer_at script.now.hosts hosts }
 {
     script.hosts.as_slice().get(hosts as usize)
 }
 
-/// A call is answered with these numbers: the arguments are taken, and the results put on top, for which there is room. A
-/// number for each result in order, and 0 past the last.
+/// Answers a call with these numbers: takes the arguments, and puts the results on top, for which there is room. Each
+/// result is the number in its place, or 0 past the last number.
 pub(crate) fn return_numbers(stack: &mut Stack, ty: &FuncType, numbers: &[i128])
     requires params { length ty.now.params ≤ length stack.old.values }
     requires room { length (drop (length ty.now.params) stack.old.values) + length ty.now.results ≤ stack.old.value_room }
@@ -70,7 +71,8 @@ pub(crate) fn return_numbers(stack: &mut Stack, ty: &FuncType, numbers: &[i128])
     push_values(stack, ty.results.as_slice(), numbers);
 }
 
-/// A call is answered by the script; without an answer, with zeros. Writes that end past the memory are left out.
+/// Answers a call as the script says, or with zeros if the script has no answer. Writes that end past the memory are
+/// left out.
 pub(crate) fn answer(
     stack: &mut Stack,
     memory: &mut Memory,
@@ -93,8 +95,8 @@ pub(crate) fn answer(
     }
 }
 
-/// A host function that no other calls is answered by the script; without an answer, with zeros. Its results are given back.
-/// Writes that end past the memory are left out. After an `Err` the memory is as it was.
+/// Answers the entry of a host function as the script says, or with zeros if the script has no answer, and gives the
+/// results. Writes that end past the memory are left out. After an `Err` the memory is as before.
 pub(crate) fn answer_entry(
     alloc: Global,
     memory: &mut Memory,

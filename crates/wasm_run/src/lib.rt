@@ -1,4 +1,4 @@
-// The interpreter.
+// The interpreter: a run of a module under a script, step by step.
 #![tactic(auto)]
 
 mod call;

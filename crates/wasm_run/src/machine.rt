@@ -1,4 +1,4 @@
-// The machine: a run of a module under a script.
+// The machine: a run with its progress and its notes.
 
 ghost use Rattle.std.specs.Prelude.{◌≡◌, ◌+◌, ◌-◌, ◌<◌, ◌^◌, [], Some, None, true, false, IfOk, OnErr, MatchOption};
 ghost use Rattle.wasm_sem.specs.Execution.{turn_by, IsScriptInRange, Links, is_over};
@@ -6,7 +6,7 @@ ghost use Rattle.wasm_sem.specs.Laws.{slots_in};
 ghost use Rattle.wasm_run.specs.Beside.{hosts_in, pages_in};
 ghost use Rattle.wasm_run.specs.Moves.{MayWant};
 ghost use Rattle.wasm_run.specs.Noting.{IsNoteOf, next_outside, noted_items};
-ghost use Rattle.wasm_run.specs.Progress.{IsEntry, GoesOn};
+ghost use Rattle.wasm_run.specs.Progress.{IsEntry, TakesStep};
 ghost use Rattle.wasm_run.specs.Reaching.{IsHostCall};
 ghost use Rattle.wasm_run.specs.Running.{Run, configuration_of, IsInside, IsLinked};
 ghost use Rattle.wasm_run.specs.Turns.{MakesTurn, RunsFor, started_in, answers_in, next_turn};
@@ -23,9 +23,10 @@ use wasm_num::NoMemory;
 use wasm_sem::{Answer, HookCall, Script, Stop, Turn};
 use wasm_valid::ValidModule;
 
-/// A run of a valid module under a script with which it links, after so many steps. Contracts see these three: what stands
-/// behind the steps is the standard's configuration. It keeps notes of its entries and its host calls, if it is to. (Standard,
-/// 4.2, 4.5)
+/// A run of a valid module under a script with which it links, after some number of steps. (Standard, 4.2, 4.5)
+///
+/// Contracts see the module, the script and the number: they determine the standard's configuration. `Noted` keeps
+/// notes of the run's entries and host calls, `Quiet` keeps none.
 #[derive(Drop)]
 pub struct Machine<'m, N: Notes = Noted> {
     running: Running<'m>,
@@ -57,7 +58,7 @@ struct NextCall<'m> {
     numbers: &'m [i128],
 }
 
-// What a step does that is made: it calls this hook, or none.
+// What a step did that was made: it called this hook, or none.
 fn turn_with(hook: Option<HookCall>) -> Turn
     ensures { result ≡ turn_by false hook }
 {
@@ -68,8 +69,8 @@ fn turn_with(hook: Option<HookCall>) -> Turn
 }
 
 impl<'m, N: Notes> Machine<'m, N> {
-    /// The run of a module under a script with which it links, before the first step: its memory and its table, with the
-    /// data and the elements of its segments, and its globals. The names of exports are sorted once. (Standard, 4.5.4)
+    /// The run before its first step: its memory and its table, with the data and the functions of its segments, and
+    /// its globals. The names of exports are sorted once. `NoMemory` if memory runs out. (Standard, 4.5.4)
     pub fn new(
         alloc: Global,
         valid: &'m ValidModule,
@@ -98,9 +99,11 @@ impl<'m, N: Notes> Machine<'m, N> {
         })
     }
 
-    /// Makes one step, and says what it did: the call of a hook, with its words, or another. After the end of the run nothing
-    /// changes. An `Err` comes only where the start or a call of the script is entered, at a call or a `memory.grow`, or where
-    /// the last frame is left with more than four values, and leaves the machine as it was. (Standard, 4.4)
+    /// Makes one step, and says what it did: a hook call, with its words, or anything else. After the end of the run
+    /// nothing changes. (Standard, 4.4)
+    ///
+    /// `NoMemory`, after which the machine is as before, comes only at four steps: an entry of the start or of a call
+    /// of the script, a call, a `memory.grow`, and one that leaves the last frame with more than four values.
     pub fn step(&mut self) -> Result<Turn, NoMemory>
         requires few { self.old.made < 2 ^ 64 - 1 }
         ensures turns { MakesTurn result self.old self.new }
@@ -111,9 +114,8 @@ impl<'m, N: Notes> Machine<'m, N> {
         Ok(turn)
     }
 
-    /// Makes steps until the run is over or so many were made. `OutOfSteps` says that the run goes on then. An `Err` comes
-    /// only where the start or a call of the script is entered, at a call or a `memory.grow`, or where the last frame is left
-    /// with more than four values, and leaves the machine before it, behind the steps made so far.
+    /// Makes steps until the run is over or `steps` were made. `OutOfSteps` says that the run goes on then. `NoMemory`
+    /// comes at the steps at which it comes from `step`, and leaves the machine before that step.
     pub fn run(&mut self, steps: u64) -> Result<Stop, NoMemory>
         requires few { self.old.made + steps < 2 ^ 64 }
         ensures ran { RunsFor steps result self.old self.new }
@@ -131,7 +133,7 @@ impl<'m, N: Notes> Machine<'m, N> {
         })
     }
 
-    // What the next step does. An `Err` comes where a function is called or entered.
+    // What the next step does. `NoMemory` comes only at a call or an entry.
     fn turn(&self) -> Result<Turn, NoMemory>
         ensures turn { IfOk result (λ t. t ≡ next_turn self.now) }
         ensures err { OnErr result (MayWant (configuration_of self.now)) }
@@ -145,7 +147,7 @@ impl<'m, N: Notes> Machine<'m, N> {
         Ok(turn_with(self.running.hook_entered(entry.func, entry.numbers)?))
     }
 
-    // The function that is entered next, where none runs; none behind the end.
+    // The function that is entered next, if no function runs; `None` if the run is over.
     fn entry(&self) -> Option<NextCall<'m>>
         requires { IsInside (configuration_of self.now) → ⊥ }
         ensures { MatchOption result (is_over (configuration_of self.now) ≡ true) (λ e. IsEntry self.now e.func e.numbers.now) }
@@ -165,11 +167,11 @@ impl<'m, N: Notes> Machine<'m, N> {
         }
     }
 
-    // Makes one step, and says whether the run had gone on. The phase is looked at only where no function runs.
+    // Makes one step, and says whether the run went on. Asks what is entered next only if no function runs.
     #[inline(always)]
     fn go_on(&mut self) -> Result<bool, NoMemory>
         requires few { self.old.made < 2 ^ 64 - 1 }
-        ensures { GoesOn result self.old self.new }
+        ensures { TakesStep result self.old self.new }
     {
         if self.running.is_inside() {
             if let Some(call) = self.noted_call() {
@@ -182,7 +184,7 @@ impl<'m, N: Notes> Machine<'m, N> {
         self.enter_next()
     }
 
-    // The call of a host function that comes next, if it is to be noted.
+    // The call of a host function that comes next, if notes are kept.
     #[inline(always)]
     fn noted_call(&self) -> Option<HostCall<'m>>
         requires { IsInside (configuration_of self.now) }
@@ -195,14 +197,14 @@ impl<'m, N: Notes> Machine<'m, N> {
         }
     }
 
-    // The call of a host function is made, with its note.
+    // Makes the call of a host function, and notes it.
     #[cold]
     #[inline(never)]
     fn call_noted(&mut self, call: HostCall<'m>) -> Result<bool, NoMemory>
         requires inside { IsInside (configuration_of self.old) }
         requires few { self.old.made < 2 ^ 64 - 1 }
         requires calls { IsHostCall call self.old }
-        ensures { GoesOn result self.old self.new }
+        ensures { TakesStep result self.old self.new }
     {
         let host = self.running.host_note(call)?;
         self.running.call_host(call.rest, call.slot, call.ty);
@@ -226,13 +228,13 @@ impl<'m, N: Notes> Machine<'m, N> {
         Ok(Some(self.running.entry_note(entry.func, entry.numbers)?))
     }
 
-    // The start or the next call of the script is entered, where no function runs; false where the run is over.
+    // Enters the start function or the next call of the script. No function runs. False if the run is over.
     #[cold]
     #[inline(never)]
     fn enter_next(&mut self) -> Result<bool, NoMemory>
         requires outside { IsInside (configuration_of self.old) → ⊥ }
         requires few { self.old.made < 2 ^ 64 - 1 }
-        ensures { GoesOn result self.old self.new }
+        ensures { TakesStep result self.old self.new }
     {
         let Some(entry) = self.entry() else {
             return Ok(false);
@@ -247,7 +249,7 @@ impl<'m, N: Notes> Machine<'m, N> {
         Ok(true)
     }
 
-    /// The table, with no slots where the module has none.
+    /// The table, which has no slots if the module has no table.
     pub fn table(&self) -> &Table
         ensures slots { result.now ≡ slots_in (configuration_of self.now) }
         ensures linked { IsLinked self.now.module self.now.script }
@@ -255,14 +257,14 @@ impl<'m, N: Notes> Machine<'m, N> {
         self.running.table()
     }
 
-    /// The note of the last step; none where notes are not kept.
+    /// The note of the last step; `None` if notes are not kept.
     pub fn noted(&self) -> Option<&Note>
         ensures { MatchOption result (N.KEEPS ≡ false) (λ n. IsNoteOf n.now self.now) }
     {
         self.notes.last(self.running.made())
     }
 
-    /// How many steps have been made.
+    /// How many steps were made.
     pub fn made(&self) -> u64
         ensures { result ≡ self.now.made }
     {
@@ -276,7 +278,7 @@ impl<'m, N: Notes> Machine<'m, N> {
         matches!(self.progress.stage, Stage::Over)
     }
 
-    /// The answer of the start function; none where the module has none, or it has not ended.
+    /// The answer of the start function; `None` if there is no start function, or if it has not ended.
     pub fn start(&self) -> Option<&Answer>
         ensures { MatchOption result (started_in (configuration_of self.now) ≡ None) (λ a. started_in (configuration_of self.now) ≡ Some a.now) }
     {
@@ -290,7 +292,7 @@ impl<'m, N: Notes> Machine<'m, N> {
         self.progress.answers.as_slice()
     }
 
-    /// The answers of the start function and of the calls, as `start` and `answers` say.
+    /// The answers of the start function and of the calls, as from `start` and `answers`.
     pub fn into_answers(self) -> (Option<Answer>, Vec<Answer>)
         ensures start { result.0 ≡ started_in (configuration_of self.entry) }
         ensures calls { result.1.items ≡ answers_in (configuration_of self.entry) }
@@ -298,14 +300,14 @@ impl<'m, N: Notes> Machine<'m, N> {
         (self.progress.started, self.progress.answers)
     }
 
-    /// How many pages the memory has, 0 without one.
+    /// How many pages the memory has; 0 if there is no memory.
     pub fn pages(&self) -> u32
         ensures { result ≡ pages_in (configuration_of self.now) }
     {
         self.running.pages()
     }
 
-    /// How many host calls have been made, those of hooks left out.
+    /// How many host calls were made. Hook calls are not counted.
     pub fn hosts(&self) -> u64
         ensures { result ≡ hosts_in (configuration_of self.now) }
     {
@@ -314,8 +316,8 @@ impl<'m, N: Notes> Machine<'m, N> {
 }
 
 impl Machine<'_> {
-    /// What the last step entered, and its host call: the entry and the host call that the trace gained by it. After `run` it is
-    /// of the last of the steps that were made; before the first step there is neither.
+    /// What the last step entered, and its host call: the entry and the host call that the step added to the trace.
+    /// After `run`, those of the last of its steps; before the first step there is neither.
     pub fn note(&self) -> &Note
         ensures { IsNoteOf result.now self.now }
     {

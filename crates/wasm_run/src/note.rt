@@ -1,4 +1,4 @@
-// What the last step of a run entered, and the host call that it made.
+// Notes: what the last step of a run entered, and the host call that it made.
 
 ghost use Rattle.std.specs.Prelude.{◌≡◌, ◌+◌, ◌∷◌, [], Bool, true, false, Some, IfOk, MatchOption, filter, refl};
 ghost use Rattle.wasm_sem.specs.Execution.{host_call, values_of, is_within, writes_done};
@@ -14,15 +14,16 @@ use std::alloc::Global;
 use wasm_num::{NoMemory, Values};
 use wasm_sem::{HostAnswer, HostWrite};
 
-/// The start function, or the function of a call of the script, by its index, with the arguments with which it was entered.
+/// An entry: the index of the start function or of the function of a script's call, and the arguments with which it is
+/// entered.
 #[derive(Drop)]
 pub struct Entry {
     pub func: u32,
     pub args: Values,
 }
 
-/// The call of a host function that is no hook: the import's index among the module's functions, what it took, what it gave,
-/// and the writes that were done, in order.
+/// A host call: the index of the import among the module's functions, the arguments, the results, and the writes that
+/// were done, in order.
 pub struct HostNote {
     pub import: u32,
     pub args: Values,
@@ -30,7 +31,7 @@ pub struct HostNote {
     pub writes: Vec<HostWrite>,
 }
 
-// By a call of its own, so that a way out past it is one step in a proof.
+// Dropped by hand: each early return past a value of this type then costs one proof step instead of one per field.
 impl Drop for HostNote {
     fn drop(self) {
         let HostNote {
@@ -48,7 +49,7 @@ pub struct Note {
     pub host: Option<HostNote>,
 }
 
-// By a call of its own, so that a way out past it is one step in a proof.
+// Dropped by hand: each early return past a value of this type then costs one proof step instead of one per field.
 impl Drop for Note {
     fn drop(self) {
         let Note {
@@ -65,36 +66,36 @@ pub trait Notes: Drop {
 
     ghost KEEPS: { Bool };
 
-    /// So they stand where a run has come so far.
+    /// What is kept after the steps of this run.
     ghost are_of: { Self → Run → Type 0 };
 
-    /// What stands before the first step.
+    /// What is kept before the first step.
     fn none() -> Self
         ensures { (r : Run) → r.made ≡ 0 → are_of result r };
 
-    /// One step more was made, so many by now, and this is its note; none where notes are not kept.
+    /// Keeps the note of a step, with which `made` steps were made. The note is `None` if notes are not kept.
     fn put(&mut self, made: u64, note: Option<Note>)
         ensures { (r : Run) → are_of self.old r → made ≡ r.made + 1
             → MatchOption note (KEEPS ≡ false) (λ n. noted_items n ≡ next_outside r) → are_of self.new (one_more r) };
 
-    /// The note of the last of so many steps; none where notes are not kept.
+    /// The note of the last of `made` steps; `None` if notes are not kept.
     fn last(&self, made: u64) -> Option<&Note>
         ensures { (r : Run) → are_of self.now r → made ≡ r.made
             → MatchOption result (KEEPS ≡ false) (λ n. IsNoteOf n.now r) };
 
-    /// A step of which there is nothing to note need not be put.
+    /// A step that has nothing to note need not be put.
     ghost goes_on: { (n : Self) (r : Run) → (KEEPS ≡ true → next_outside r ≡ []) → are_of n r → are_of n (one_more r) };
 }
 
-/// The note of the last step that had something to note, behind how many steps it stood, and a note of nothing, for all
-/// other steps: these need not touch it.
+/// The note of the last step that had something to note, and how many steps were made with it. All other steps have an
+/// empty note, so that such a step costs nothing.
 pub struct Noted {
     last: Note,
     nothing: Note,
     made: u64,
 }
 
-// By a call of its own, so that a way out past it is one step in a proof.
+// Dropped by hand: each early return past a value of this type then costs one proof step instead of one per field.
 impl Drop for Noted {
     fn drop(self) {
         let Noted {
@@ -106,7 +107,7 @@ impl Drop for Noted {
 }
 
 impl Noted {
-    /// The note of the last of so many steps.
+    /// The note of the last of `made` steps.
     pub(crate) fn of_step(&self, made: u64) -> &Note
         ensures { (r : Run) → KeepsNote self.now r → made ≡ r.made → IsNoteOf result.now r }
     {
@@ -179,7 +180,7 @@ impl Notes for Quiet {
     ghost goes_on = { λ n r quiet kept. tt };
 }
 
-// Whether a write does not end past a memory of so many bytes.
+// Whether a write ends within a memory of `size` bytes.
 fn is_within(size: usize, write: &HostWrite) -> bool
     ensures { result ≡ is_within size write.now }
 {
@@ -187,7 +188,6 @@ fn is_within(size: usize, write: &HostWrite) -> bool
     count <= size && write.address as usize <= size - count
 }
 
-// A copy of a write.
 fn same_write(alloc: Global, write: &HostWrite) -> Result<HostWrite, NoMemory>
     ensures { IfOk result (λ w. w ≡ write.now) }
 {
@@ -197,7 +197,7 @@ fn same_write(alloc: Global, write: &HostWrite) -> Result<HostWrite, NoMemory>
     })
 }
 
-// Copies of the writes that do not end past a memory of so many bytes.
+// Copies of the writes that end within a memory of `size` bytes.
 fn writes_within(
     alloc: Global,
     size: usize,
@@ -214,7 +214,7 @@ fn writes_within(
     Ok(done)
 }
 
-/// A function of this type that is entered with what these numbers stand for.
+/// The entry of a function of this type, with the values that the numbers stand for.
 pub(crate) fn noted_entry(
     alloc: Global,
     func: u32,
@@ -227,7 +227,7 @@ pub(crate) fn noted_entry(
     Ok(Entry { func, args })
 }
 
-/// The note of a host call with this answer of the script, if it has one, before the memory is written.
+/// The note of a host call that the script answers so, if it has an answer. The memory has not been written yet.
 pub(crate) fn host_note(
     alloc: Global,
     memory: &Memory,

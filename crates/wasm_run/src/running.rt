@@ -1,4 +1,4 @@
-// A run, step by step.
+// A run without its progress and its notes.
 
 ghost use Rattle.std.specs.Prelude.{◌≡◌, ℕ, ◌+◌, ◌-◌, ◌<◌, ◌^◌, [], length, Some, None, Ok, slice_get, IfOk, MatchOption, OnErr};
 ghost use Rattle.module_ast.specs.Structure.{code_of, before, plain, call, call_indirect};
@@ -8,7 +8,7 @@ ghost use Rattle.module_ast.specs.Validation.{declared_locals};
 ghost use Rattle.wasm_run.specs.Running.{Run, configuration_of, HoldsIf, IsInside, Innermost};
 ghost use Rattle.wasm_run.specs.Beside.{hosts_in, pages_in};
 ghost use Rattle.run_stack.specs.Advances.{IsAtCall};
-ghost use Rattle.wasm_run.specs.Entries.{EntersNext, Enters};
+ghost use Rattle.wasm_run.specs.Entries.{EntersNext, EntersFunction};
 ghost use Rattle.run_stack.specs.Leaving.{LeavesLast};
 ghost use Rattle.wasm_run.specs.Moves.{MayWant, MakesStep, MakesCall};
 ghost use Rattle.wasm_run.specs.Progress.{AwaitsAnswer, StepsInside};
@@ -36,8 +36,8 @@ use wasm_num::NoMemory;
 use wasm_sem::{Answer, HookCall, Script, Trap};
 use wasm_valid::ValidModule;
 
-/// A run of a module under a script, after so many steps. Contracts see these three alone: all else is what stands behind
-/// the steps that were made.
+/// A run of a module under a script, after `made` steps. Contracts see only these three: they determine everything
+/// else.
 pub(crate) struct Running<'m> {
     module: &'m Module,
     script: &'m Script,
@@ -51,7 +51,7 @@ pub(crate) struct Running<'m> {
     alloc: Global,
 }
 
-// By a call of its own, so that a way out past it is one step in a proof.
+// Dropped by hand: each early return past a value of this type then costs one proof step instead of one per field.
 impl Drop for Running<'_> {
     fn drop(self) {
         let Running {
@@ -86,8 +86,8 @@ impl<'m> Model for Running<'m> {
 }
 
 impl<'m> Running<'m> {
-    /// The run of a module under a script with which it links, before the first step: its memory, with the data of its
-    /// segments, its globals and its functions. (Standard, 4.5.4)
+    /// The run before its first step: its memory, with the data of its segments, its table, its globals and its
+    /// functions. `NoMemory` if memory runs out. (Standard, 4.5.4)
     pub fn new(
         alloc: Global,
         valid: &'m ValidModule,
@@ -123,44 +123,47 @@ impl<'m> Running<'m> {
         self.stack.frames() != 0
     }
 
-    /// The script.
+    /// The script of the run.
     pub fn script(&self) -> &'m Script
         ensures { result.now ≡ self.now.script }
     {
         self.script
     }
 
-    /// How many steps have been made.
+    /// How many steps were made.
     pub fn made(&self) -> u64
         ensures { result ≡ self.now.made }
     {
         self.made
     }
 
-    /// The table.
+    /// The table, which has no slots if the module has no table.
     pub fn table(&self) -> &Table
         ensures { result.now ≡ slots_in (configuration_of self.now) }
     {
         &self.table
     }
 
-    /// How many pages the memory has, 0 without one.
+    /// How many pages the memory has; 0 if there is no memory.
     pub fn pages(&self) -> u32
         ensures { result ≡ pages_in (configuration_of self.now) }
     {
         self.memory.pages()
     }
 
-    /// How many host calls have been made.
+    /// How many host calls were made. Hook calls are not counted.
     pub fn hosts(&self) -> u64
         ensures { result ≡ hosts_in (configuration_of self.now) }
     {
         self.hosts
     }
 
-    /// The next step of the innermost frame. Where it leaves the last one, or traps, what ran has ended, which is told. An `Err`
-    /// comes at a call, at `memory.grow`, or where the last frame is left with more than four values, and leaves all as it was.
-    /// What is large, as an answer, is made in calls of their own, so that a step that goes on is quick. (Standard, 4.4)
+    /// Makes the next step of the innermost frame. If it leaves the last frame, or traps, `told` gets the answer.
+    /// (Standard, 4.4)
+    ///
+    /// An `AllocError`, after which all is as before, comes only at a call, at a `memory.grow`, and if the last frame
+    /// is left with more than four values. Whatever is large, such as an answer, is made in functions of its own, so
+    /// that a step that goes on is quick.
     #[inline(always)]
     pub fn step_inside(&mut self, told: &mut Progress, calls: usize) -> Result<(), AllocError>
         requires inside { IsInside (configuration_of self.old) }
@@ -197,8 +200,8 @@ impl<'m> Running<'m> {
         Ok(())
     }
 
-    // The step leaves the last frame with more than four values, above which so many operands stand. They are read first: where
-    // there is no memory for them, the step is not made.
+    // Makes a step that leaves the last frame with more than four values, which are below the topmost `above` operands.
+    // The values are read first: if memory for them runs out, the step is not made.
     #[cold]
     #[inline(never)]
     fn leave_last(
@@ -220,7 +223,7 @@ impl<'m> Running<'m> {
         Ok(())
     }
 
-    /// The call of a hook that comes next, with its words; none where another step comes. An `Err` comes at a call alone.
+    /// The hook call that comes next, with its words; `None` if another step comes. `NoMemory` comes only at a call.
     pub fn hook_called(&self) -> Result<Option<HookCall>, NoMemory>
         requires { IsInside (configuration_of self.now) }
         ensures hook { IfOk result (λ h. h ≡ hook_in (items (instance self.now.module self.now.script) (configuration_of self.now))) }
@@ -233,7 +236,7 @@ impl<'m> Running<'m> {
         }
     }
 
-    // The words of a hook's call.
+    // The hook call that this call is, with its words; `None` if it calls another function.
     fn hook_of(&self, invocation: Invocation<'m>) -> Result<Option<HookCall>, NoMemory>
         requires { IsInvocation invocation self.now }
         ensures hook { IfOk result (λ h. h ≡ hook_in (items (instance self.now.module self.now.script) (configuration_of self.now))) }
@@ -251,8 +254,9 @@ impl<'m> Running<'m> {
         }))
     }
 
-    /// The start, or the next call of the script, calls the function of this index with what these numbers stand for. A host
-    /// function and a hook end it at once. After an `Err` all is as it was. (Standard, 4.5.5)
+    /// Enters the function of this index for the start or the next call of the script, with the values that the numbers
+    /// stand for. A host function and a hook end at once, with the answer. After an `Err` all is as before. (Standard,
+    /// 4.5.5)
     pub fn enter(&mut self, func: u32, numbers: &[i128]) -> Result<Option<Answer>, AllocError>
         requires few { self.old.made < 2 ^ 64 - 1 }
         requires next { (called : Callee) × EntersNext (instance self.old.module self.old.script) (configuration_of self.old) func numbers.now called }
@@ -265,7 +269,7 @@ impl<'m> Running<'m> {
         }
     }
 
-    /// The call of a hook that is entered next, with its words; none where it is another function.
+    /// The hook call that is entered next, with its words; `None` if another function is entered.
     pub fn hook_entered(&self, func: u32, numbers: &[i128]) -> Result<Option<HookCall>, NoMemory>
         requires { (called : Callee) × EntersNext (instance self.now.module self.now.script) (configuration_of self.now) func numbers.now called }
         ensures hook { IfOk result (λ h. h ≡ hook_in (items (instance self.now.module self.now.script) (configuration_of self.now))) }
@@ -279,7 +283,7 @@ impl<'m> Running<'m> {
         Ok(Some(HookCall { import: func, args }))
     }
 
-    // The function that is entered next, by its index.
+    // The function with this index, which is entered next. For the proof: `_numbers` are the numbers of that entry.
     fn entered(&self, func: u32, _numbers: &[i128]) -> Function<'m>
         requires { (called : Callee) × EntersNext (instance self.now.module self.now.script) (configuration_of self.now) func _numbers.now called }
         ensures next { EntersNext (instance self.now.module self.now.script) (configuration_of self.now) func _numbers.now (callee_for result) }
@@ -288,10 +292,10 @@ impl<'m> Running<'m> {
         self.called(func)
     }
 
-    // A host function is entered, and ends at once with the script's next answer.
+    // Enters a host function, which ends at once with the script's next answer.
     fn enter_host(&mut self, ty: &FuncType) -> Result<Option<Answer>, AllocError>
         requires few { self.old.made < 2 ^ 64 - 1 }
-        requires next { Enters (instance self.old.module self.old.script) (configuration_of self.old) (host ty.now) }
+        requires next { EntersFunction (instance self.old.module self.old.script) (configuration_of self.old) (host ty.now) }
         ensures { MakesStep result self.old self.new }
     {
         let given = next_answer(self.script, self.hosts);
@@ -301,10 +305,10 @@ impl<'m> Running<'m> {
         Ok(Some(Answer::Returned(results)))
     }
 
-    // A hook is entered, and ends at once with zeros.
+    // Enters a hook, which ends at once with zeros.
     fn enter_hook(&mut self, ty: &FuncType) -> Result<Option<Answer>, AllocError>
         requires few { self.old.made < 2 ^ 64 - 1 }
-        requires next { Enters (instance self.old.module self.old.script) (configuration_of self.old) (hook ty.now) }
+        requires next { EntersFunction (instance self.old.module self.old.script) (configuration_of self.old) (hook ty.now) }
         ensures { MakesStep result self.old self.new }
     {
         let results = values_of(self.alloc, ty.results.as_slice(), &[])?;
@@ -312,7 +316,7 @@ impl<'m> Running<'m> {
         Ok(Some(Answer::Returned(results)))
     }
 
-    // A function of the module is entered as the first frame, which gets all the memory that it needs now.
+    // Enters a function of the module as the first frame, which gets all the memory that it needs now.
     fn enter_first(
         &mut self,
         ty: &FuncType,
@@ -343,7 +347,7 @@ impl<'m> Running<'m> {
         }
     }
 
-    // Where an instruction leads, with the sequence behind it.
+    // Where an instruction leads; `rest` is the code behind it.
     fn target_of(&self, instr: &'m Instr, rest: &'m [Instr]) -> Target<'m>
         requires { Innermost (λ (fr : Frame). fr.top.rest ≡ before instr.now (code_of rest.now)) (configuration_of self.now) }
         ensures { IsTarget result self.now }
@@ -355,7 +359,7 @@ impl<'m> Running<'m> {
         }
     }
 
-    // A call of the function of this index.
+    // A call of the function with this index.
     fn direct(&self, func: u32, rest: &'m [Instr]) -> Invocation<'m>
         requires { Innermost (λ (fr : Frame). fr.top.rest ≡ plain (call func) (code_of rest.now)) (configuration_of self.now) }
         ensures { IsInvocation result self.now }
@@ -368,7 +372,7 @@ impl<'m> Running<'m> {
         }
     }
 
-    // A call through the slot whose number is on top, of a function that has to be of the type of this index.
+    // A call through the slot whose number is on top; its function must have the type of index `ty`.
     fn through(&self, ty: u32, rest: &'m [Instr]) -> Target<'m>
         requires { Innermost (λ (fr : Frame). fr.top.rest ≡ plain (call_indirect ty) (code_of rest.now)) (configuration_of self.now) }
         ensures { IsTarget result self.now }
@@ -401,7 +405,6 @@ impl<'m> Running<'m> {
         }
     }
 
-    // A function by its index.
     fn called(&self, func: u32) -> Function<'m>
         requires { func < length (callees_of self.now.module) }
         ensures stands { slice_get (callees_of self.now.module) func ≡ Some (callee_for result) }
@@ -410,7 +413,7 @@ impl<'m> Running<'m> {
         self.functions[func as usize]
     }
 
-    // The call that comes next is made, or it traps.
+    // Makes the call that comes next; answers the trap, if it traps.
     #[inline(never)]
     fn call(&mut self) -> Result<Option<Trap>, AllocError>
         requires few { self.old.made < 2 ^ 64 - 1 }
@@ -424,7 +427,7 @@ impl<'m> Running<'m> {
         }
     }
 
-    // The step traps, and what ran has ended.
+    // Makes a step that traps, which ends what ran.
     fn trap(&mut self, trap: Trap) -> Option<Trap>
         requires few { self.old.made < 2 ^ 64 - 1 }
         requires at { Innermost IsAtCall (configuration_of self.old) }
@@ -436,7 +439,7 @@ impl<'m> Running<'m> {
         Some(trap)
     }
 
-    // A function of the module is entered, or traps where there are too many frames; any other is answered at once.
+    // Makes a call: enters a function of the module, and answers any other at once. Traps if there are too many frames.
     fn invoke(&mut self, invocation: Invocation<'m>) -> Result<Option<Trap>, AllocError>
         requires few { self.old.made < 2 ^ 64 - 1 }
         requires calls { IsInvocation invocation self.old }
@@ -457,8 +460,8 @@ impl<'m> Running<'m> {
         }
     }
 
-    // A call of a function of the module is made, with the code behind it, or traps where there are too many frames. Its
-    // frame gets all the memory that it needs now. (Standard, 4.4.7)
+    // Makes a call of a function of the module; `rest` is the code behind the call. Traps if there are too many frames.
+    // The frame gets all the memory that it needs now. (Standard, 4.4.7)
     fn enter_own(
         &mut self,
         rest: &'m [Instr],
@@ -493,7 +496,7 @@ impl<'m> Running<'m> {
         }
     }
 
-    // A call of a hook is answered with zeros and changes nothing else.
+    // Makes a call of a hook, which is answered with zeros and changes nothing else.
     #[inline(never)]
     fn call_hook(&mut self, rest: &'m [Instr], slot: Option<u32>, ty: &FuncType)
         requires few { self.old.made < 2 ^ 64 - 1 }
@@ -505,7 +508,8 @@ impl<'m> Running<'m> {
         self.made += 1;
     }
 
-    // A call of a host function: the script's next answer is given, or, past the last one, zeros. (Standard, 4.4.7)
+    /// Makes a call of a host function: answers it with the script's next answer, or with zeros if there is none left.
+    /// (Standard, 4.4.7)
     #[inline(never)]
     pub fn call_host(&mut self, rest: &'m [Instr], slot: Option<u32>, ty: &FuncType)
         requires few { self.old.made < 2 ^ 64 - 1 }
@@ -519,7 +523,7 @@ impl<'m> Running<'m> {
         self.made += 1;
     }
 
-    /// The call of a host function that comes next; none where another step comes.
+    /// The call of a host function that comes next; `None` if another step comes.
     pub fn host_called(&self) -> Option<HostCall<'m>>
         requires { IsInside (configuration_of self.now) }
         ensures { MatchOption result (next_outside self.now ≡ []) (λ call. IsHostCall call self.now) }
@@ -552,7 +556,7 @@ impl<'m> Running<'m> {
         host_note(self.alloc, &self.memory, call.func, args, call.ty, given)
     }
 
-    /// The note of what is entered next: with its host call, where it is a host function.
+    /// The note of what is entered next; if that is a host function, with its host call.
     pub fn entry_note(&self, func: u32, numbers: &[i128]) -> Result<Note, NoMemory>
         requires { (called : Callee) × EntersNext (instance self.now.module self.now.script) (configuration_of self.now) func numbers.now called }
         ensures note { IfOk result (λ n. noted_items n ≡ next_outside self.now) }

@@ -17,8 +17,8 @@ use Rattle.wasm_sem.specs.Store.{Store, value_of, values_of, answer_at, writes_d
 use Rattle.wasm_sem.specs.Link.{Callee, host, hook, own, callee_type, Entry, Instance}
 use Rattle.wasm_sem.specs.Machine.{Label, Frame, Env, Configuration, configuration, Phase, starting, calling, over, pop_values, at_zero, with_ops, frame_behind, same_func_type, start_entry, call_entry}
 
--- what a run shows: an entry of the start or of a call of the script; a call of a host function with what it took, what
--- it gave and the writes that were done; an event; or a call of a hook
+-- what a run shows: an entry of the start or of a call of the script; a call of a host function with its arguments, its
+-- results and the writes that were done; an event; or a call of a hook
 pub data TraceItem : Type 0 where
   entry : Entry → TraceItem
   host_call : (func : ℕ) → (args results : List Value) → (writes : List HostWrite) → TraceItem
@@ -40,7 +40,7 @@ shown_begin f s = event (events.Begin (loc f s.begin) s.kind)
 abbrev pub shown_end : (func : ℕ) → Scope → TraceItem
 shown_end f s = event (events.End (loc f (pos s.end)) s.kind s.begin)
 
--- the frame that made a call learns what it gave
+-- the event behind a call, in the frame that made it, with the results
 abbrev pub shown_post : List Frame → (results : List Value) → List TraceItem
 shown_post [] vs = []
 shown_post (fr ∷ below) vs = event (events.CallPost (here fr) vs) ∷ []
@@ -49,7 +49,8 @@ abbrev pub shown_results : List Frame → Option (List Value × List Value) → 
 shown_results below None = []
 shown_results below (Some p) = shown_post below p.0
 
--- the ends of the blocks that a branch leaves, innermost first, and of the call where it leaves the function
+-- the ends of the blocks that a branch leaves, innermost first; and, if it leaves the function, the event behind the
+-- call
 abbrev pub shown_ends : (func : ℕ) → List Frame → (ops : List Value) → ℕ → Label → List Label → List TraceItem
 shown_ends f below o zero t [] = shown_end f t.scope ∷ shown_results below (pop_values t.arity o [])
 shown_ends f below o zero t (l ∷ ls) = shown_end f t.scope ∷ []
@@ -76,7 +77,7 @@ abbrev pub shown_start : (starts : Bool) → (func : ℕ) → List TraceItem
 shown_start false f = []
 shown_start true f = event (events.Start (loc f (negsuc 0))) ∷ []
 
--- a function of the module begins, where the depth lets it
+-- a function of the module begins, if the depth allows it
 abbrev pub shown_entered : Instance → List Frame → ℕ → Tree → List TraceItem
 shown_entered inst below f code =
     cond (nat_lt (length below) inst.depth) (shown_start (is_start inst.start f) f ++ (shown_begin f (function_scope code) ∷ [])) []
@@ -122,7 +123,7 @@ shown_indirect inst e fr below x i o None = []
 shown_indirect inst e fr below x i o (Some ty) =
     shown_slot inst e fr below x ty i (in_slot (slice_get e.store.slots i)) (pop_values (length ty.params) o [])
 
--- ---- instructions on the store, locals and operands alone
+-- ---- instructions that concern only the store, locals and operands
 
 abbrev pub shown_variable : (Value → Event) → Option Value → List TraceItem
 shown_variable of None = []
@@ -177,7 +178,7 @@ shown_calc limit p _ st l o = []
 
 -- ---- one instruction
 
--- an instruction with no sequence in it, where the innermost label stands behind it already
+-- an instruction without a nested sequence; the innermost label is already behind it
 abbrev pub shown_instr : Instance → Env → Frame → List Frame → Plain → (ops : List Value) → List TraceItem
 shown_instr inst e fr below (br n) o =
     event (events.Br (here fr) n (label_target n fr.top fr.outer)) ∷ shown_ends fr.func below o n fr.top fr.outer

@@ -1,4 +1,4 @@
-// The machine: scripts, traps and answers.
+// Scripts, answers, traps and hook calls. The machine itself is in the definitions, and `laws` has what holds of it.
 #![tactic(auto)]
 
 ghost use Rattle.std.specs.Prelude.{◌≡◌};
@@ -9,21 +9,21 @@ use wasm_num::Values;
 
 pub mod laws;
 
-/// One call of an export.
+/// A call of the script: the name of an exported function, and numbers as arguments.
 #[derive(Drop)]
 pub struct Call {
     pub export: Name,
     pub args: Seq<i128>,
 }
 
-/// Bytes that a host function writes to memory from an address on.
+/// Bytes that a host function writes to the memory from an address on.
 #[derive(Drop)]
 pub struct HostWrite {
     pub address: u32,
     pub bytes: Seq<u8>,
 }
 
-/// The answer to one host call.
+/// The answer to one host call: numbers as results, and what is written to the memory.
 #[derive(Drop)]
 pub struct HostAnswer {
     pub results: Seq<i128>,
@@ -33,15 +33,22 @@ pub struct HostAnswer {
 /// Which exports are called, how host functions answer, and the limits of the run.
 #[derive(Drop)]
 pub struct Script {
+    /// The calls, in order.
     pub calls: Seq<Call>,
+    /// The answers to host calls, in order, whichever import is called.
     pub hosts: Seq<HostAnswer>,
+    /// The values of the imported globals, in order.
     pub globals: Seq<i128>,
+    /// The greatest number of pages that the memory may have.
     pub pages: u32,
+    /// The greatest number of the module's functions that may be active at once.
     pub depth: u32,
+    /// How many steps the run may make, for the start function and all calls together.
     pub steps: u64,
 }
 
-/// Why a call ended without results.
+/// Why a call ended without results. `NoSlot`, `EmptySlot` and `WrongType` are of `call_indirect`; `Depth` says that
+/// more functions would be active than the script allows.
 #[derive(Clone, Copy, Debug, PartialEq, Eq)]
 pub enum Trap {
     Unreachable,
@@ -54,7 +61,7 @@ pub enum Trap {
     Depth,
 }
 
-/// How the start or a call of the script ended.
+/// How the start function or a call of the script ended. `Unfinished` says that the steps of the run did not suffice.
 #[derive(Debug, Drop)]
 pub enum Answer {
     Returned(Values),
@@ -62,14 +69,14 @@ pub enum Answer {
     Unfinished,
 }
 
-/// The call of a hook: the import's index among the module's functions, and the words.
+/// The call of a hook: the index of the hook among the functions of the module, and the words.
 #[derive(Drop)]
 pub struct HookCall {
     pub import: u32,
     pub args: Values,
 }
 
-/// What one step did. `Over` says that the run had ended before.
+/// What one step did: a hook call, anything else, or nothing because the run was over.
 #[derive(Drop)]
 pub enum Turn {
     Ran,
@@ -87,7 +94,7 @@ pub enum Stop {
 impl Trap {
     ghost use Rattle.wasm_sem.specs.Causes.{cause_of};
 
-    /// The cause in words, as a run prints it.
+    /// The cause in words, as the line of a run has it.
     pub fn cause(&self) -> &'static str
         ensures { result.now ≡ cause_of self.now }
     {

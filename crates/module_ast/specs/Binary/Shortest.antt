@@ -4,6 +4,6 @@ use Rattle.module_ast.specs.declared.module.Module.{Module}
 use Rattle.module_ast.specs.Binary.Canonical.{module_bytes}
 use Rattle.module_ast.specs.Binary.Decoding.{Gram}
 
--- whatever spells a module is at least as long as its canonical bytes
+-- all bytes that spell a module are at least as many as its canonical bytes
 abbrev pub CanonicalBytesAreShortest : Type 0
 CanonicalBytesAreShortest = (bytes : List ℕ) (m : Module) → Gram bytes m → length (module_bytes m) ≤ length bytes

@@ -4,17 +4,17 @@ use Rattle.wasm_sem.specs.Types.{FuncType, Instr}
 use Rattle.module_ast.specs.declared.code.Instr.TheVariants as instrs
 use Rattle.module_ast.specs.Structure.{code_of}
 use Rattle.wasm_sem.specs.Execution.{Instance, Env, Frame}
-use Rattle.run_stack.specs.Flat.{Flat, CanBranch, Branches}
-use Rattle.run_stack.specs.Comes.{IsMoving, Comes, next_of}
+use Rattle.run_stack.specs.Flat.{Flat, CanBranch, BranchesOut}
+use Rattle.run_stack.specs.Comes.{IsMoving, LiesNext, next_of}
 use Rattle.run_stack.proofs.Blocks.{block_can, block_comes, loop_can, loop_comes, if_can, if_comes, past_comes, then_can, then_comes, else_can, else_comes}
 use Rattle.run_stack.proofs.Controls.{br_can, br_comes, return_can, return_comes, br_if_can, br_if_comes, br_table_can, br_table_comes}
 use Rattle.run_stack.proofs.control.control.Goals as goal
 
 -- a proof for the instruction that was found
 abbrev for_instr : (types : List FuncType) (s u : Flat) (p : List Instr) (i j : Instr) → i ≡ j
-    → ((inst : Instance) (e : Env) (fr : Frame) (below : List Frame) → inst.types ≡ types → IsMoving s (code_of p) j inst e fr below → Comes inst e (next_of inst e fr below j) u)
-    → (inst : Instance) (e : Env) (fr : Frame) (below : List Frame) → inst.types ≡ types → IsMoving s (code_of p) i inst e fr below → Comes inst e (next_of inst e fr below i) u
-for_instr types s u p i j h f = subst (λ i. (inst : Instance) (e : Env) (fr : Frame) (below : List Frame) → inst.types ≡ types → IsMoving s (code_of p) i inst e fr below → Comes inst e (next_of inst e fr below i) u) (sym h) f
+    → ((inst : Instance) (e : Env) (fr : Frame) (below : List Frame) → inst.types ≡ types → IsMoving s (code_of p) j inst e fr below → LiesNext inst e (next_of inst e fr below j) u)
+    → (inst : Instance) (e : Env) (fr : Frame) (below : List Frame) → inst.types ≡ types → IsMoving s (code_of p) i inst e fr below → LiesNext inst e (next_of inst e fr below i) u
+for_instr types s u p i j h f = subst (λ i. (inst : Instance) (e : Env) (fr : Frame) (below : List Frame) → inst.types ≡ types → IsMoving s (code_of p) i inst e fr below → LiesNext inst e (next_of inst e fr below i) u) (sym h) f
 
 pub branch-stack-requires : goal.branch-stack-requires
 branch-stack-requires c =
@@ -49,7 +49,7 @@ pub returns-in-BrTable-clause-comes : goal.returns-in-BrTable-clause-comes
 returns-in-BrTable-clause-comes c =
     for_instr c.args.module.now.types c.args.stack.now c.branch-stack-in-BrTable.new.self c.args.place.now c.args.instr.now (instrs.BrTable c.in-BrTable.labels c.in-BrTable.default) c.in-BrTable.is
     (λ inst e fr below types m. br_table_comes c.args.stack.now (code_of c.args.place.now) inst e fr below c.in-BrTable.labels c.in-BrTable.default c.pop_i32-index.result c.pop_i32-index.new.self c.branch-stack-in-BrTable.new.self
-    c.pop_i32-index.ensures m (subst (λ n. Branches n c.pop_i32-index.new.self c.branch-stack-in-BrTable.new.self) c.label_at-label.ensures c.branch-stack-in-BrTable.ensures.branches))
+    c.pop_i32-index.ensures m (subst (λ n. BranchesOut n c.pop_i32-index.new.self c.branch-stack-in-BrTable.new.self) c.label_at-label.ensures c.branch-stack-in-BrTable.ensures.branches))
 
 pub branch-stack-requires-in-Return : goal.branch-stack-requires-in-Return
 branch-stack-requires-in-Return c =

@@ -1,7 +1,7 @@
 use Rattle.std.proofs.Common.{◌≡◌, ◌∙◌, Ok, false, sym, ap, subst, arith}
 use Rattle.wasm_sem.specs.Execution.{is_over}
 use Rattle.wasm_run.specs.Moves.{MayWant}
-use Rattle.wasm_run.specs.Progress.{GoesOn}
+use Rattle.wasm_run.specs.Progress.{TakesStep}
 use Rattle.wasm_run.specs.Running.{Run, configuration_of}
 use Rattle.wasm_run.specs.Turns.{more_steps}
 use Rattle.wasm_run.proofs.Hooks.{on_err}
@@ -27,13 +27,13 @@ returns-in_err-go_on-clause-err g c =
 
 pub returns-then-not-branch-clause-ran : goal.returns-then-not-branch-clause-ran
 returns-then-not-branch-clause-ran g c =
-    let done : GoesOn (Ok false) c.loop.self c.go_on.new.self = subst (λ b. GoesOn (Ok b) c.loop.self c.go_on.new.self) c.if-not-branch.true c.in_ok-go_on.ensures in (
+    let done : TakesStep (Ok false) c.loop.self c.go_on.new.self = subst (λ b. TakesStep (Ok b) c.loop.self c.go_on.new.self) c.if-not-branch.true c.in_ok-go_on.ensures in (
       gone_further c.args.steps c.loop.counter c.args.self.now c.go_on.new.self (omega (arith, c.loop-test.true)) (subst (HasGone c.loop.counter c.args.self.now) (sym done.0) c.loop.invariant),
       ap (λ (r : Run). is_over (configuration_of r)) done.0 ∙ done.1,
     )
 
 pub loop-preserved : goal.loop-preserved
-loop-preserved g c = gone_more c.loop.counter c.args.self.now c.loop.self c.go_on.new.self c.loop.invariant (subst (λ b. GoesOn (Ok b) c.loop.self c.go_on.new.self) c.if-not-branch.false c.in_ok-go_on.ensures)
+loop-preserved g c = gone_more c.loop.counter c.args.self.now c.loop.self c.go_on.new.self c.loop.invariant (subst (λ b. TakesStep (Ok b) c.loop.self c.go_on.new.self) c.if-not-branch.false c.in_ok-go_on.ensures)
 
 pub returns-then-over-clause-ran : goal.returns-then-over-clause-ran
 returns-then-over-clause-ran g c = (
