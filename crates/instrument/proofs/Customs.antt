@@ -5,7 +5,7 @@ use Rattle.std.proofs.lemmas.List.Elements.{All-weaker}
 use Rattle.wasm_sem.specs.Types.{Export, ExportKind, FuncType, Limits, Module, Hooks, HookKey}
 use Rattle.module_ast.specs.declared.module.ExportKind.TheVariants.{Func, Table, Memory, Global}
 use Rattle.module_ast.specs.declared.module.Which.TheVariants.{Functions, Types, Parameters, Locals, Nesting}
-use Rattle.module_ast.specs.Validation.{wide, Rule, export_indices, start_type, func_type, count_of, Keeps, KeepsRules, IsValid}
+use Rattle.module_ast.specs.Validation.{wide, ValidityRule, export_indices, start_type, func_type, count_of, Keeps, KeepsRules, IsValid}
 use Rattle.module_ast.specs.Binary.{IsWithin}
 use Rattle.module_ast.specs.Structure.{funcs_of, memories_of, tables_of}
 use Rattle.module_ast.specs.Texts.{Text}
@@ -40,7 +40,7 @@ start_same customs m t (Some f) k = type_same customs m f ∙ k
 rules_same : (customs : List Text) (m : Module) → KeepsRules m → KeepsRules (with_customs customs m)
 rules_same customs m rules rule = by rule (rules rule)
   where
-    by : (r : Rule) → Keeps m r → Keeps (with_customs customs m) r
+    by : (r : ValidityRule) → Keeps m r → Keeps (with_customs customs m) r
     by export_indices k =
         All-weaker (λ (e : Export). e.index < count_of m e.kind) (λ (e : Export). e.index < count_of (with_customs customs m) e.kind)
         (λ e l. subst (λ n. e.index < n) (sym (count_same customs m e.kind)) l) m.exports k

@@ -10,7 +10,7 @@ use Rattle.wasm_encode.specs.Outline.{front_bytes, back_bytes, entries_bytes, co
 use Rattle.wasm_encode.proofs.Outlines.{in_three}
 use Rattle.leb_binary.proofs.Lengths.{unsigned_ten}
 use Rattle.instrument.specs.Output.{output, output_bytes}
-use Rattle.instrument.specs.Plan.{Plan, IsPlanned, new_bodies, new_outline, body_length}
+use Rattle.instrument.specs.Plan.{HookPlan, IsPlanned, new_bodies, new_outline, body_length}
 use Rattle.instrument.proofs.OutputWithin.{output_is_within}
 
 -- what stands behind the code is no more than its module
@@ -20,7 +20,7 @@ back_within m =
     let code = head ++ entries_bytes m.bodies in
     omega (arith, ap length (in_three m), length-append (front_bytes m ++ code) (back_bytes m))
 
-module _ (p : Plan) (o : Module) (each : List ℕ) (together : ℕ) (is : o ≡ new_outline p) (sizes : each ≡ map body_length (new_bodies p)) (sum : together ≡ length (entries_bytes (new_bodies p))) where
+module _ (p : HookPlan) (o : Module) (each : List ℕ) (together : ℕ) (is : o ≡ new_outline p) (sizes : each ≡ map body_length (new_bodies p)) (sum : together ≡ length (entries_bytes (new_bodies p))) where
   -- the parts, one after another
   head_is : code_head (length each) together ≡ code_head (length (new_bodies p)) (length (entries_bytes (new_bodies p)))
   head_is = ap (λ n. code_head n together) (ap length sizes ∙ length-map (new_bodies p) body_length) ∙ ap (code_head (length (new_bodies p))) sum
@@ -69,7 +69,7 @@ module _ (p : Plan) (o : Module) (each : List ℕ) (together : ℕ) (is : o ≡ 
       omega (arith, ap length same, back_within p.module)
 
 -- its types and imports are few
-module _ (p : Plan) (keys : List HookKey) (remap : Remap) (planned : IsPlanned p keys remap) where
+module _ (p : HookPlan) (keys : List HookKey) (remap : Remap) (planned : IsPlanned p keys remap) where
   pub planned_types : length (new_outline p).types ≤ 600000
   planned_types = (output_is_within p.module p.hooks planned.valid planned.limits Types).0
 

@@ -20,7 +20,7 @@ use Rattle.rewrite.specs.Setting.{Setting, tell_ends}
 use Rattle.rewrite.specs.Templates.{template, end_code}
 use Rattle.rewrite.specs.Rewrite.{instr_code, live_code, setting_of, rewritten_code, rewritten_body}
 use Rattle.instrument.specs.Output.{output_body, output_with, output_bytes}
-use Rattle.instrument.specs.Plan.{Plan}
+use Rattle.instrument.specs.Plan.{HookPlan}
 use Rattle.instrument.proofs.NoneNeeded.{none, none_wanted, none_temps, none_needed}
 
 -- ---- no hook is added, so each index stays
@@ -146,7 +146,7 @@ output_none : (m : Module) → length m.funcs ≡ length m.bodies → output_byt
 output_none m e = ap (λ ks. module_bytes (output_with m none ks)) (none_needed m) ∙ ap module_bytes (module_same m e)
 
 -- the bytes of a plan's module are those of its output
-pub output_same : (q p : Plan) (m : Module) → q ≡ p → m ≡ q.module → q.hooks ≡ none → length q.module.funcs ≡ length q.module.bodies
+pub output_same : (q p : HookPlan) (m : Module) → q ≡ p → m ≡ q.module → q.hooks ≡ none → length q.module.funcs ≡ length q.module.bodies
     → module_bytes m ≡ output_bytes p.module p.hooks
 output_same q p m view of selected e =
-    ap module_bytes of ∙ sym (output_none q.module e) ∙ ap (output_bytes q.module) (sym selected) ∙ ap (λ (p : Plan). output_bytes p.module p.hooks) view
+    ap module_bytes of ∙ sym (output_none q.module e) ∙ ap (output_bytes q.module) (sym selected) ∙ ap (λ (p : HookPlan). output_bytes p.module p.hooks) view

@@ -3,10 +3,10 @@ use Rattle.std.specs.Prelude.{map, option_map}
 use Rattle.index_remap.specs.Remap.{map_index, map_export, map_element}
 use Rattle.instrument.specs.declared.parts.Parts.{Parts}
 use Rattle.instrument.specs.Output.{hook_types, hook_imports}
-use Rattle.instrument.specs.Plan.{Plan, plan_keys, plan_remap}
+use Rattle.instrument.specs.Plan.{HookPlan, plan_keys, plan_remap}
 
 -- types and imports go behind the original's, the others stand in their place
-abbrev pub parts_of : Plan → Parts
+abbrev pub parts_of : HookPlan → Parts
 parts_of p = record {
   types = hook_types (plan_keys p);
   imports = hook_imports p.module (plan_keys p);

@@ -2,38 +2,37 @@
 use Rattle.std.specs.Prelude.{◌≡◌, ℕ, ◌≤◌, List, [], length}
 use Rattle.wasm_sem.specs.Types.{Body, Module, Hooks, HookKey}
 use Rattle.module_ast.specs.Binary.{body_bytes, module_bytes, IsWithin}
-use Rattle.module_ast.specs.Validation.{narrow, IsValid}
+use Rattle.module_ast.specs.Validation.{narrow, IsValid, longest_narrow_file}
 use Rattle.hook_mono.specs.Needed.{needed_keys}
 use Rattle.index_remap.specs.declared.Remap.{Remap}
-use Rattle.instrument.specs.Made.{narrow_file}
 use Rattle.instrument.specs.Output.{hook_remap, output}
 
 -- a module that gets hooks, and the groups that are told
-pub record Plan : Type 0 where
+pub record HookPlan : Type 0 where
   pub «module» : Module
   pub hooks : Hooks
 
 -- the hooks that it needs
-abbrev pub plan_keys : Plan → List HookKey
+abbrev pub plan_keys : HookPlan → List HookKey
 plan_keys p = needed_keys p.module p.hooks
 
 -- where its functions stand with them
-abbrev pub plan_remap : Plan → Remap
+abbrev pub plan_remap : HookPlan → Remap
 plan_remap p = hook_remap p.module (plan_keys p)
 
 -- a valid module within the narrow limits, with these hooks
-pub record IsPlanned (p : Plan) (keys : List HookKey) (remap : Remap) : Type 0 where
+pub record IsPlanned (p : HookPlan) (keys : List HookKey) (remap : Remap) : Type 0 where
   pub keys_are : keys ≡ plan_keys p
   pub remap_is : remap ≡ plan_remap p
   pub valid : IsValid p.module
   pub limits : IsWithin narrow p.module
-  pub short : length (module_bytes p.module) ≤ narrow_file
+  pub short : length (module_bytes p.module) ≤ longest_narrow_file
 
 -- the module with hooks: its bodies, and all but these
-abbrev pub new_bodies : Plan → List Body
+abbrev pub new_bodies : HookPlan → List Body
 new_bodies p = (output p.module p.hooks).bodies
 
-abbrev pub new_outline : Plan → Module
+abbrev pub new_outline : HookPlan → Module
 new_outline p = record (output p.module p.hooks) { bodies = [] }
 
 -- how many bytes a body has, without its size before it

@@ -3,10 +3,10 @@
 ghost use Rattle.std.specs.Prelude.{◌≡◌, ◌+◌, ◌^◌, ◌<◌, length, IfOk};
 ghost use Rattle.instrument.specs.Output.{hook_types, hook_import, hook_imports, hook_module_text};
 ghost use Rattle.instrument.specs.Parts.{parts_of};
-ghost use Rattle.instrument.specs.Plan.{Plan as Planned, plan_keys, new_outline};
+ghost use Rattle.instrument.specs.Plan.{HookPlan as Planned, plan_keys, new_outline};
 
 use crate::hook_types::HookTypes;
-use crate::plan::Plan;
+use crate::plan::HookPlan;
 use hook_mono::{HOOK_MODULE, HookKey, name_of, type_of};
 use module_ast::module::{Element, Export, Import, Item, Module};
 use module_ast::name::Name;
@@ -81,7 +81,7 @@ fn hook_imports(
     Ok(Seq::from_vec(imports))
 }
 
-impl Plan<'_> {
+impl HookPlan<'_> {
     /// The parts that differ. An `Err` comes where there is no memory.
     pub(crate) fn parts(&self, alloc: Global) -> Result<Parts, NoMemory>
         ensures { IfOk result (λ parts. parts ≡ parts_of self.now) }

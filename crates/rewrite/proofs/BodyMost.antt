@@ -12,6 +12,7 @@ use Rattle.module_ast.specs.Binary.{items_bytes, plain_bytes, code_bytes, expr_b
 use Rattle.module_ast.specs.Places.{Scope, function_scope, block_scope, loop_scope, if_scope, then_scope, else_scope, goes_on, code_size}
 use Rattle.module_ast.specs.Structure.{plains, Tree, done, plain, block, loop, if_then, if_else, Plain, call}
 use Rattle.module_ast.proofs.Sizes.{code_counts}
+use Rattle.module_ast.specs.Validation.Limits.{longest_file}
 use Rattle.hook_select.specs.declared.GroupName.TheVariants as groups
 use Rattle.hook_mono.specs.declared.HookKey.TheVariants as keys
 use Rattle.i64_split.specs.declared.Pool.{Pool}
@@ -22,7 +23,7 @@ use Rattle.rewrite.specs.Setting.{Setting, remap, tells}
 use Rattle.rewrite.specs.Templates.{tell_before, tell_begin, end_code}
 use Rattle.rewrite.specs.Rewrite.{live_code, entry_code, rewritten_code}
 use Rattle.rewrite.specs.Conditions.{IsReady}
-use Rattle.rewrite.specs.Sizes.{plains_length, size_of, types_most, IsNarrow}
+use Rattle.rewrite.specs.Sizes.{plains_length, size_of, IsNarrow}
 use Rattle.rewrite.proofs.CodeBytes.{code_length, plains_append, plains_before, plain_before, block_length, loop_length, then_length, both_length, instr_before}
 use Rattle.rewrite.proofs.ShortNumbers.{mapped_short}
 use Rattle.rewrite.proofs.MostTold.{HasShort, IsPlaced, ArePlaced, most_when, most_tells, most_begin, most_before, most_closing}
@@ -59,7 +60,7 @@ module _ (w : Setting) (short : HasShort w) where
   rest_most true live k h = h
   rest_most false live k h = omega (arith, mapped_most (remap w) k (omega (arith, short.hooks)))
 
-  pub live_most : (scopes : List Scope) (p : ℕ) (k : Tree) → ArePlaced scopes → p + code_size k < 2 ^ 31 → length scopes + code_size k ≤ 268435456
+  pub live_most : (scopes : List Scope) (p : ℕ) (k : Tree) → ArePlaced scopes → p + code_size k < 2 ^ 31 → length scopes + code_size k ≤ longest_file
       → code_length (live_code w scopes p k) ≤ place_most * (code_size k + 1) + 16 * code_length k
   live_most scopes p done s h few = omega (arith, plains_before (end_code w scopes) done, most_closing w short scopes s)
   live_most scopes p (plain i k) s h few =
@@ -122,7 +123,7 @@ module _ (w : Setting) (short : HasShort w) where
       let starts = tells w (negsuc 0) (keys.Plain groups.Start) [] in
       omega (arith, plains_append (when w.site.starts starts) (tell_begin w (negsuc 0) kinds.Function), most_when w.site.starts starts, most_tells w short (negsuc 0) (keys.Plain groups.Start) [] (omega arith), most_begin w short (negsuc 0) kinds.Function (omega arith))
 
-  pub rewritten_most : (code : Tree) → code_size code + 1 ≤ 268435456 → code_length (rewritten_code w code) ≤ place_most * (code_size code + 1) + 16 * code_length code + 36
+  pub rewritten_most : (code : Tree) → code_size code + 1 ≤ longest_file → code_length (rewritten_code w code) ≤ place_most * (code_size code + 1) + 16 * code_length code + 36
   rewritten_most code few =
       let o = function_scope code in
       let placed : IsPlaced o = record { begin = omega arith; end = omega (arith, few) } in
@@ -151,7 +152,7 @@ group_one zero ty = omega arith
 group_one (suc n) ty = omega arith
 
 -- all groups of a rewritten body
-groups_most : (own : List Group) (pool : Pool) → length (items_bytes group_bytes own) ≤ 268435456 → pool.base + pool.ints + pool.longs < 2 ^ 32
+groups_most : (own : List Group) (pool : Pool) → length (items_bytes group_bytes own) ≤ longest_file → pool.base + pool.ints + pool.longs < 2 ^ 32
     → length (vec_bytes group_bytes (own ++ pool_groups pool)) ≤ length (vec_bytes group_bytes own) + 17
 groups_most own pool few l =
     let ints = locals_group pool.ints I32 in
@@ -171,11 +172,11 @@ groups_most own pool few l =
     )
 
 -- what is rewritten has short numbers
-pub ready_short : (w : Setting) → IsReady w → IsNarrow types_most w.site.context → HasShort w
+pub ready_short : (w : Setting) → IsReady w → IsNarrow longest_file w.site.context → HasShort w
 ready_short w ready narrow = record { hooks = ready.numbers.hooks; locals = ready.numbers.locals; narrow = narrow }
 
 -- The bound: of a body that a file can have it is below 2 ^ 64.
-pub body_most : (w : Setting) → IsReady w → IsNarrow types_most w.site.context → length (body_bytes w.site.body) ≤ 268435456
+pub body_most : (w : Setting) → IsReady w → IsNarrow longest_file w.site.context → length (body_bytes w.site.body) ≤ longest_file
     → size_of w ≤ 34359738432 * length (body_bytes w.site.body)
 body_most w ready narrow bytes =
     let code = w.site.body.code in

@@ -29,7 +29,7 @@ use Rattle.rewrite.specs.Templates.{end_code, tell_results, tell_begin, tell_bef
 use Rattle.rewrite.specs.Rewrite.{live_code, if_taken, br_if_before}
 use Rattle.rewrite.specs.Live.{rest_code}
 use Rattle.rewrite.specs.Emitted as emitted
-use Rattle.rewrite.specs.Emitted.{HasRoom, template_of, PassesNone}
+use Rattle.rewrite.specs.Emitted.{HasRoom, template_of, branch_of, PassesNone}
 use Rattle.module_ast.proofs.Plains.{the_plain, before_plain, onto_append}
 
 instrs_onto : (is : List Plain) (t : Tree) → onto (instrs is) t ≡ plains is t
@@ -179,10 +179,10 @@ pub passed_added : {X : Type 0} (F M N G : Tree → X) (told passed : List Plain
 passed_added F M N G told passed i t first second third =
     third t ∙ second (plain i t) ∙ first (plains passed (plain i t)) ∙ ap F (sym (plains_joined told (passed ++ i ∷ []) t ∙ ap (plains told) (plains_joined passed (i ∷ []) t)))
 
--- its template, whatever the blocks around it
+-- as a branch or a call, whatever the blocks around it
 pub arm : {E : Type 0} (r : Result (Unit {0}) E) (w : Setting) (p : ℕ) (i j : Instr) (old new : List Instr) → i ≡ j
-    → ((ss : List Scope) → OnOk r (new ≡ old ++ instrs (template_of w ss p j))) → OnOk r ((ss : List Scope) → new ≡ old ++ instrs (template_of w ss p i))
-arm (Ok v) w p i j old new is h = λ ss. subst (λ k. new ≡ old ++ instrs (template_of w ss p k)) (sym is) (h ss)
+    → ((ss : List Scope) → OnOk r (new ≡ old ++ instrs (branch_of w ss p j))) → OnOk r ((ss : List Scope) → new ≡ old ++ instrs (branch_of w ss p i))
+arm (Ok v) w p i j old new is h = λ ss. subst (λ k. new ≡ old ++ instrs (branch_of w ss p k)) (sym is) (h ss)
 arm (Err e) w p i j old new is h = tt
 
 -- a br_if, and what stands before it

@@ -10,13 +10,14 @@ use Rattle.module_ast.specs.Lists.{when}
 use Rattle.module_ast.specs.Binary.{plain_bytes}
 use Rattle.module_ast.specs.Places.{Scope}
 use Rattle.module_ast.specs.Structure.{Plain, call, local_get, local_set, i32_const}
+use Rattle.module_ast.specs.Validation.Limits.{longest_file}
 use Rattle.hook_mono.specs.Keys.{key_eq, find_key}
 use Rattle.hook_mono.specs.declared.HookKey.TheVariants as keys
 use Rattle.i64_split.specs.declared.Temp.{Temp}
 use Rattle.i64_split.specs.Split.{temps, words_by, word_code, words_code, sets, gets, save_code}
 use Rattle.rewrite.specs.Setting.{Setting, wants, hook_index, tell, tells, tell_end, tell_ends}
 use Rattle.rewrite.specs.Templates.{tee_code, tell_before, tell_values, tell_results, tell_begin, end_code}
-use Rattle.rewrite.specs.Sizes.{plains_length, types_most, IsNarrow}
+use Rattle.rewrite.specs.Sizes.{plains_length, IsNarrow}
 use Rattle.rewrite.proofs.CodeBytes.{plains_append}
 use Rattle.rewrite.proofs.ShortNumbers.{signed_short, constant_short, AreNear, near_short, temps_near}
 use Rattle.rewrite.proofs.TemplateLengths.{temps_length}
@@ -25,7 +26,7 @@ use Rattle.rewrite.proofs.TemplateLengths.{temps_length}
 pub record HasShort (w : Setting) : Type 0 where
   pub hooks : w.imports + length w.keys < 2 ^ 32
   pub locals : w.pool.base + w.pool.ints + w.pool.longs < 2 ^ 32
-  pub narrow : IsNarrow types_most w.site.context
+  pub narrow : IsNarrow longest_file w.site.context
 
 -- a scope whose places are numbers of 32 bits
 pub record IsPlaced (s : Scope) : Type 0 where
@@ -53,7 +54,7 @@ most_words [] h = omega arith
 most_words (t ∷ ts) h = omega (arith, plains_append (word_code t.ty t.local) (words_code ts), most_word (local_get t.local) t.ty, near_short t h.0, most_words ts h.1)
 
 -- into temporaries, and back
-most_sets : (ts : List Temp) → AreNear ts → plains_length (sets ts) ≤ 11 * length ts
+pub most_sets : (ts : List Temp) → AreNear ts → plains_length (sets ts) ≤ 11 * length ts
 most_sets [] h = omega arith
 most_sets (t ∷ ts) h = omega (arith, plains_append (sets ts) (local_set t.local ∷ []), near_short t h.0, most_sets ts h.1)
 
@@ -108,7 +109,7 @@ module _ (w : Setting) (short : HasShort w) where
   pub most_saved : (p : ℤ) (key : HookKey) (first : List Plain) (ts : List Temp) → IsInSize 32 p → AreNear ts → plains_length (tell_values w p key first ts) ≤ 49 * length ts + plains_length first + 18
   most_saved p key first ts h near = omega (arith, plains_append (save_code ts) (tell w p key (first ++ words_code ts)), plains_append (sets ts) (gets ts), most_sets ts near, most_gets ts near, most_tell p key (first ++ words_code ts) h, plains_append first (words_code ts), most_words ts near)
 
-  pub most_values : (p : ℤ) (key : HookKey) (first : List Plain) (tys : List ValType) → IsInSize 32 p → length tys ≤ types_most → plains_length (tell_values w p key first (temps w.pool tys)) ≤ 49 * length tys + plains_length first + 18
+  pub most_values : (p : ℤ) (key : HookKey) (first : List Plain) (tys : List ValType) → IsInSize 32 p → length tys ≤ longest_file → plains_length (tell_values w p key first (temps w.pool tys)) ≤ 49 * length tys + plains_length first + 18
   most_values p key first tys h few = omega (arith, most_saved p key first (temps w.pool tys) h (temps_near w.pool tys short.locals (omega (arith, few))), temps_length w.pool tys)
 
   -- one temporary is near
@@ -121,13 +122,13 @@ module _ (w : Setting) (short : HasShort w) where
       let ts = temps w.pool (I32 ∷ []) in
       omega (arith, most_when (wants w key) (tee_code ts ++ tell w (pos p) key (words_code ts)), plains_append (tee_code ts) (tell w (pos p) key (words_code ts)), most_tee ts one_near, most_tell (pos p) key (words_code ts) h, most_words ts one_near)
 
-  pub most_results : (p : ℤ) → IsInSize 32 p → plains_length (tell_results w p) ≤ 49 * types_most + 18
+  pub most_results : (p : ℤ) → IsInSize 32 p → plains_length (tell_results w p) ≤ 49 * longest_file + 18
   most_results p h =
       let ts = w.site.context.results in
       omega (arith, most_when (wants w (keys.Return ts)) (tell_values w p (keys.Return ts) [] (temps w.pool ts)), most_values p (keys.Return ts) [] ts h short.narrow.results, short.narrow.results)
 
   -- what closes a sequence
-  pub most_closing : (scopes : List Scope) → ArePlaced scopes → plains_length (end_code w scopes) ≤ 49 * types_most + 42
+  pub most_closing : (scopes : List Scope) → ArePlaced scopes → plains_length (end_code w scopes) ≤ 49 * longest_file + 42
   most_closing [] h = omega arith
   most_closing (f ∷ []) h = omega (arith, plains_append (tell_results w (pos f.end)) (tell_end w f), most_results (pos f.end) h.0.end, most_end f h.0)
   most_closing (b ∷ (outer ∷ more)) h = omega (arith, most_end b h.0)

@@ -4,14 +4,14 @@ use Rattle.std.specs.List.{AllByRecursion}
 use Rattle.wasm_sem.specs.Types.{ValType, FuncType, Body, Module}
 use Rattle.module_ast.specs.Binary.{val_type_bytes, vec_bytes, items_bytes, func_type_bytes, sized_bytes, body_bytes, module_bytes}
 use Rattle.module_ast.specs.Places.{func_type_or}
-use Rattle.module_ast.specs.Validation.{IsWhole}
+use Rattle.module_ast.specs.Validation.{IsWhole, longest_file}
 use Rattle.module_ast.proofs.Each.{all_at}
 use Rattle.module_ast.proofs.Indexed.{in_at, all_in}
 use Rattle.module_ast.proofs.Sizes.{item_counts, section_counts, sized_counts, bodies_count}
 use Rattle.leb_binary.specs.Shortest.{unsigned_bytes}
 use Rattle.hook_mono.specs.Needed.{Site, import_count, site_of, sites_from, sites}
 use Rattle.wasm_sem.proofs.Straight.{none_some, some_is}
-use Rattle.rewrite.specs.Sizes.{types_most, IsNarrow}
+use Rattle.rewrite.specs.Sizes.{IsNarrow}
 
 -- a type has a byte for each parameter and result
 values_count : (ts : List ValType) → length (items_bytes val_type_bytes ts) ≡ length ts
@@ -34,17 +34,17 @@ types_count : (m : Module) → length (items_bytes func_type_bytes m.types) ≤ 
 types_count m = let section = section_counts 1 func_type_bytes m.types in grind (arith, length-append)
 
 -- so no type has more parameters and results, and no function more results
-few_types : (m : Module) → IsWhole m → AllByRecursion (λ (t : FuncType). length t.params + length t.results ≤ types_most) m.types
+few_types : (m : Module) → IsWhole m → AllByRecursion (λ (t : FuncType). length t.params + length t.results ≤ longest_file) m.types
 few_types m whole =
-    all_in (λ (t : FuncType). length t.params + length t.results ≤ types_most) m.types
+    all_in (λ (t : FuncType). length t.params + length t.results ≤ longest_file) m.types
     (λ t h. omega (arith, type_counts t, item_counts func_type_bytes m.types t h, types_count m, whole.size))
 
-few_results : (m : Module) (ty : ℕ) → IsWhole m → length (func_type_or (slice_get m.types ty)).results ≤ types_most
+few_results : (m : Module) (ty : ℕ) → IsWhole m → length (func_type_or (slice_get m.types ty)).results ≤ longest_file
 few_results m ty whole = go (slice_get m.types ty) refl
   where
-    go : (o : Option FuncType) → slice_get m.types ty ≡ o → length (func_type_or o).results ≤ types_most
+    go : (o : Option FuncType) → slice_get m.types ty ≡ o → length (func_type_or o).results ≤ longest_file
     go None e = omega arith
-    go (Some t) e = let few = all_at (λ (t : FuncType). length t.params + length t.results ≤ types_most) m.types ty t (few_types m whole) e in omega (arith, few)
+    go (Some t) e = let few = all_at (λ (t : FuncType). length t.params + length t.results ≤ longest_file) m.types ty t (few_types m whole) e in omega (arith, few)
 
 -- the site of a function is that of its body
 record Origin (m : Module) (bs : List Body) (k : ℕ) (s : Site) : Type 0 where
@@ -65,11 +65,11 @@ module _ (m : Module) (whole : IsWhole m) (d : ℕ) (s : Site) (e : slice_get (s
   from : Origin m m.bodies d s
   from = origin m (import_count m) m.funcs m.bodies d s e
 
-  pub site_narrow : IsNarrow types_most s.context
+  pub site_narrow : IsNarrow longest_file s.context
   site_narrow =
-      subst (λ (s : Site). IsNarrow types_most s.context) from.is (record { types = few_types m whole; results = few_results m from.ty whole })
+      subst (λ (s : Site). IsNarrow longest_file s.context) from.is (record { types = few_types m whole; results = few_results m from.ty whole })
 
-  pub site_bytes : length (body_bytes s.body) ≤ 268435456
+  pub site_bytes : length (body_bytes s.body) ≤ longest_file
   site_bytes =
-      subst (λ (s : Site). length (body_bytes s.body) ≤ 268435456) from.is
+      subst (λ (s : Site). length (body_bytes s.body) ≤ longest_file) from.is
       (omega (arith, item_counts (λ b. sized_bytes (body_bytes b)) m.bodies from.body (in_at m.bodies d from.body from.there), sized_counts (body_bytes from.body), bodies_count m, whole.size))

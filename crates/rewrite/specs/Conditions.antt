@@ -2,6 +2,7 @@
 use Rattle.std.specs.Prelude.{◌≡◌, ℕ, ◌+◌, ◌^◌, ◌<◌, ◌≤◌, List, length, slice_get, Some}
 use Rattle.wasm_sem.specs.Types.{Module, Hooks, HookKey}
 use Rattle.module_ast.specs.Places.{code_size}
+use Rattle.module_ast.specs.Validation.Limits.{longest_file}
 use Rattle.hook_mono.specs.Needed.{Site, sites}
 use Rattle.index_remap.specs.Remap.{Maps}
 use Rattle.rewrite.specs.Setting.{Setting, remap}
@@ -20,6 +21,6 @@ CanRewrite m defined hooks keys imports = (s : Site) → slice_get (sites m) def
 
 -- a function that is rewritten: a body that a file can have, and the temporaries that it needs
 pub record IsReady (w : Setting) : Type 0 where
-  pub few : code_size w.site.body.code + 1 ≤ 268435456
+  pub few : code_size w.site.body.code + 1 ≤ longest_file
   pub pool : w.pool ≡ pool_of w.hooks w.site
   pub numbers : HasNumbers w

@@ -1,5 +1,5 @@
 -- The templates, over what the program keeps.
-use Rattle.std.specs.Prelude.{ℕ, cond, pos, unwrap_or, List, [], ◌∷◌, ◌++◌, map, Option, Some, None}
+use Rattle.std.specs.Prelude.{ℕ, cond, pos, unwrap_or, List, [], ◌∷◌, ◌++◌, map}
 use Rattle.wasm_sem.specs.Types.{ValType, FuncType, Instr}
 use Rattle.wasm_num.specs.declared.ValType.TheVariants.{I32, I64}
 use Rattle.module_ast.specs.Places.{Scope}
@@ -7,13 +7,11 @@ use Rattle.module_ast.specs.declared.code.Instr.TheVariants.{Br, BrIf, Return}
 use Rattle.module_ast.specs.declared.code.BlockType.{BlockType}
 use Rattle.module_ast.specs.Structure.{Tree, block, loop, if_then, plain_of, Plain, i32_const, call_indirect}
 use Rattle.i64_split.specs.declared.Pool.{Pool}
-use Rattle.i64_split.specs.declared.Temp.{Temp}
 use Rattle.i64_split.specs.Split.{HasTemps, temps}
-use Rattle.rewrite.specs.declared.watching.Keeping.{Keeping}
-use Rattle.rewrite.specs.declared.watching.Keeping.TheVariants.{Around, Result, Store, Drop, Select}
+use Rattle.rewrite_needs.specs.Watching.{or_none}
 use Rattle.rewrite.specs.declared.sink.Opening.{Opening}
 use Rattle.rewrite.specs.declared.sink.Opening.TheVariants as openings
-use Rattle.rewrite.specs.Templates.{num_code, result_code, store_code, drop_code, select_code, template, indirect_code}
+use Rattle.rewrite.specs.Templates.{branch_code, template, indirect_code}
 use Rattle.hook_mono.specs.declared.HookKey.TheVariants as keys
 use Rattle.std.specs.Int.{w32, cast_unsigned}
 use Rattle.branch_resolve.specs.declared.Block.{Block}
@@ -38,14 +36,6 @@ opened openings.Block ty a t = block ty a t
 opened openings.Loop ty a t = loop ty a t
 opened openings.If ty a t = if_then ty a t
 
--- how an instruction leaves its operands and its result in temporaries
-abbrev pub kept_code : Keeping → Plain → List Temp → List Plain
-kept_code Around i ts = num_code i ts
-kept_code Result i ts = result_code i ts
-kept_code Store i ts = store_code i ts
-kept_code Drop i ts = drop_code ts
-kept_code Select i ts = select_code ts
-
 -- 1 where the types are the same
 abbrev pub one_if_same : ValType → ValType → ℕ
 one_if_same I32 I32 = 1
@@ -58,12 +48,12 @@ HasRoom pool [] = Unit {0}
 HasRoom pool (ts ∷ tss) = HasTemps pool 0 ts × HasRoom pool tss
 
 -- an instruction with no sequence in it, as a live instruction inside these blocks
-abbrev pub or_none : {A : Type 0} → (Plain → List A) → Option Plain → List A
-or_none f None = []
-or_none f (Some i) = f i
-
 abbrev pub template_of : Setting → List Scope → (p : ℕ) → Instr → List Plain
 template_of w scopes p i = or_none (template w scopes p) (plain_of i)
+
+-- as a live branch or call
+abbrev pub branch_of : Setting → List Scope → (p : ℕ) → Instr → List Plain
+branch_of w scopes p i = or_none (branch_code w scopes p) (plain_of i)
 
 -- a call through the table, where it is told and where it is not
 abbrev pub indirect_template : Setting → (p ty : ℕ) → FuncType → List Plain

@@ -3,15 +3,18 @@
 ghost use Rattle.std.specs.Prelude.{◌≡◌, length, slice_get, Some, IfOk};
 ghost use Rattle.hook_select.specs.Groups.{has};
 ghost use Rattle.hook_mono.specs.Needed.{sites};
+ghost use Rattle.rewrite_needs.specs.Watching.{instr_watch};
+ghost use Rattle.rewrite.specs.Setting.{wants};
 ghost use Rattle.rewrite.specs.Rewrite.{setting_of};
 ghost use Rattle.rewrite.specs.Conditions.{CanRewrite, IsReady};
 
 use code_valid::TypedBody;
-use hook_mono::HookTable;
+use hook_mono::{HookKey, HookTable};
 use hook_select::{GroupName, Hooks};
 use i64_split::Pool;
 use index_remap::Remap;
-use rewrite_needs::{Site, pool_of};
+use module_ast::code::Instr;
+use rewrite_needs::{Site, Watch, is_wanted, pool_of, watch_of};
 use std::alloc::Global;
 use std::marker::Model;
 use wasm_num::NoMemory;
@@ -66,6 +69,20 @@ impl<'m> Setting<'m> {
             site,
             pool,
         })
+    }
+
+    /// Whether the hook of the key is called.
+    pub fn wants(&self, key: &HookKey) -> bool
+        ensures { result ≡ wants self.now key.now }
+    {
+        is_wanted(self.hooks, key)
+    }
+
+    /// What is told of an instruction at a position, where it neither branches nor calls and has no sequence in it.
+    pub fn watch(&self, position: u32, instr: &Instr) -> Option<Watch>
+        ensures { result ≡ instr_watch self.now.site position instr.now }
+    {
+        watch_of(&self.site, position, instr)
     }
 
     /// Whether the group is selected.

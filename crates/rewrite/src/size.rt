@@ -2,11 +2,12 @@
 
 ghost use Rattle.std.specs.Prelude.{◌≡◌, ◌+◌, ◌*◌, ◌++◌, ◌≤◌, ◌^◌, length, option_map, slice_get, IfOk, Some};
 ghost use Rattle.module_ast.specs.Binary.{items_bytes, vec_bytes, group_bytes, body_bytes};
+ghost use Rattle.module_ast.specs.Validation.Limits.{longest_file};
 ghost use Rattle.hook_mono.specs.Needed.{Site, sites};
 ghost use Rattle.i64_split.specs.Split.{pool_groups};
 ghost use Rattle.rewrite.specs.Conditions.{CanRewrite, IsReady};
 ghost use Rattle.rewrite.specs.Rewrite.{setting_of};
-ghost use Rattle.rewrite.specs.Sizes.{size_of, types_most, IsNarrow};
+ghost use Rattle.rewrite.specs.Sizes.{size_of, IsNarrow};
 
 use crate::setting::Setting;
 use crate::sink::Counted;
@@ -34,7 +35,7 @@ fn groups_length(groups: &[Group]) -> u64
 impl Setting<'_> {
     // Those of the groups of locals, the temporaries' among them, with their number in front.
     fn locals_length(&self, alloc: Global) -> Result<u64, NoMemory>
-        requires { length (body_bytes self.now.site.body) ≤ 268435456 }
+        requires { length (body_bytes self.now.site.body) ≤ longest_file }
         ensures length { IfOk result (λ n. n ≡ length (vec_bytes group_bytes (self.now.site.body.groups ++ pool_groups self.now.pool))) }
     {
         let own = self.site.body().groups.as_slice();
@@ -47,8 +48,8 @@ impl Setting<'_> {
     // Those of the body: its locals, its code, and the `end` behind it.
     fn rewritten_length(&self, alloc: Global) -> Result<u64, NoMemory>
         requires ready { IsReady self.now }
-        requires narrow { IsNarrow types_most self.now.site.context }
-        requires short { length (body_bytes self.now.site.body) ≤ 268435456 }
+        requires narrow { IsNarrow longest_file self.now.site.context }
+        requires short { length (body_bytes self.now.site.body) ≤ longest_file }
         ensures length { IfOk result (λ n. n ≡ size_of self.now) }
         ensures bound { IfOk result (λ n. n ≤ 2 ^ 36 * length (body_bytes self.now.site.body)) }
     {

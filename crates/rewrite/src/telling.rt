@@ -21,7 +21,7 @@ use std::alloc::AllocError;
 use wasm_num::BlockKind;
 
 // Adds constants of these 32 bits each.
-fn push_constants(code: &mut Vec<Instr>, words: &[u32]) -> Result<(), AllocError>
+pub(crate) fn push_constants(code: &mut Vec<Instr>, words: &[u32]) -> Result<(), AllocError>
     ensures { OnOk result (code.new.items ≡ code.old.items ++ instrs (map constant words.now)) }
 {
     for word in words {

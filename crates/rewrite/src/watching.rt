@@ -1,126 +1,115 @@
-// Instructions whose operands and results are told.
+// Instructions that are watched: where their hook is called, what they take and give stays in temporaries.
 
-ghost use Rattle.std.specs.Prelude.{◌≡◌, ◌++◌, ◌∷◌, [], map, pos, OnOk};
-ghost use Rattle.module_ast.specs.Structure.{Plain, instr_of};
-ghost use Rattle.i64_split.specs.Split.{temps, words_code, HasTemps};
+ghost use Rattle.std.specs.Prelude.{◌≡◌, ◌++◌, ◌∷◌, [], true, take, drop, OnOk, ◌<◌, ◌^◌};
+ghost use Rattle.module_ast.specs.Structure.Trees as tree;
+ghost use Rattle.module_ast.specs.Structure.{Plain, instr_of, local_tee};
+ghost use Rattle.i64_split.specs.Split.{temps, words_by, words_code, sets, gets, HasTemps};
 ghost use Rattle.i64_split.specs.Pushing.{instrs};
-ghost use Rattle.rewrite.specs.Setting.{constant, tell};
-ghost use Rattle.rewrite.specs.Templates.{num_code, result_code, store_code, drop_code, select_code};
-ghost use Rattle.rewrite.specs.Emitted.{kept_code, one_if_same};
+ghost use Rattle.rewrite_needs.specs.Watching.{kept_temps, watch_temps};
+ghost use Rattle.rewrite.specs.Setting.{tell};
+ghost use Rattle.rewrite.specs.Templates.{keep_code, tee_code, kept_code, args_code, told_by, told_code};
+ghost use Rattle.rewrite.specs.Emitted.{HasRoom, one_if_same};
 
 use crate::setting::Setting;
-use hook_mono::HookKey;
-use i64_split::{Temp, push_one, push_three, push_two};
+use crate::telling::push_constants;
+use crate::templates::push_tee;
+use i64_split::{Temp, push_gets, push_one, push_sets, push_three, push_value, push_values};
 use module_ast::code::Instr;
-use std::alloc::AllocError;
-use wasm_num::ValType;
+use rewrite_needs::{Telling, Watch};
+use std::alloc::{AllocError, Global};
+use wasm_num::{NumOp, ValType};
 
-/// How an instruction leaves what it takes and gives in temporaries: its one or two operands and its result, its result
-/// alone, the address and the value of a store, what a drop drops, or what a select takes.
-#[derive(Clone, Copy)]
-pub(crate) enum Keeping {
-    Around,
-    Result,
-    Store,
-    Drop,
-    Select,
+// Adds the code that leaves operands where they stand, and in these temporaries too.
+fn push_keep(temps: &[Temp], code: &mut Vec<Instr>) -> Result<(), AllocError>
+    ensures { OnOk result (code.new.items ≡ code.old.items ++ instrs (keep_code temps.now)) }
+{
+    match temps {
+        [] => Ok(()),
+        [first, rest @ ..] => push_keep_first(first.local, rest, code),
+    }
 }
 
-// Adds an instruction that leaves what it takes and gives in these temporaries.
+// The same, the first in this local.
+fn push_keep_first(first: u32, rest: &[Temp], code: &mut Vec<Instr>) -> Result<(), AllocError>
+    ensures { OnOk result (code.new.items ≡ code.old.items ++ instrs (sets rest.now ++ local_tee first ∷ gets rest.now)) }
+{
+    push_sets(code, rest)?;
+    push_one(code, Instr::LocalTee(first))?;
+    push_gets(code, rest)
+}
+
+// So many of these temporaries, or all.
+fn first_of(temps: &[Temp], count: usize) -> &[Temp]
+    ensures { result.now ≡ take count temps.now }
+{
+    temps.split_at(count.min(temps.len())).0
+}
+
+// Those behind them.
+fn behind(temps: &[Temp], count: usize) -> &[Temp]
+    ensures { result.now ≡ drop count temps.now }
+{
+    temps.split_at(count.min(temps.len())).1
+}
+
+// Adds an instruction that leaves its operands in the first temporaries, and its result in the other if there is one.
 fn push_kept(
-    keeping: Keeping,
+    operands: &[Temp],
+    left: &[Temp],
     instr: Instr,
-    temps: &[Temp],
     code: &mut Vec<Instr>,
 ) -> Result<(), AllocError>
-    ensures { OnOk result ((i : Plain) → instr ≡ instr_of i → code.new.items ≡ code.old.items ++ instrs (kept_code keeping i temps.now)) }
+    ensures { OnOk result ((i : Plain) → instr ≡ instr_of i → code.new.items ≡ code.old.items ++ instrs (keep_code operands.now ++ (i ∷ tee_code left.now))) }
 {
-    match keeping {
-        Keeping::Around => push_around(instr, temps, code),
-        Keeping::Result => push_result(instr, temps, code),
-        Keeping::Store => push_store(instr, temps, code),
-        Keeping::Drop => push_drop(temps, code),
-        Keeping::Select => push_select(temps, code),
-    }
+    push_keep(operands, code)?;
+    push_one(code, instr)?;
+    push_tee(left, code)
 }
 
-// One operand or two, and the result.
-fn push_around(instr: Instr, temps: &[Temp], code: &mut Vec<Instr>) -> Result<(), AllocError>
-    ensures { OnOk result ((i : Plain) → instr ≡ instr_of i → code.new.items ≡ code.old.items ++ instrs (num_code i temps.now)) }
+// Adds the code that pushes the words of a global.
+fn push_global_words(ty: ValType, global: u32, code: &mut Vec<Instr>) -> Result<(), AllocError>
+    ensures { OnOk result (code.new.items ≡ code.old.items ++ instrs (words_by (tree.global_get global) ty)) }
 {
-    match temps {
-        [a, r] => push_three(
-            code,
-            Instr::LocalTee(a.local),
-            instr,
-            Instr::LocalTee(r.local),
-        ),
-        [a, b, r] => {
-            push_two(code, Instr::LocalSet(b.local), Instr::LocalTee(a.local))?;
+    match ty {
+        ValType::I32 => push_one(code, Instr::GlobalGet(global)),
+        ValType::I64 => {
+            let wrap = Instr::Num(NumOp::I32WrapI64);
             push_three(
                 code,
-                Instr::LocalGet(b.local),
-                instr,
-                Instr::LocalTee(r.local),
-            )
-        }
-        _ => push_one(code, instr),
-    }
-}
-
-// The result alone.
-fn push_result(instr: Instr, temps: &[Temp], code: &mut Vec<Instr>) -> Result<(), AllocError>
-    ensures { OnOk result ((i : Plain) → instr ≡ instr_of i → code.new.items ≡ code.old.items ++ instrs (result_code i temps.now)) }
-{
-    match temps {
-        [r] => push_two(code, instr, Instr::LocalTee(r.local)),
-        _ => push_one(code, instr),
-    }
-}
-
-// The address and the value of a store.
-fn push_store(instr: Instr, temps: &[Temp], code: &mut Vec<Instr>) -> Result<(), AllocError>
-    ensures { OnOk result ((i : Plain) → instr ≡ instr_of i → code.new.items ≡ code.old.items ++ instrs (store_code i temps.now)) }
-{
-    match temps {
-        [a, v] => {
-            push_two(code, Instr::LocalSet(v.local), Instr::LocalTee(a.local))?;
-            push_two(code, Instr::LocalGet(v.local), instr)
-        }
-        _ => push_one(code, instr),
-    }
-}
-
-// What a `drop` drops, which goes into the temporary instead.
-fn push_drop(temps: &[Temp], code: &mut Vec<Instr>) -> Result<(), AllocError>
-    ensures { OnOk result (code.new.items ≡ code.old.items ++ instrs (drop_code temps.now)) }
-{
-    match temps {
-        [a] => push_one(code, Instr::LocalSet(a.local)),
-        _ => push_one(code, Instr::Drop),
-    }
-}
-
-// What a `select` takes.
-fn push_select(temps: &[Temp], code: &mut Vec<Instr>) -> Result<(), AllocError>
-    ensures { OnOk result (code.new.items ≡ code.old.items ++ instrs (select_code temps.now)) }
-{
-    match temps {
-        [a, b, c] => {
-            push_three(
-                code,
-                Instr::LocalSet(c.local),
-                Instr::LocalSet(b.local),
-                Instr::LocalTee(a.local),
+                Instr::GlobalGet(global),
+                wrap,
+                Instr::GlobalGet(global),
             )?;
-            push_three(
-                code,
-                Instr::LocalGet(b.local),
-                Instr::LocalGet(c.local),
-                Instr::Select,
-            )
+            let shift = Instr::Num(NumOp::I64ShrU);
+            let wrap = Instr::Num(NumOp::I32WrapI64);
+            push_three(code, Instr::I64Const(32), shift, wrap)
         }
-        _ => push_one(code, Instr::Select),
+    }
+}
+
+// Adds the code that pushes what is told beside temporaries.
+fn push_args(told: &Telling, code: &mut Vec<Instr>) -> Result<(), AllocError>
+    ensures { OnOk result (code.new.items ≡ code.old.items ++ instrs (args_code told.now)) }
+{
+    match told {
+        Telling::Before | Telling::Dropped(_) | Telling::Kept(None, _, _) => Ok(()),
+        Telling::Int(value) => push_one(code, Instr::I32Const(*value)),
+        Telling::Long(value) => {
+            let bits = value.cast_unsigned();
+            let words = [(bits % (1 << 32)) as u32, (bits / (1 << 32)) as u32];
+            push_constants(code, &words)
+        }
+        Telling::Local(local, ty) => {
+            push_one(code, Instr::I32Const(local.cast_signed()))?;
+            push_value(code, *ty, *local)
+        }
+        Telling::Global(global, ty) => {
+            push_one(code, Instr::I32Const(global.cast_signed()))?;
+            push_global_words(*ty, *global, code)
+        }
+        Telling::Kept(Some(offset), _, _) => {
+            push_one(code, Instr::I32Const(offset.cast_signed()))
+        }
     }
 }
 
@@ -182,21 +171,124 @@ impl<'m> Setting<'m> {
         [first, second, third]
     }
 
-    /// Adds an instruction that leaves what it takes and gives in these temporaries, and the hook call that tells them
-    /// behind these constants.
-    pub(crate) fn push_watched(
+    // Adds the hook call of what is told, with the words of these temporaries.
+    fn push_told(
         &self,
         position: i32,
-        key: &HookKey,
-        first: &[u32],
-        keeping: Keeping,
+        watch: &Watch,
+        temps: &[Temp],
+        code: &mut Vec<Instr>,
+    ) -> Result<(), AllocError>
+        ensures { OnOk result (code.new.items ≡ code.old.items ++ instrs (tell self.now position watch.now.key (args_code watch.now.told ++ words_code temps.now))) }
+    {
+        self.push_location(position, code)?;
+        push_args(&watch.told, code)?;
+        push_values(code, temps)?;
+        self.push_call(&watch.key, code)
+    }
+
+    // Adds an instruction whose first temporaries are those of its operands, and what is told of it behind it.
+    fn push_kept_told(
+        &self,
+        position: i32,
+        watch: &Watch,
+        operands: usize,
         temps: &[Temp],
         instr: Instr,
         code: &mut Vec<Instr>,
     ) -> Result<(), AllocError>
-        ensures { OnOk result ((i : Plain) → instr ≡ instr_of i → code.new.items ≡ code.old.items ++ instrs (kept_code keeping i temps.now ++ tell self.now position key.now (map constant first.now ++ words_code temps.now))) }
+        ensures { OnOk result ((i : Plain) → instr ≡ instr_of i → code.new.items ≡ code.old.items ++ instrs (kept_code operands i temps.now ++ tell self.now position watch.now.key (args_code watch.now.told ++ words_code temps.now))) }
     {
-        push_kept(keeping, instr, temps, code)?;
-        self.push_tell(position, key, first, temps, code)
+        let first = first_of(temps, operands);
+        let left = behind(temps, operands);
+        push_kept(first, left, instr, code)?;
+        self.push_told(position, watch, temps, code)
+    }
+
+    // The same in temporaries of these types.
+    fn push_in_temps(
+        &self,
+        alloc: Global,
+        position: i32,
+        watch: &Watch,
+        operands: usize,
+        types: &[ValType],
+        instr: Instr,
+        code: &mut Vec<Instr>,
+    ) -> Result<(), AllocError>
+        requires { HasTemps self.now.pool 0 types.now }
+        ensures { let ts = temps self.now.pool types.now in OnOk result ((i : Plain) → instr ≡ instr_of i → code.new.items ≡ code.old.items ++ instrs (kept_code operands i ts ++ tell self.now position watch.now.key (args_code watch.now.told ++ words_code ts))) }
+    {
+        match types {
+            [a] => {
+                let temps = self.one_temp(*a);
+                self.push_kept_told(position, watch, operands, &temps, instr, code)
+            }
+            [a, b] => {
+                let temps = self.two_temps(*a, *b);
+                self.push_kept_told(position, watch, operands, &temps, instr, code)
+            }
+            [a, b, c] => {
+                let temps = self.three_temps(*a, *b, *c);
+                self.push_kept_told(position, watch, operands, &temps, instr, code)
+            }
+            _ => {
+                let temps = self.pool.temps(alloc, types, 0)?;
+                self.push_kept_told(position, watch, operands, &temps, instr, code)
+            }
+        }
+    }
+
+    // Where its hook is called.
+    fn push_wanted(
+        &self,
+        alloc: Global,
+        watch: &Watch,
+        instr: Instr,
+        position: i32,
+        code: &mut Vec<Instr>,
+    ) -> Result<(), AllocError>
+        requires { HasRoom self.now.pool (kept_temps true watch.now.told) }
+        ensures { OnOk result ((i : Plain) → instr ≡ instr_of i → code.new.items ≡ code.old.items ++ instrs (told_by true self.now position watch.now.key watch.now.told i)) }
+    {
+        match &watch.told {
+            Telling::Before => {
+                self.push_told(position, watch, &[], code)?;
+                push_one(code, instr)
+            }
+            Telling::Dropped(ty) => {
+                let temps = self.one_temp(*ty);
+                push_sets(code, &temps)?;
+                self.push_told(position, watch, &temps, code)
+            }
+            Telling::Kept(_, operands, types) => {
+                let types = types.as_slice();
+                self.push_in_temps(alloc, position, watch, *operands, types, instr, code)
+            }
+            _ => {
+                push_one(code, instr)?;
+                self.push_told(position, watch, &[], code)
+            }
+        }
+    }
+
+    /// Adds a live instruction and, where its hook is called, what is told of it. An `Err` comes where there is no memory.
+    pub(crate) fn push_watched(
+        &self,
+        alloc: Global,
+        watch: &Watch,
+        instr: Instr,
+        position: u32,
+        code: &mut Vec<Instr>,
+    ) -> Result<(), AllocError>
+        requires low { position < 2 ^ 31 }
+        requires room { HasRoom self.now.pool (watch_temps self.now.hooks watch.now) }
+        ensures { OnOk result ((i : Plain) → instr ≡ instr_of i → code.new.items ≡ code.old.items ++ instrs (told_code self.now position watch.now.key watch.now.told i)) }
+    {
+        if self.wants(&watch.key) {
+            self.push_wanted(alloc, watch, instr, position as i32, code)
+        } else {
+            push_one(code, instr)
+        }
     }
 }

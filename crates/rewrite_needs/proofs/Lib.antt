@@ -1,3 +1,4 @@
+pub mod Rows
 pub mod Rising
 pub mod Sites
 mod Known

@@ -11,6 +11,7 @@ use Rattle.module_ast.specs.Lists.{when}
 use Rattle.module_ast.specs.Structure.{plain_of, Plain, br, br_if, return_}
 use Rattle.module_ast.specs.Places.Positions as positions
 use Rattle.module_ast.specs.Places.{Scope, at, closes, code_size, places}
+use Rattle.module_ast.specs.Validation.Limits.{longest_file}
 use Rattle.branch_resolve.specs.Scopes.{block_of, blocks_around}
 use Rattle.branch_resolve.specs.Walks.{IsOpcodeOf, IsPlaceOf}
 use Rattle.branch_resolve.specs.declared.Block.{Block}
@@ -244,7 +245,7 @@ pub record IsUnderway (hooks : Hooks) (s : Site) (n : Needs) (left : List positi
   pub rest : with_each_wanted hooks n.table (flat_map (live_keys s) left) ≡ needed.needs_of hooks s
   pub few : length n.table + length n.stack + 3 * length left ≤ 805306371
 
-pub underway_first : (hooks : Hooks) (s : Site) → code_size s.body.code + 1 ≤ 268435456 → IsUnderway hooks s (record { hooks = hooks; table = []; stack = [] }) (places s.body.code)
+pub underway_first : (hooks : Hooks) (s : Site) → code_size s.body.code + 1 ≤ longest_file → IsUnderway hooks s (record { hooks = hooks; table = []; stack = [] }) (places s.body.code)
 underway_first hooks s few = record {
   around = [];
   chained = places_chained s.body.code;

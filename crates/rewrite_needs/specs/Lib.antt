@@ -1,3 +1,4 @@
+pub mod Watching
 pub mod Temporaries
 pub mod Rising
 pub mod Needing

@@ -13,6 +13,8 @@ use Rattle.hook_mono.specs.Keys.{is_wanted, with_key}
 use Rattle.hook_mono.specs.Needed.{Site, plain_keys, open_keys, close_keys}
 use Rattle.rewrite_needs.specs.declared.needs.OpenBlock.{OpenBlock}
 use Rattle.rewrite_needs.specs.declared.needs.Needs.{Needs}
+use Rattle.rewrite_needs.specs.declared.watching.Watch.{Watch}
+use Rattle.rewrite_needs.specs.Watching.{watch, or_none}
 
 -- the keys with one more, where its hook is called
 abbrev pub with_wanted : Hooks → List HookKey → HookKey → List HookKey
@@ -28,11 +30,18 @@ with_needed n more = record n { table = with_each_wanted n.hooks n.table more }
 -- ---- the keys of a place, the ends that a branch leaves aside
 
 abbrev pub own_keys : Site → (p : ℕ) → Option Plain → List HookKey
-own_keys s p None = []
-own_keys s p (Some i) = plain_keys s [] p i
+own_keys s p o = or_none (plain_keys s [] p) o
 
 abbrev pub instr_keys : Site → (p : ℕ) → Instr → List HookKey
 instr_keys s p i = own_keys s p (plain_of i)
+
+-- those of an instruction of which nothing else is told: of a branch or a call
+abbrev pub keys_unless : Option Watch → List HookKey → List HookKey
+keys_unless None keys = keys
+keys_unless (Some x) keys = []
+
+abbrev pub branch_keys : Site → (p : ℕ) → Option Plain → List HookKey
+branch_keys s p o = or_none (λ i. keys_unless (watch s p i) (plain_keys s [] p i)) o
 
 abbrev pub told_keys : Site → (p : ℤ) → Opcode → List HookKey
 told_keys s p Enters = when s.starts (keys.Plain groups.Start ∷ []) ++ keys.Begin kinds.Function ∷ []

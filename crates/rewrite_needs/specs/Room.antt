@@ -1,12 +1,13 @@
 -- How many temporaries of each type the templates of a body need at most, place by place.
-use Rattle.std.specs.Prelude.{ℕ, ◌+◌, List, [], ◌∷◌, Bool, Option, None, Some, fold, max}
+use Rattle.std.specs.Prelude.{ℕ, ◌+◌, List, [], ◌∷◌, Bool, fold, max}
 use Rattle.wasm_sem.specs.Types.{ValType, Instr, Hooks}
 use Rattle.wasm_num.specs.declared.ValType.TheVariants.{I32, I64}
 use Rattle.module_ast.specs.Lists.{when}
-use Rattle.module_ast.specs.Structure.{plain_of, Tree, Plain}
+use Rattle.module_ast.specs.Structure.{plain_of, Tree}
 use Rattle.module_ast.specs.Places.{code_size, ends_live}
 use Rattle.hook_mono.specs.Needed.{Site}
 use Rattle.i64_split.specs.Split.{ints_in, longs_in}
+use Rattle.rewrite_needs.specs.Watching.{or_none}
 use Rattle.rewrite_needs.specs.Temporaries.{plain_temps, code_temps}
 use Rattle.rewrite_needs.specs.declared.pool.Measured.{Measured}
 use Rattle.rewrite_needs.specs.declared.pool.Room.{Room}
@@ -37,12 +38,8 @@ widened_where wanted r types = widened r (when wanted (types ∷ []))
 
 -- ---- a place
 
-abbrev pub plain_temps_of : Hooks → Site → (p : ℕ) → Option Plain → List (List ValType)
-plain_temps_of hooks s p None = []
-plain_temps_of hooks s p (Some i) = plain_temps hooks s p i
-
 abbrev pub instr_temps : Hooks → Site → (p : ℕ) → Instr → List (List ValType)
-instr_temps hooks s p i = plain_temps_of hooks s p (plain_of i)
+instr_temps hooks s p i = or_none (plain_temps hooks s p) (plain_of i)
 
 -- ---- a body gone over from a place on
 

@@ -1,18 +1,18 @@
 -- The temporaries that the templates of a body need.
-use Rattle.std.specs.Prelude.{ℕ, ◌+◌, ◌||◌, nat_abs, ℤ, List, [], ◌∷◌, ◌++◌, length, flat_map, max, Bool}
+use Rattle.std.specs.Prelude.{ℕ, ◌+◌, ◌||◌, nat_abs, ℤ, List, [], ◌∷◌, ◌++◌, length, flat_map, max, Bool, Option, Some, None}
 use Rattle.wasm_sem.specs.Types.{ValType, BlockKind, Hooks, HookKey}
 use Rattle.wasm_num.specs.declared.ValType.TheVariants.{I32}
 use Rattle.wasm_num.specs.declared.BlockKind.TheVariants as kinds
-use Rattle.wasm_num.specs.Shapes.{num_operands, num_result}
-use Rattle.module_ast.specs.Validation.{load_type, store_type}
 use Rattle.module_ast.specs.Lists.{when}
-use Rattle.module_ast.specs.Places.{mark_at, type_of_callee, indirect_type, Place, Opcode, acts, opens, closes, places, code_size, goes_on}
-use Rattle.module_ast.specs.Structure.{Tree, done, plain, block, loop, if_then, if_else, Plain, br_if, br_table, return_, call, call_indirect, drop_, select, load, store, memory_size, memory_grow, num}
+use Rattle.module_ast.specs.Places.{type_of_callee, indirect_type, Place, Opcode, acts, opens, closes, places, code_size, goes_on}
+use Rattle.module_ast.specs.Structure.{Tree, done, plain, block, loop, if_then, if_else, Plain, br_if, br_table, return_, call, call_indirect}
 use Rattle.hook_select.specs.declared.GroupName.TheVariants as groups
 use Rattle.hook_select.specs.Groups.{has}
 use Rattle.hook_mono.specs.declared.HookKey.TheVariants as keys
 use Rattle.hook_mono.specs.Keys.{is_wanted}
 use Rattle.hook_mono.specs.Needed.{Site}
+use Rattle.rewrite_needs.specs.declared.watching.Watch.{Watch}
+use Rattle.rewrite_needs.specs.Watching.{watch, watch_temps}
 use Rattle.i64_split.specs.declared.Pool.{Pool}
 use Rattle.i64_split.specs.Split.{ints_in, longs_in}
 
@@ -24,24 +24,25 @@ wanted_temps hooks key types = when (is_wanted hooks key) (types ∷ [])
 abbrev pub watches_br_if : Hooks → Bool
 watches_br_if hooks = has hooks groups.BrIf || has hooks groups.End
 
--- those of a live instruction; around a call the arguments' and the results' are not needed at once
-abbrev pub plain_temps : Hooks → Site → (p : ℕ) → Plain → List (List ValType)
-plain_temps hooks s p (br_if l) = when (watches_br_if hooks) ((I32 ∷ []) ∷ [])
-plain_temps hooks s p (br_table ls l) = wanted_temps hooks (keys.Plain groups.BrTable) (I32 ∷ [])
-plain_temps hooks s p return_ = let ts = s.context.results in wanted_temps hooks (keys.Return ts) ts
-plain_temps hooks s p (call f) =
+-- those of a live instruction that branches or calls; around a call the arguments' and the results' are not needed at once
+abbrev pub branch_temps : Hooks → Site → Plain → List (List ValType)
+branch_temps hooks s (br_if l) = when (watches_br_if hooks) ((I32 ∷ []) ∷ [])
+branch_temps hooks s (br_table ls l) = wanted_temps hooks (keys.Plain groups.BrTable) (I32 ∷ [])
+branch_temps hooks s return_ = let ts = s.context.results in wanted_temps hooks (keys.Return ts) ts
+branch_temps hooks s (call f) =
     let t = type_of_callee s.context f in wanted_temps hooks (keys.CallPre t.params) t.params ++ wanted_temps hooks (keys.CallPost t.results) t.results
-plain_temps hooks s p (call_indirect ty) =
+branch_temps hooks s (call_indirect ty) =
     let t = indirect_type s.context ty in
     wanted_temps hooks (keys.IndirectPre t.params) (I32 ∷ t.params) ++ wanted_temps hooks (keys.CallPost t.results) t.results
-plain_temps hooks s p drop_ = let t = mark_at s.marks p in wanted_temps hooks (keys.Drop t) (t ∷ [])
-plain_temps hooks s p select = let t = mark_at s.marks p in wanted_temps hooks (keys.Select t) (t ∷ t ∷ I32 ∷ [])
-plain_temps hooks s p (load op m) = wanted_temps hooks (keys.Load op) (I32 ∷ load_type op ∷ [])
-plain_temps hooks s p (store op m) = wanted_temps hooks (keys.Store op) (I32 ∷ store_type op ∷ [])
-plain_temps hooks s p memory_size = wanted_temps hooks (keys.Plain groups.MemorySize) (I32 ∷ [])
-plain_temps hooks s p memory_grow = wanted_temps hooks (keys.Plain groups.MemoryGrow) (I32 ∷ I32 ∷ [])
-plain_temps hooks s p (num op) = wanted_temps hooks (keys.Num op) (num_operands op ++ num_result op ∷ [])
-plain_temps hooks s p _ = []
+branch_temps hooks s _ = []
+
+abbrev pub temps_by : Hooks → Site → Plain → Option Watch → List (List ValType)
+temps_by hooks s i None = branch_temps hooks s i
+temps_by hooks s i (Some x) = watch_temps hooks x
+
+-- those of any live instruction
+abbrev pub plain_temps : Hooks → Site → (p : ℕ) → Plain → List (List ValType)
+plain_temps hooks s p i = temps_by hooks s i (watch s p i)
 
 abbrev pub open_temps : Hooks → BlockKind → List (List ValType)
 open_temps hooks kinds.If = wanted_temps hooks (keys.Plain groups.If) (I32 ∷ [])

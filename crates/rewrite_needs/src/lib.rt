@@ -5,8 +5,10 @@ mod needs;
 mod pool;
 mod site;
 mod wanted;
+mod watching;
 
 pub use needs::needs_of;
 pub use pool::pool_of;
 pub use site::Site;
-pub use wanted::num_group;
+pub use wanted::is_wanted;
+pub use watching::{Telling, Types, Watch, watch_of};

@@ -1,21 +1,23 @@
 // The temporaries of a body.
 
-ghost use Rattle.std.specs.Prelude.{◌≡◌, ◌+◌, ◌<◌, ◌≤◌, ◌^◌, ◌++◌, ◌&&◌, [], ◌∷◌, length};
+ghost use Rattle.std.specs.Prelude.{◌≡◌, ◌+◌, ◌<◌, ◌≤◌, ◌^◌, ◌&&◌, [], ◌∷◌, length};
 ghost use Rattle.wasm_num.specs.declared.ValType.TheVariants.{I32};
-ghost use Rattle.wasm_num.specs.Shapes.{num_operands, num_result};
 ghost use Rattle.hook_select.specs.declared.GroupName.TheVariants as groups;
 ghost use Rattle.hook_select.specs.Groups.{has};
-ghost use Rattle.module_ast.specs.Structure.{IsPlainInstr, before, Tree, done};
+ghost use Rattle.module_ast.specs.Structure.{plain_of, IsPlainInstr, before, Tree, done};
 ghost use Rattle.module_ast.specs.Places.{code_size};
-ghost use Rattle.rewrite_needs.specs.Temporaries.{pool_of, body_temps};
+ghost use Rattle.module_ast.specs.Validation.Limits.{longest_file};
+ghost use Rattle.rewrite_needs.specs.Watching.{or_none, watch_temps};
+ghost use Rattle.rewrite_needs.specs.Temporaries.{branch_temps, pool_of, body_temps};
 ghost use Rattle.rewrite_needs.specs.Room.{room_for, with_one, wider, widened, widened_where, no_room, instr_temps, behind_code, behind_part};
 
 use crate::site::Site;
-use crate::wanted::num_group;
+use crate::wanted::is_wanted;
+use crate::watching::{Telling, Watch, watch_of};
 use hook_select::{GroupName, Hooks};
 use i64_split::Pool;
 use module_ast::code::{Code, Instr};
-use wasm_num::{NumOp, ValType};
+use wasm_num::ValType;
 
 // How many temporaries of each type are needed at once.
 #[derive(Clone, Copy)]
@@ -90,20 +92,21 @@ impl Room {
         }
     }
 
-    // Enough for the operands and the result of a number instruction too, where they are wanted.
-    fn or_num(self, wanted: bool, op: NumOp) -> Room
-        ensures { result ≡ widened_where wanted self (num_operands op ++ num_result op ∷ []) }
+    // Enough for what is kept of an instruction too.
+    fn or_watch(self, hooks: Hooks, watch: &Watch) -> Room
+        ensures { result ≡ widened self (watch_temps hooks watch.now) }
     {
-        if wanted {
-            self.or(Room::of(op.operand_types()).with(op.result_type()))
-        } else {
-            self
+        let wanted = is_wanted(hooks, &watch.key);
+        match &watch.told {
+            Telling::Dropped(ty) => self.or_types(wanted, &[*ty]),
+            Telling::Kept(_, _, types) => self.or_types(wanted, types.as_slice()),
+            _ => self,
         }
     }
 
-    // Enough for an instruction too.
-    fn or_instr(self, site: &Site, hooks: Hooks, position: u32, instr: &Instr) -> Room
-        ensures { result ≡ widened self (instr_temps hooks site.now position instr.now) }
+    // Enough for a branch or a call too.
+    fn or_branch(self, site: &Site, hooks: Hooks, instr: &Instr) -> Room
+        ensures { result ≡ widened self (or_none (branch_temps hooks site.now) (plain_of instr.now)) }
     {
         let one = [ValType::I32];
         match instr {
@@ -126,29 +129,17 @@ impl Room {
                 let (params, results) = site.indirect_type(*ty);
                 self.or_behind_i32(wanted, params).or_types(wanted, results)
             }
-            Instr::Drop => {
-                let ty = site.mark_at(position);
-                self.or_types(hooks.has(GroupName::Drop), &[ty])
-            }
-            Instr::Select => {
-                let ty = site.mark_at(position);
-                self.or_types(hooks.has(GroupName::Select), &[ty, ty, ValType::I32])
-            }
-            Instr::Load(op, _) => {
-                self.or_types(hooks.has(GroupName::Load), &[ValType::I32, op.ty()])
-            }
-            Instr::Store(op, _) => {
-                self.or_types(hooks.has(GroupName::Store), &[ValType::I32, op.ty()])
-            }
-            Instr::MemorySize => self.or_types(hooks.has(GroupName::MemorySize), &one),
-            Instr::MemoryGrow => {
-                self.or_types(
-                    hooks.has(GroupName::MemoryGrow),
-                    &[ValType::I32, ValType::I32],
-                )
-            }
-            Instr::Num(op) => self.or_num(hooks.has(num_group(*op)), *op),
             _ => self,
+        }
+    }
+
+    // Enough for an instruction too.
+    fn or_instr(self, site: &Site, hooks: Hooks, position: u32, instr: &Instr) -> Room
+        ensures { result ≡ widened self (instr_temps hooks site.now position instr.now) }
+    {
+        match watch_of(site, position, instr) {
+            Some(watch) => self.or_watch(hooks, &watch),
+            None => self.or_branch(site, hooks, instr),
         }
     }
 }
@@ -256,7 +247,7 @@ impl Measured {
 
 // How many temporaries of each type one template of the function needs at most, gone over place by place.
 fn room_of(site: &Site, hooks: Hooks) -> Room
-    requires { code_size site.now.body.code + 1 ≤ 268435456 }
+    requires { code_size site.now.body.code + 1 ≤ longest_file }
     ensures { result ≡ widened no_room (body_temps hooks site.now) }
 {
     let entry = Measured {
@@ -272,7 +263,7 @@ fn room_of(site: &Site, hooks: Hooks) -> Room
 /// many of each type as one template needs at most. The body has at most 2 ^ 28 positions, and all locals with these have
 /// numbers below 2 ^ 32. It takes time in proportion to the body.
 pub fn pool_of(site: &Site, hooks: Hooks) -> Pool
-    requires few { code_size site.now.body.code + 1 ≤ 268435456 }
+    requires few { code_size site.now.body.code + 1 ≤ longest_file }
     requires fits { let pool = pool_of hooks site.now in pool.base + pool.ints + pool.longs < 2 ^ 32 }
     ensures { result ≡ pool_of hooks site.now }
 {

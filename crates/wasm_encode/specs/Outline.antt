@@ -1,11 +1,11 @@
--- A module in three parts: the code section, and what stands before and behind it.
+-- The bytes of a module in three parts: the code section, and what is before and behind it.
 use Rattle.std.specs.Prelude.{ℕ, zero, suc, ◌+◌, List, [], ◌∷◌, ◌++◌, length}
 use Rattle.module_ast.specs.declared.module.Body.{Body}
 use Rattle.module_ast.specs.declared.module.Module.{Module}
 use Rattle.module_ast.specs.Binary.{header, sized_bytes, items_bytes, vec_section, func_type_bytes, import_bytes, table_bytes, limits_bytes, global_bytes, export_bytes, start_bytes, element_bytes, body_bytes, segment_bytes}
 use Rattle.leb_binary.specs.Shortest.{unsigned_bytes}
 
--- the header and the sections before that of code
+-- the header and the sections before the code section
 abbrev pub front_bytes : Module → List ℕ
 front_bytes m =
     header
@@ -19,18 +19,18 @@ front_bytes m =
     ++ start_bytes m.start
     ++ vec_section 9 element_bytes m.elements
 
--- the section behind it
+-- the section behind the code section
 abbrev pub back_bytes : Module → List ℕ
 back_bytes m = vec_section 11 segment_bytes m.segments
 
--- a body with its size before it, and those of a module in a row
+-- the entry of a body, which is its size and the body; and all entries of a module
 abbrev pub entry_bytes : Body → List ℕ
 entry_bytes b = sized_bytes (body_bytes b)
 
 abbrev pub entries_bytes : List Body → List ℕ
 entries_bytes bodies = items_bytes entry_bytes bodies
 
--- what stands before so many entries of so many bytes: nothing where there are none
+-- what is before `count` entries of `size` bytes together: nothing if there are no entries
 abbrev pub code_head : (count size : ℕ) → List ℕ
 code_head zero size = []
 code_head (suc n) size =

@@ -1,4 +1,4 @@
-// The entries of the code section (5.5.13), in which each body has its size in front.
+// The entries of the code section (5.5.13): each body behind the number of its bytes.
 
 ghost use Rattle.std.specs.Prelude.{◌≡◌, ◌++◌, ◌<◌, ◌^◌, OnOk, All, length};
 ghost use Rattle.module_ast.specs.declared.module.Body.{Body};
@@ -12,7 +12,7 @@ use leb_binary::{put_u64, unsigned_length};
 use module_ast::module::Body;
 use std::alloc::{AllocError, Global};
 
-// How many bytes a body has, its size included.
+// The number of bytes of a body and of its size in front.
 fn entry_length(body: &Body) -> u64
     requires { length (entry_bytes body.now) < 2 ^ 63 }
     ensures length { result ≡ length (entry_bytes body.now) }
@@ -22,7 +22,7 @@ fn entry_length(body: &Body) -> u64
     unsigned_length(size) + size
 }
 
-/// How many bytes the entries of these bodies have. It is the one call that counts them.
+/// The number of bytes of the entries of these bodies. Only this call counts them.
 #[tactic(auto, using(std::proofs::lemmas::Grind::common_steps))]
 pub fn entries_length(bodies: &[Body]) -> u64
     requires { length (entries_bytes bodies.now) < 2 ^ 63 }
@@ -36,7 +36,7 @@ pub fn entries_length(bodies: &[Body]) -> u64
     total
 }
 
-// Adds the entries of these bodies. The size of each is that of its bytes, which are written apart.
+// Appends the entries of these bodies. Each body is first written apart, so that its bytes can be counted.
 #[tactic(auto, using(std::proofs::lemmas::Grind::common_steps))]
 fn put_entries(alloc: Global, out: &mut Vec<u8>, bodies: &[Body]) -> Result<(), AllocError>
     ensures { OnOk result (out.new.items ≡ out.old.items ++ entries_bytes bodies.now) }
@@ -50,7 +50,7 @@ fn put_entries(alloc: Global, out: &mut Vec<u8>, bodies: &[Body]) -> Result<(), 
     Ok(())
 }
 
-/// How many bytes the section has, the entries of whose bodies have so many.
+/// The number of bytes of the code section, if the entries of its bodies have `size` bytes.
 #[tactic(auto, using(crate::proofs::Outlines::code_section_is, crate::proofs::Outlines::entries_within))]
 pub fn bodies_section_length(bodies: &[Body], size: u64) -> u64
     requires size { size ≡ length (entries_bytes bodies.now) }
@@ -60,7 +60,7 @@ pub fn bodies_section_length(bodies: &[Body], size: u64) -> u64
     code_section_length(bodies.len() as u64, size)
 }
 
-/// Adds the section, the entries of whose bodies have so many bytes, and nothing where there is no body.
+/// Appends the code section, if the entries of its bodies have `size` bytes; nothing if there is no body.
 #[tactic(auto, using(crate::proofs::Outlines::code_section_is, crate::proofs::Outlines::entries_within))]
 pub fn put_bodies_section(
     alloc: Global,

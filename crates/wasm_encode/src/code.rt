@@ -1,4 +1,4 @@
-// Instructions (5.4).
+// Instructions as bytes (5.4).
 
 ghost use Rattle.std.specs.Prelude.{◌≡◌, [], ◌∷◌, ◌++◌, OnOk};
 ghost use Rattle.leb_binary.specs.Shortest.{unsigned_bytes, signed_bytes};
@@ -12,7 +12,6 @@ use module_ast::code::{BlockType, Code, Instr};
 use module_ast::ops::MemArg;
 use std::alloc::AllocError;
 
-// Adds an opcode alone.
 fn put_opcode(out: &mut Vec<u8>, opcode: u8) -> Result<(), AllocError>
     ensures { OnOk result (out.new.items ≡ out.old.items ++ opcode ∷ []) }
 {
@@ -20,7 +19,7 @@ fn put_opcode(out: &mut Vec<u8>, opcode: u8) -> Result<(), AllocError>
     Ok(())
 }
 
-// Adds an opcode and one byte.
+// Appends an opcode and one byte.
 fn put_two(out: &mut Vec<u8>, opcode: u8, byte: u8) -> Result<(), AllocError>
     ensures { OnOk result (out.new.items ≡ out.old.items ++ opcode ∷ byte ∷ []) }
 {
@@ -29,7 +28,7 @@ fn put_two(out: &mut Vec<u8>, opcode: u8, byte: u8) -> Result<(), AllocError>
     Ok(())
 }
 
-// Adds an opcode with one index.
+// Appends an opcode and an index.
 fn put_indexed(out: &mut Vec<u8>, opcode: u8, index: u32) -> Result<(), AllocError>
     ensures { OnOk result (out.new.items ≡ out.old.items ++ opcode ∷ unsigned_bytes index) }
 {
@@ -37,7 +36,7 @@ fn put_indexed(out: &mut Vec<u8>, opcode: u8, index: u32) -> Result<(), AllocErr
     put_u32(out, index)
 }
 
-// Adds a branch by a table: its labels, and the label for all further numbers.
+// Appends a `br_table`: its labels, and the label for all greater operands.
 fn put_table_branch(out: &mut Vec<u8>, labels: &[u32], last: u32) -> Result<(), AllocError>
     ensures { OnOk result (out.new.items ≡ out.old.items ++ 0x0E ∷ (vec_bytes unsigned_bytes labels.now ++ unsigned_bytes last)) }
 {
@@ -46,7 +45,7 @@ fn put_table_branch(out: &mut Vec<u8>, labels: &[u32], last: u32) -> Result<(), 
     put_u32(out, last)
 }
 
-// Adds a call through the one table.
+// Appends a `call_indirect` through table 0.
 fn put_indirect_call(out: &mut Vec<u8>, ty: u32) -> Result<(), AllocError>
     ensures { OnOk result (out.new.items ≡ out.old.items ++ 0x11 ∷ (unsigned_bytes ty ++ 0x00 ∷ [])) }
 {
@@ -56,7 +55,7 @@ fn put_indirect_call(out: &mut Vec<u8>, ty: u32) -> Result<(), AllocError>
     Ok(())
 }
 
-// Adds the opcode of a load or store, its alignment and its offset.
+// Appends the opcode of a load or store, its alignment and its offset.
 fn put_access(out: &mut Vec<u8>, opcode: u8, arg: MemArg) -> Result<(), AllocError>
     ensures { OnOk result (out.new.items ≡ out.old.items ++ opcode ∷ mem_arg_bytes arg) }
 {
@@ -65,7 +64,6 @@ fn put_access(out: &mut Vec<u8>, opcode: u8, arg: MemArg) -> Result<(), AllocErr
     put_u32(out, arg.offset)
 }
 
-// Adds a constant of 32 bits.
 fn put_i32_const(out: &mut Vec<u8>, value: i32) -> Result<(), AllocError>
     ensures { OnOk result (out.new.items ≡ out.old.items ++ 0x41 ∷ signed_bytes value) }
 {
@@ -73,7 +71,6 @@ fn put_i32_const(out: &mut Vec<u8>, value: i32) -> Result<(), AllocError>
     put_s32(out, value)
 }
 
-// Adds a constant of 64 bits.
 fn put_i64_const(out: &mut Vec<u8>, value: i64) -> Result<(), AllocError>
     ensures { OnOk result (out.new.items ≡ out.old.items ++ 0x42 ∷ signed_bytes value) }
 {
@@ -81,7 +78,7 @@ fn put_i64_const(out: &mut Vec<u8>, value: i64) -> Result<(), AllocError>
     put_s64(out, value)
 }
 
-/// Adds instructions, with nothing that closes them.
+/// Appends instructions, without an `end` behind them.
 #[cycle(code)]
 pub fn put_code(out: &mut Vec<u8>, code: &Code) -> Result<(), AllocError>
     ensures { OnOk result (out.new.items ≡ out.old.items ++ code_bytes code.now) }
@@ -92,7 +89,7 @@ pub fn put_code(out: &mut Vec<u8>, code: &Code) -> Result<(), AllocError>
     Ok(())
 }
 
-// Adds the opcode of a block, and the type of the block.
+// Appends the opcode of a block and the type of the block.
 fn put_opening(out: &mut Vec<u8>, opcode: u8, ty: BlockType) -> Result<(), AllocError>
     ensures { OnOk result (out.new.items ≡ out.old.items ++ opcode ∷ block_type_bytes ty) }
 {
@@ -100,7 +97,7 @@ fn put_opening(out: &mut Vec<u8>, opcode: u8, ty: BlockType) -> Result<(), Alloc
     put_block_type(out, ty)
 }
 
-// Adds a block, a loop, or an `if` with one part, and its `end`.
+// Appends a block, a loop or an `if` without `else`, with its `end`.
 #[cycle(code)]
 fn put_block(out: &mut Vec<u8>, opcode: u8, ty: BlockType, body: &Code) -> Result<(), AllocError>
     ensures { OnOk result (out.new.items ≡ out.old.items ++ opcode ∷ (block_type_bytes ty ++ code_bytes body.now ++ 0x0B ∷ [])) }
@@ -110,7 +107,7 @@ fn put_block(out: &mut Vec<u8>, opcode: u8, ty: BlockType, body: &Code) -> Resul
     put_opcode(out, 0x0B)
 }
 
-// Adds an `if` with its two parts.
+// Appends an `if` with its two branches and its `end`.
 #[cycle(code)]
 fn put_if_else(
     out: &mut Vec<u8>,
@@ -127,7 +124,6 @@ fn put_if_else(
     put_opcode(out, 0x0B)
 }
 
-// Adds one instruction.
 #[tactic(auto, using(std::proofs::lemmas::Grind::common_steps))]
 #[cycle(code)]
 fn put_instr(out: &mut Vec<u8>, instr: &Instr) -> Result<(), AllocError>
@@ -163,7 +159,7 @@ fn put_instr(out: &mut Vec<u8>, instr: &Instr) -> Result<(), AllocError>
     }
 }
 
-/// Adds instructions and the `end` behind them (5.4.9).
+/// Appends instructions and the `end` behind them (5.4.6).
 pub fn put_expr(out: &mut Vec<u8>, code: &Code) -> Result<(), AllocError>
     ensures { OnOk result (out.new.items ≡ out.old.items ++ expr_bytes code.now) }
 {

@@ -1,4 +1,4 @@
-// How many bytes instructions have.
+// The lengths of instructions in bytes.
 
 ghost use Rattle.std.specs.Prelude.{◌≡◌, [], ◌∷◌, ◌++◌, ◌+◌, ◌*◌, ◌-◌, ◌<◌, ◌≤◌, ◌^◌, All, length, min};
 ghost use Rattle.leb_binary.specs.Shortest.{unsigned_bytes, signed_bytes};
@@ -12,7 +12,7 @@ use leb_binary::{signed_length, unsigned_length};
 use module_ast::code::{Code, Instr};
 use module_ast::ops::MemArg;
 
-// An opcode with one index.
+// An opcode and an index.
 fn indexed_length(index: u32) -> u64
     ensures length { result ≡ 1 + length (unsigned_bytes index) }
     ensures bound { result ≤ 6 }
@@ -20,7 +20,6 @@ fn indexed_length(index: u32) -> u64
     1 + index_length(index)
 }
 
-// A branch by a table.
 fn table_branch_length(labels: &[u32], last: u32) -> u64
     ensures length { result ≡ 1 + length (vec_bytes unsigned_bytes labels.now ++ unsigned_bytes last) }
     ensures bound { result ≤ 16 + 5 * length labels.now }
@@ -42,7 +41,6 @@ fn access_length(arg: MemArg) -> u64
     1 + index_length(arg.align) + index_length(arg.offset)
 }
 
-// A constant.
 fn const_length(value: i64) -> u64
     ensures length { result ≡ 1 + length (signed_bytes value) }
     ensures bound { result ≤ 11 }
@@ -50,7 +48,7 @@ fn const_length(value: i64) -> u64
     1 + signed_length(value)
 }
 
-/// How many bytes an instruction has that has no sequence in it (5.4).
+/// The number of bytes of an instruction without a nested sequence (5.4).
 pub fn plain_length(instr: &Instr) -> u64
     requires { IsPlainInstr instr.now }
     ensures length { (t : Tree) → result + length (code_bytes t) ≡ length (code_bytes (before instr.now t)) }
@@ -77,7 +75,7 @@ pub fn plain_length(instr: &Instr) -> u64
     }
 }
 
-/// How many bytes instructions have, with nothing that closes them, or 2^64 - 1 where that is less (5.4).
+/// The number of bytes of instructions, without an `end` behind them; 2^64 - 1 if there are more (5.4).
 #[cycle(code_length)]
 pub fn instrs_length(instrs: &[Instr]) -> u64
     ensures length { result ≡ min (length (code_bytes (code_of instrs.now))) (2 ^ 64 - 1) }
@@ -90,7 +88,7 @@ pub fn instrs_length(instrs: &[Instr]) -> u64
     total
 }
 
-// How many bytes one instruction has, or 2^64 - 1 where that is less.
+// The number of bytes of one instruction; 2^64 - 1 if there are more.
 #[cycle(code_length)]
 fn instr_length(instr: &Instr) -> u64
     ensures length { (t : Tree) → min (result + length (code_bytes t)) (2 ^ 64 - 1) ≡ min (length (code_bytes (before instr.now t))) (2 ^ 64 - 1) }
@@ -109,7 +107,7 @@ fn instr_length(instr: &Instr) -> u64
     }
 }
 
-/// How many bytes instructions have with the `end` behind them (5.4.9).
+/// The number of bytes of instructions and the `end` behind them (5.4.6).
 pub fn expr_length(code: &Code) -> u64
     requires { length (expr_bytes code.now) < 2 ^ 63 }
     ensures length { result ≡ length (expr_bytes code.now) }

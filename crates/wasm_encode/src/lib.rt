@@ -1,10 +1,12 @@
-// The canonical bytes of modules (5). They are counted first, each body once, and then written.
+// The canonical bytes of modules (5). They are counted first, each body once, and then written. A writer fails only if
+// memory runs out; any bytes may then have been appended, unless it says otherwise.
 #![tactic(auto)]
 
 ghost use Rattle.std.specs.Prelude.{◌≡◌, ◌<◌, ◌≤◌, ◌^◌, ℕ, length, All, IfOk, IsErrOf};
 ghost use Rattle.module_ast.specs.declared.module.Body.{Body};
 ghost use Rattle.module_ast.specs.declared.module.Which.TheVariants.{Nesting};
 ghost use Rattle.module_ast.specs.Binary.{Fits, IsModule, locals_of, limited_counts, AreWithin, tree_of, module_bytes, without_customs};
+ghost use Rattle.module_ast.specs.Validation.Limits.{deepest, longest_file};
 ghost use Rattle.wasm_encode.specs.declared.EncodeFault.TheVariants.{TooLarge, NoMemory};
 
 mod bodies;
@@ -26,12 +28,12 @@ use crate::whole::{module_length, spell_module};
 use module_ast::module::Module;
 use std::alloc::{AllocError, Global};
 
-/// Why a module has no bytes.
+/// Why `encode` writes no bytes.
 #[derive(Clone, Copy, Debug, PartialEq, Eq)]
 pub enum EncodeFault {
-    /// The canonical bytes are this many, and more than were allowed.
+    /// There are more canonical bytes than were allowed: `length` of them.
     TooLarge { length: u64 },
-    /// The allocator gave no memory.
+    /// Memory ran out.
     NoMemory,
 }
 
@@ -43,7 +45,7 @@ impl From<AllocError> for EncodeFault {
     }
 }
 
-/// How many canonical bytes a module has (5). Each of its numbers is counted on the way, so they are of their sizes.
+/// The number of canonical bytes of a module (5). The count also shows the prover that each number fits its encoding.
 pub fn encoded_length(m: &Module) -> u64
     requires bodies { length m.now.funcs ≡ length m.now.bodies }
     requires locals { All (λ (b : Body). locals_of b.groups < 2 ^ 32) m.now.bodies }
@@ -55,16 +57,16 @@ pub fn encoded_length(m: &Module) -> u64
     module_length(m, bodies)
 }
 
-/// The canonical bytes of a module (5): every number in its shortest spelling, no section without entries, no custom one.
-/// They are in the grammar, as the module without its custom sections.
+/// The canonical bytes of a module (5): every number in its shortest spelling, no section without entries, no custom
+/// section. They are in the grammar, as the module without its custom sections.
 ///
-/// `max` is how many bytes there may be. Where there are more, the answer is `TooLarge` with their number, and nothing
-/// is allocated; so `NoMemory` comes only where they are few enough.
+/// `max` is the greatest number of bytes that there may be. If there are more, the answer is `TooLarge` with their
+/// number, and nothing is allocated. So `NoMemory` comes only if there are few enough.
 pub fn encode(alloc: Global, m: &Module, max: u64) -> Result<Vec<u8>, EncodeFault>
-    requires most { max ≤ 268435456 }
+    requires most { max ≤ longest_file }
     requires bodies { length m.now.funcs ≡ length m.now.bodies }
     requires locals { All (λ (b : Body). locals_of b.groups < 2 ^ 32) m.now.bodies }
-    requires nesting { AreWithin 1002 (limited_counts m.now Nesting) }
+    requires nesting { AreWithin deepest (limited_counts m.now Nesting) }
     requires room { length (module_bytes m.now) < 2 ^ 63 }
     ensures ok { IfOk result (λ bytes. bytes.items ≡ module_bytes m.now) }
     ensures grammar { IfOk result (λ bytes. IsModule bytes.items (tree_of (without_customs m.now))) }

@@ -1,4 +1,4 @@
-// Indices, and bytes with their number in front.
+// Indices, and bytes behind their number.
 
 ghost use Rattle.std.specs.Prelude.{◌≡◌, ◌≤◌, ◌<◌, ◌^◌, ◌+◌, ◌++◌, OnOk, All, length};
 ghost use Rattle.leb_binary.specs.Shortest.{unsigned_bytes};
@@ -7,7 +7,7 @@ ghost use Rattle.module_ast.specs.Binary.{sized_bytes, FitsIndex};
 use leb_binary::{put_u64, unsigned_length};
 use std::alloc::AllocError;
 
-/// How many bytes the shortest spelling of an index has: 1 to 5.
+/// The number of bytes of an index in its shortest spelling: 1 to 5.
 #[tactic(auto, using(leb_binary::proofs::Lengths::unsigned_five))]
 pub fn index_length(index: u32) -> u64
     ensures length { result ≡ length (unsigned_bytes index) }
@@ -17,7 +17,7 @@ pub fn index_length(index: u32) -> u64
     unsigned_length(u64::from(index))
 }
 
-/// How many bytes these are with their number in front.
+/// The length in bytes of a byte string with its number of bytes in front.
 pub fn sized_length(bytes: &[u8]) -> u64
     requires { length (sized_bytes bytes.now) < 2 ^ 63 }
     ensures length { result ≡ length (sized_bytes bytes.now) }
@@ -27,7 +27,7 @@ pub fn sized_length(bytes: &[u8]) -> u64
     unsigned_length(size) + size
 }
 
-/// Adds the number of these bytes, and the bytes.
+/// Appends the number of these bytes, and the bytes.
 pub fn put_sized(out: &mut Vec<u8>, bytes: &[u8]) -> Result<(), AllocError>
     ensures { OnOk result (out.new.items ≡ out.old.items ++ sized_bytes bytes.now) }
 {

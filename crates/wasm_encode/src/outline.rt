@@ -1,6 +1,6 @@
 // Modules whose parts are lent, and whose bodies come one at a time.
 
-ghost use Rattle.std.specs.Prelude.{◌≡◌, ◌++◌, ◌+◌, ◌<◌, ◌^◌, OnOk, IfOk, MatchResult, length};
+ghost use Rattle.std.specs.Prelude.{◌≡◌, ◌++◌, ◌+◌, ◌<◌, ◌^◌, OnOk, length};
 ghost use Rattle.leb_binary.specs.Shortest.{unsigned_bytes};
 ghost use Rattle.module_ast.specs.Binary.{body_bytes, vec_section, func_type_bytes, import_bytes, table_bytes, limits_bytes, global_bytes, export_bytes, start_bytes, element_bytes};
 ghost use Rattle.wasm_encode.specs.Outline.{front_bytes, back_bytes, entry_bytes, code_head};
@@ -92,32 +92,21 @@ impl Outline<'_> {
         Ok(())
     }
 
-    // The header and the sections before that of code.
-    fn front(&self, alloc: Global) -> Result<Vec<u8>, AllocError>
-        requires types { length self.now.types < 2 ^ 64 }
-        requires imports { length self.now.imports < 2 ^ 64 }
-        ensures { IfOk result (λ front. front.items ≡ front_bytes self.now) }
-    {
-        let mut front = Vec::new(alloc);
-        front.extend_from_slice(&[0x00, 0x61, 0x73, 0x6D, 0x01, 0x00, 0x00, 0x00])?;
-        self.put_functions(alloc, &mut front)?;
-        self.put_stores(alloc, &mut front)?;
-        self.put_uses(alloc, &mut front)?;
-        Ok(front)
-    }
-
-    /// Adds the header and the sections before that of code (5.5.16). They are written apart first, so that an `Err`, which
-    /// comes where there is no memory, leaves `out` as it was.
+    /// Adds the header and the sections before that of code (5.5.15). `Err` if memory runs out; `out` may then have a part
+    /// of these bytes.
     pub fn put_front(&self, alloc: Global, out: &mut Vec<u8>) -> Result<(), AllocError>
         requires types { length self.now.types < 2 ^ 64 }
         requires imports { length self.now.imports < 2 ^ 64 }
-        ensures { MatchResult result (λ _. out.new.items ≡ out.old.items ++ front_bytes self.now) (λ _. out.new.items ≡ out.old.items) }
+        ensures { OnOk result (out.new.items ≡ out.old.items ++ front_bytes self.now) }
     {
-        let front = self.front(alloc)?;
-        out.extend_from_slice(&front)
+        out.extend_from_slice(&[0x00, 0x61, 0x73, 0x6D, 0x01, 0x00, 0x00, 0x00])?;
+        self.put_functions(alloc, out)?;
+        self.put_stores(alloc, out)?;
+        self.put_uses(alloc, out)?;
+        Ok(())
     }
 
-    /// How many bytes stand behind the section of code.
+    /// How many bytes follow the section of code.
     pub fn back_length(&self) -> u64
         requires { length (back_bytes self.now) < 2 ^ 63 }
         ensures { result ≡ length (back_bytes self.now) }
@@ -125,20 +114,17 @@ impl Outline<'_> {
         section_length(11, self.segments)
     }
 
-    /// Adds what stands behind the section of code. It is written apart first, so that an `Err`, which comes where there is
-    /// no memory, leaves `out` as it was.
+    /// Adds what follows the section of code. `Err` if memory runs out; `out` may then have a part of these bytes.
     pub fn put_back(&self, out: &mut Vec<u8>) -> Result<(), AllocError>
         requires { length (back_bytes self.now) < 2 ^ 63 }
-        ensures { MatchResult result (λ _. out.new.items ≡ out.old.items ++ back_bytes self.now) (λ _. out.new.items ≡ out.old.items) }
+        ensures { OnOk result (out.new.items ≡ out.old.items ++ back_bytes self.now) }
     {
-        let mut back = Vec::new(*out.allocator());
-        put_section(&mut back, 11, self.segments)?;
-        out.extend_from_slice(&back)
+        put_section(out, 11, self.segments)
     }
 }
 
-/// How many bytes the section of code has, with its id and size, where it has so many entries of so many bytes together
-/// (5.5.13): none where there are no entries.
+/// How many bytes the section of code has, its id and size included, if it has `count` entries of `size` bytes together
+/// (5.5.13): none if there are no entries.
 pub fn code_section_length(count: u64, size: u64) -> u64
     requires { size < 2 ^ 63 }
     ensures { result ≡ length (code_head count size) + size }
@@ -150,31 +136,26 @@ pub fn code_section_length(count: u64, size: u64) -> u64
     1 + unsigned_length(content) + content
 }
 
-/// Adds what stands in the section of code before its entries, of which there are so many of so many bytes together, and
-/// nothing where there are none (5.5.13). It is written apart first, so that an `Err`, which comes where there is no memory,
-/// leaves `out` as it was.
+/// Adds what stands in the section of code before its `count` entries of `size` bytes together (5.5.13): nothing if there
+/// are none. `Err` if memory runs out; `out` may then have a part of these bytes.
 pub fn put_code_head(out: &mut Vec<u8>, count: u64, size: u64) -> Result<(), AllocError>
     requires { size < 2 ^ 63 }
-    ensures { MatchResult result (λ _. out.new.items ≡ out.old.items ++ code_head count size) (λ _. out.new.items ≡ out.old.items) }
+    ensures { OnOk result (out.new.items ≡ out.old.items ++ code_head count size) }
 {
     if count == 0 {
         return Ok(());
     }
-    let mut head = Vec::new(*out.allocator());
-    head.push(10)?;
-    put_u64(&mut head, unsigned_length(count) + size)?;
-    put_u64(&mut head, count)?;
-    out.extend_from_slice(&head)
+    out.push(10)?;
+    put_u64(out, unsigned_length(count) + size)?;
+    put_u64(out, count)
 }
 
-/// Adds a body of so many bytes with its size before it (5.5.13). They are written apart first, so that an `Err`, which
-/// comes where there is no memory, leaves `out` as it was.
+/// Adds a body of `size` bytes with its size before it (5.5.13). `Err` if memory runs out; `out` may then have a part of
+/// these bytes.
 pub fn put_entry(out: &mut Vec<u8>, body: &Body, size: u64) -> Result<(), AllocError>
     requires { size ≡ length (body_bytes body.now) }
-    ensures { MatchResult result (λ _. out.new.items ≡ out.old.items ++ entry_bytes body.now) (λ _. out.new.items ≡ out.old.items) }
+    ensures { OnOk result (out.new.items ≡ out.old.items ++ entry_bytes body.now) }
 {
-    let mut entry = Vec::with_capacity(*out.allocator(), size as usize)?;
-    put_u64(&mut entry, size)?;
-    body.put(&mut entry)?;
-    out.extend_from_slice(&entry)
+    put_u64(out, size)?;
+    body.put(out)
 }

@@ -13,7 +13,7 @@ use module_ast::module::{Body, Element, Export, ExportKind, GlobalDef, Group, Im
 use module_ast::name::Name;
 use std::alloc::AllocError;
 
-// How many bytes a name has.
+// The number of bytes of a name with its size.
 fn name_length(name: &Name) -> u64
     requires { length (sized_bytes name.now.bytes) < 2 ^ 63 }
     ensures { result ≡ length (sized_bytes name.now.bytes) }
@@ -21,7 +21,7 @@ fn name_length(name: &Name) -> u64
     sized_length(name.as_str().as_bytes())
 }
 
-// Adds a name (5.2.4).
+// Appends a name (5.2.4).
 fn put_name(out: &mut Vec<u8>, name: &Name) -> Result<(), AllocError>
     ensures { OnOk result (out.new.items ≡ out.old.items ++ sized_bytes name.now.bytes) }
 {
@@ -61,7 +61,6 @@ impl Encode for GlobalDef {
     }
 }
 
-// The byte of what is exported.
 fn kind_byte(kind: ExportKind) -> u8
     ensures { result ≡ kind_byte kind }
 {
@@ -157,7 +156,7 @@ impl Encode for Body {
     }
 }
 
-/// How many bytes the start section has.
+/// The number of bytes of the start section; 0 if there is no start function.
 pub fn start_length(start: Option<u32>) -> u64
     ensures length { result ≡ length (start_bytes start) }
     ensures fit { FitsOption start }
@@ -169,7 +168,7 @@ pub fn start_length(start: Option<u32>) -> u64
     1 + unsigned_length(size) + size
 }
 
-/// Adds the start section (5.5.11), or nothing.
+/// Appends the start section (5.5.11); nothing if there is no start function.
 pub fn put_start(out: &mut Vec<u8>, start: Option<u32>) -> Result<(), AllocError>
     ensures { OnOk result (out.new.items ≡ out.old.items ++ start_bytes start) }
 {

@@ -1,4 +1,4 @@
-// The section of tables (5.5.7), whose limits have a byte before them.
+// The table section (5.5.7), in which a byte is before the limits of each table.
 
 ghost use Rattle.std.specs.Prelude.{◌≡◌, ◌++◌, ◌<◌, ◌^◌, OnOk, All, length};
 ghost use Rattle.module_ast.specs.Binary.{FitsRange, table_bytes, vec_bytes, vec_section};
@@ -9,7 +9,7 @@ use leb_binary::{put_u64, unsigned_length};
 use module_ast::module::Range;
 use std::alloc::{AllocError, Global};
 
-// How many bytes the tables have, with their number in front.
+// The number of bytes of the tables with their number in front.
 fn tables_length(tables: &[Range]) -> u64
     requires { length (vec_bytes table_bytes tables.now) < 2 ^ 63 }
     ensures length { result ≡ length (vec_bytes table_bytes tables.now) }
@@ -22,7 +22,7 @@ fn tables_length(tables: &[Range]) -> u64
     total
 }
 
-/// How many bytes the section has.
+/// The number of bytes of the table section; 0 if there is no table.
 #[tactic(auto, using(std::proofs::lemmas::Grind::common_steps))]
 pub fn table_section_length(tables: &[Range]) -> u64
     requires { length (vec_section 4 table_bytes tables.now) < 2 ^ 63 }
@@ -36,7 +36,7 @@ pub fn table_section_length(tables: &[Range]) -> u64
     1 + unsigned_length(size) + size
 }
 
-/// Adds the section, and nothing where there is no table.
+/// Appends the table section; nothing if there is no table.
 #[tactic(auto, using(std::proofs::lemmas::Grind::common_steps))]
 pub fn put_table_section(
     alloc: Global,

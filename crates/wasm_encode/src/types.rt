@@ -21,7 +21,7 @@ pub fn val_type_byte(ty: ValType) -> u8
     }
 }
 
-/// How many bytes the type of a block has: 1 to 5.
+/// The number of bytes of a block type: 1 to 5.
 #[tactic(auto, using(crate::proofs::BlockTypes::index_five))]
 pub fn block_type_length(ty: BlockType) -> u64
     ensures length { result ≡ length (block_type_bytes ty) }
@@ -34,7 +34,7 @@ pub fn block_type_length(ty: BlockType) -> u64
     }
 }
 
-/// Adds the type of a block (5.4.1). An index is a signed number of 33 bits.
+/// Appends a block type (5.4.1). An index is a signed number of 33 bits.
 pub fn put_block_type(out: &mut Vec<u8>, ty: BlockType) -> Result<(), AllocError>
     ensures { OnOk result (out.new.items ≡ out.old.items ++ block_type_bytes ty) }
 {
@@ -80,7 +80,7 @@ impl Encode for FuncType {
     }
 }
 
-// 5.3.4, which is the type of a memory too (5.3.5)
+// 5.3.4. A memory type is nothing but limits (5.3.5).
 impl Encode for Range {
     ghost bytes = { limits_bytes };
 
@@ -109,7 +109,7 @@ impl Encode for Range {
     }
 }
 
-/// How many bytes the type of a table has.
+/// The number of bytes of a table type.
 pub fn table_length(range: &Range) -> u64
     requires { length (table_bytes range.now) < 2 ^ 63 }
     ensures length { result ≡ length (table_bytes range.now) }
@@ -118,7 +118,7 @@ pub fn table_length(range: &Range) -> u64
     1 + range.spelled_length()
 }
 
-/// Adds the type of a table of functions (5.3.6).
+/// Appends a table type (5.3.6).
 pub fn put_table(out: &mut Vec<u8>, range: &Range) -> Result<(), AllocError>
     ensures { OnOk result (out.new.items ≡ out.old.items ++ table_bytes range.now) }
 {

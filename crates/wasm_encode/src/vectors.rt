@@ -1,4 +1,4 @@
-// Vectors (5.1.3) and sections (5.5.2) of entries of any kind.
+// Vectors (5.1.3) and sections (5.5.2) of entries of any type.
 
 ghost use Rattle.std.specs.Prelude.{◌≡◌, ◌+◌, ◌++◌, ◌<◌, ◌^◌, ℕ, List, OnOk, All, length};
 ghost use Rattle.leb_binary.specs.Shortest.{unsigned_bytes};
@@ -8,20 +8,20 @@ use crate::numbers::{index_length, put_sized};
 use leb_binary::{put_u32, put_u64, unsigned_length};
 use std::alloc::{AllocError, Global};
 
-/// What has one canonical spelling. Its length is known before anything is written.
+/// A part of a module that has one canonical spelling, whose length is known before it is written.
 pub trait Encode {
     ghost bytes: { Self → List ℕ };
 
-    // That its numbers are of their sizes, as its types have them.
+    // What the length shows: that the numbers in the value fit their encodings.
     ghost fits: { Self → Type 0 };
 
-    /// How many bytes the spelling has.
+    /// The number of bytes of the spelling.
     fn spelled_length(&self) -> u64
         requires { length (bytes self.now) < 2 ^ 63 }
         ensures length { result ≡ length (bytes self.now) }
         ensures fit { fits self.now };
 
-    /// Adds the spelling. An error is that of the allocator.
+    /// Appends the spelling. An `AllocError` if memory runs out.
     fn put(&self, out: &mut Vec<u8>) -> Result<(), AllocError>
         ensures { OnOk result (out.new.items ≡ out.old.items ++ bytes self.now) };
 }
@@ -40,7 +40,7 @@ impl Encode for u32 {
     }
 }
 
-/// How many bytes the entries have, with their number in front.
+/// The number of bytes of a vector of these entries, which begins with their number.
 #[tactic(auto, using(std::proofs::lemmas::Grind::common_steps))]
 pub fn vec_length<T: Encode>(entries: &[T]) -> u64
     requires { length (vec_bytes T.bytes entries.now) < 2 ^ 63 }
@@ -54,7 +54,7 @@ pub fn vec_length<T: Encode>(entries: &[T]) -> u64
     total
 }
 
-// Adds each of the entries.
+// Appends the entries without their number.
 #[tactic(auto, using(std::proofs::lemmas::Grind::common_steps))]
 fn put_items<T: Encode>(out: &mut Vec<u8>, entries: &[T]) -> Result<(), AllocError>
     ensures { OnOk result (out.new.items ≡ out.old.items ++ items_bytes T.bytes entries.now) }
@@ -65,7 +65,7 @@ fn put_items<T: Encode>(out: &mut Vec<u8>, entries: &[T]) -> Result<(), AllocErr
     Ok(())
 }
 
-/// Adds the number of the entries, and each of them.
+/// Appends a vector: the number of the entries, and the entries.
 pub fn put_vec<T: Encode>(out: &mut Vec<u8>, entries: &[T]) -> Result<(), AllocError>
     ensures { OnOk result (out.new.items ≡ out.old.items ++ vec_bytes T.bytes entries.now) }
 {
@@ -73,7 +73,7 @@ pub fn put_vec<T: Encode>(out: &mut Vec<u8>, entries: &[T]) -> Result<(), AllocE
     put_items(out, entries)
 }
 
-/// How many bytes a section of these entries has, with its id and size.
+/// The number of bytes of a section of these entries, with its id and size; 0 if there are none.
 #[tactic(auto, using(std::proofs::lemmas::Grind::common_steps))]
 pub fn section_length<T: Encode>(id: u8, entries: &[T]) -> u64
     requires { length (vec_section id T.bytes entries.now) < 2 ^ 63 }
@@ -87,7 +87,7 @@ pub fn section_length<T: Encode>(id: u8, entries: &[T]) -> u64
     1 + unsigned_length(size) + size
 }
 
-/// Adds a section of these entries, and nothing where there are none.
+/// Appends a section of these entries; nothing if there are none.
 #[tactic(auto, using(std::proofs::lemmas::Grind::common_steps))]
 pub fn put_section<T: Encode>(out: &mut Vec<u8>, id: u8, entries: &[T]) -> Result<(), AllocError>
     requires { length (vec_section id T.bytes entries.now) < 2 ^ 63 }
@@ -101,8 +101,8 @@ pub fn put_section<T: Encode>(out: &mut Vec<u8>, id: u8, entries: &[T]) -> Resul
     put_vec(out, entries)
 }
 
-/// Adds a section of the entries of two runs, one behind the other, and nothing where there are none. They are written
-/// apart first, so that no length is counted before.
+/// Appends a section whose entries are those of `first` and then those of `second`; nothing if there are none. They are
+/// first written apart, which saves counting their bytes.
 #[tactic(auto, using(crate::proofs::Runs::no_section, crate::proofs::Runs::section_of_runs))]
 pub fn put_runs<T: Encode>(
     alloc: Global,
@@ -127,7 +127,7 @@ pub fn put_runs<T: Encode>(
     Ok(())
 }
 
-/// Adds a section of these entries as `put_runs` does.
+/// Appends a section of these entries as `put_runs` does.
 pub fn put_run<T: Encode>(
     alloc: Global,
     out: &mut Vec<u8>,

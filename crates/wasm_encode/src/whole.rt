@@ -1,4 +1,4 @@
-// Whole modules (5.5.16).
+// Whole modules (5.5.15).
 
 ghost use Rattle.std.specs.Prelude.{◌≡◌, ◌<◌, ◌^◌, [], IfOk, All, length};
 ghost use Rattle.module_ast.specs.declared.module.Body.{Body};
@@ -13,7 +13,7 @@ use crate::vectors::section_length;
 use module_ast::module::Module;
 use std::alloc::{AllocError, Global};
 
-/// How many canonical bytes the module has, whose bodies have this many with their sizes.
+/// The number of canonical bytes of a module, if the entries of its bodies have `bodies` bytes.
 #[tactic(auto, using(crate::proofs::Totals::module_total))]
 pub fn module_length(m: &Module, bodies: u64) -> u64
     requires bodies { bodies ≡ length (entries_bytes m.now.bodies) }
@@ -37,7 +37,7 @@ pub fn module_length(m: &Module, bodies: u64) -> u64
         + section_length(11, m.segments.as_slice())
 }
 
-// All of the module but its bodies and custom sections.
+// The module without its bodies and custom sections.
 fn outline_of(m: &Module) -> Outline<'_>
     ensures { result ≡ record m.now { bodies = []; customs = [] } }
 {
@@ -57,8 +57,8 @@ fn outline_of(m: &Module) -> Outline<'_>
     }
 }
 
-/// The canonical bytes of the module, with room for `capacity` bytes from the start. Its bodies have so many with their
-/// sizes.
+/// The canonical bytes of a module, if the entries of its bodies have `bodies` bytes. There is room for `capacity`
+/// bytes from the start.
 pub fn spell_module(
     alloc: Global,
     m: &Module,

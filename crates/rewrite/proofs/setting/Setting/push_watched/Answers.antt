@@ -1,19 +1,33 @@
-use Rattle.std.proofs.Common.{◌≡◌, ◌++◌, map, rules}
+use Rattle.std.proofs.Common.{◌∙◌, ◌++◌, ◌∷◌, [], true, pos, ap, sym, subst}
+use Rattle.std.specs.Int.{w32}
+use Rattle.std.proofs.lemmas.Int.{to_z_pos}
 use Rattle.std.proofs.lemmas.Result.{on_ok_weaker}
-use Rattle.i64_split.specs.Split.{words_code}
 use Rattle.i64_split.specs.Pushing.{instrs}
-use Rattle.rewrite.specs.Emitted.{kept_code}
-use Rattle.rewrite.specs.Setting.{constant, tell}
-use Rattle.rewrite.proofs.Joined.{added_two}
+use Rattle.rewrite_needs.specs.Watching.{kept_temps}
+use Rattle.rewrite.specs.Templates.{told_by}
+use Rattle.rewrite.specs.Emitted.{HasRoom}
+use Rattle.rewrite.proofs.WatchedCode.{told_off}
 use Rattle.rewrite.proofs.setting.Setting.push_watched.Goals as goal
 
-pub returns : goal.returns
-returns c =
+pub push_wanted-requires : goal.push_wanted-requires
+push_wanted-requires c =
+    subst (λ b. HasRoom c.args.self.now.pool (kept_temps b c.args.watch.now.told)) (sym c.wants.ensures ∙ c.if-wants.true) c.requires.room
+
+pub returns-then-wants : goal.returns-then-wants
+returns-then-wants c =
     let w = c.args.self.now in
+    let x = c.args.watch.now in
     let old = c.args.code.now.items in
-    let kept = c.push_kept.new.code.items in
-    let new = c.push_tell.new.code.items in
-    let ts = c.args.temps.now in
-    on_ok_weaker c.push_tell.result (λ e i is.
-    let told : new ≡ kept ++ instrs (tell w c.args.position c.args.key.now (map constant c.args.first.now ++ words_code ts)) = search rules in
-    added_two old kept new (kept_code c.args.keeping i ts) _ (c.in_ok-push_kept.ensures i is) told) c.push_tell.ensures
+    let p = c.args.position in
+    on_ok_weaker c.push_wanted.result
+    (λ e i is. e i is ∙ ap (λ z. old ++ instrs (told_by true w z x.key x.told i)) (to_z_pos w32 p c.requires.low)
+    ∙ ap (λ b. old ++ instrs (told_by b w (pos p) x.key x.told i)) (sym (sym c.wants.ensures ∙ c.if-wants.true))) c.push_wanted.ensures
+
+pub returns-else-wants : goal.returns-else-wants
+returns-else-wants c =
+    let w = c.args.self.now in
+    let x = c.args.watch.now in
+    let old = c.args.code.now.items in
+    on_ok_weaker c.push_one.result
+    (λ e i is. e ∙ ap (λ j. old ++ j ∷ []) is ∙ ap (λ is. old ++ instrs is) (sym (told_off w (pos c.args.position) x.key x.told i)
+    ∙ ap (λ b. told_by b w (pos c.args.position) x.key x.told i) (sym (sym c.wants.ensures ∙ c.if-wants.false)))) c.push_one.ensures.added
