@@ -4,14 +4,14 @@ use Rattle.std.specs.Prelude.{flat_map}
 use Rattle.std.specs.List.{AllByRecursion}
 use Rattle.leb_binary.specs.Leb.{IsFront, HasNoFront}
 use Rattle.leb_binary.specs.Fronts.{OneFront}
-use Rattle.trace_file.specs.Begins.{Begins, OnlyBegins, NoneBegins}
+use Rattle.trace_file.specs.Begins.{BeginsWithSpelling, OnlyBegins, NoneBegins}
 
 -- no spelling begins another: the same bytes are those of one thing, and what follows it
 pub record AreApart {A : Type 0} (fits : A → Type 0) (spelling : A → List ℕ) : Type 0 where
   pub apart : (x y : A) (r s : List ℕ) → fits x → fits y → spelling x ++ r ≡ spelling y ++ s → (x ≡ y) × (r ≡ s)
 
 -- so what bytes begin with is the only thing
-pub only_one : {A : Type 0} {fits : A → Type 0} {spelling : A → List ℕ} → AreApart fits spelling → (bytes rest : List ℕ) (x : A) → Begins fits spelling bytes rest x → OnlyBegins fits spelling bytes rest x
+pub only_one : {A : Type 0} {fits : A → Type 0} {spelling : A → List ℕ} → AreApart fits spelling → (bytes rest : List ℕ) (x : A) → BeginsWithSpelling fits spelling bytes rest x → OnlyBegins fits spelling bytes rest x
 only_one a bytes rest x (f, d) y other (g, e) = a.apart y x other rest g f (sym e ∙ d)
 
 -- nothing

@@ -6,7 +6,7 @@ use Rattle.leb_binary.specs.Leb.{IsUnsigned, IsSigned, IsInSize, IsFront, HasNoF
 use Rattle.leb_binary.specs.Shortest.{unsigned_bytes, signed_bytes}
 use Rattle.leb_binary.proofs.Fronts.{one_unsigned, one_signed}
 use Rattle.leb_binary.proofs.Spelled.{spelled_unsigned, spelled_signed}
-use Rattle.trace_file.specs.Begins.{Begins, NoneBegins}
+use Rattle.trace_file.specs.Begins.{BeginsWithSpelling, NoneBegins}
 use Rattle.trace_file.proofs.Apart.{no_item, other_item}
 use Rattle.trace_file.specs.Fields.{FitsNumber}
 
@@ -46,7 +46,7 @@ front_length : (bytes front rest : List ℕ) → bytes ≡ front ++ rest → len
 front_length bytes front rest e = omega (arith, ap length e, length-append front rest)
 
 pub exact_unsigned : (bytes rest : List ℕ) (n : ℕ) → IsFront (IsUnsigned 32) bytes rest n → n < 2 ^ 32
-    → length bytes - length rest ≡ length (unsigned_bytes n) → Begins FitsNumber unsigned_bytes bytes rest n
+    → length bytes - length rest ≡ length (unsigned_bytes n) → BeginsWithSpelling FitsNumber unsigned_bytes bytes rest n
 exact_unsigned bytes rest n (front, e, i) f l =
     let s = same_unsigned 32 front (unsigned_bytes n) n i (spelled_unsigned 32 n (omega arith) f) (omega (arith, front_length bytes front rest e)) in
     (f, e ∙ ap (λ b. b ++ rest) s)
@@ -59,7 +59,7 @@ other_unsigned bytes rest n i differs =
 
 -- of a number that is `y` too
 pub exact_signed : (size : ℕ) (bytes rest : List ℕ) (z y : ℤ) → y ≡ z → IsFront (IsSigned size) bytes rest z → IsInSize size z
-    → length bytes - length rest ≡ length (signed_bytes y) → Begins (IsInSize size) signed_bytes bytes rest y
+    → length bytes - length rest ≡ length (signed_bytes y) → BeginsWithSpelling (IsInSize size) signed_bytes bytes rest y
 exact_signed size bytes rest z y same (front, e, i) f l =
     let s = same_signed size front (signed_bytes z) z i (spelled_signed size z f) (omega (arith, front_length bytes front rest e, ap (λ x. length (signed_bytes x)) same)) in
     (subst (IsInSize size) (sym same) f, e ∙ ap (λ b. b ++ rest) s ∙ ap (λ x. signed_bytes x ++ rest) (sym same))

@@ -17,7 +17,7 @@ use Rattle.module_ast.specs.declared.ops.StoreOp.{StoreOp}
 use Rattle.module_ast.specs.declared.ops.StoreOp.TheVariants.{I32Store}
 use Rattle.module_ast.specs.Binary.{load_opcode, load_of_opcode, store_opcode, store_of_opcode}
 use Rattle.module_ast.proofs.Opcodes.{load_found, load_exact, store_found, store_exact}
-use Rattle.trace_file.specs.Begins.{Begins, OnlyBegins, NoneBegins}
+use Rattle.trace_file.specs.Begins.{BeginsWithSpelling, OnlyBegins, NoneBegins}
 use Rattle.trace_file.specs.Fields.{var_number, var_ops, var_of_number}
 use Rattle.trace_file.specs.declared.field.ReadTraceFault.{ReadTraceFault}
 use Rattle.trace_file.specs.declared.field.ReadTraceFault.TheVariants.{NotTrace}
@@ -36,7 +36,7 @@ module _ {A : Type 0} (code : A → ℕ) (of_code : ℕ → Option A) (is : IsCo
   byte x = code x ∷ []
 
   abbrev BeginsByte : (bytes rest : List ℕ) → ℕ → Type 0
-  BeginsByte = Begins (λ b. b < 256) (λ b. b ∷ [])
+  BeginsByte = BeginsWithSpelling (λ b. b < 256) (λ b. b ∷ [])
 
   same_one : (x y : A) → Some x ≡ Some y → x ≡ y
   same_one x y e = cc
@@ -56,13 +56,13 @@ module _ {A : Type 0} (code : A → ℕ) (of_code : ℕ → Option A) (is : IsCo
 
   -- what is taken where a byte stands in front
   pub byte_told : (bytes rest : List ℕ) (n : ℕ) (r : Result A ReadTraceFault) → BeginsByte bytes rest n → r ≡ ok_or (of_code n) NotTrace
-      → IfOk r (λ x. Begins Any byte bytes rest x) × IfOk r (λ x. OnlyBegins Any byte bytes rest x) × IfErr r (λ fault. fault ≡ NotTrace → NoneBegins Any byte bytes)
+      → IfOk r (λ x. BeginsWithSpelling Any byte bytes rest x) × IfOk r (λ x. OnlyBegins Any byte bytes rest x) × IfErr r (λ fault. fault ≡ NotTrace → NoneBegins Any byte bytes)
   byte_told bytes rest n r (f, d) e = go (of_code n) refl e
     where
       go : (o : Option A) → of_code n ≡ o → r ≡ ok_or o NotTrace
-          → IfOk r (λ x. Begins Any byte bytes rest x) × IfOk r (λ x. OnlyBegins Any byte bytes rest x) × IfErr r (λ fault. fault ≡ NotTrace → NoneBegins Any byte bytes)
+          → IfOk r (λ x. BeginsWithSpelling Any byte bytes rest x) × IfOk r (λ x. OnlyBegins Any byte bytes rest x) × IfErr r (λ fault. fault ≡ NotTrace → NoneBegins Any byte bytes)
       go (Some x) h q =
-          let b : Begins Any byte bytes rest x = (tt, d ∙ ap (λ c. c ∷ rest) (sym (is.exact n x h))) in
+          let b : BeginsWithSpelling Any byte bytes rest x = (tt, d ∙ ap (λ c. c ∷ rest) (sym (is.exact n x h))) in
           rw q (b, only_one apart_codes bytes rest x b, tt)
       go None h q = rw q (tt, tt, λ _ s x b. other_byte n bytes rest s x d h b.1)
 

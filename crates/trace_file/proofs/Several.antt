@@ -5,7 +5,7 @@ use Rattle.std.proofs.lemmas.Option.{slice_get_within, get_or_from_slice_get, sl
 use Rattle.std.specs.Prelude.{flat_map, slice_get, Some, None}
 use Rattle.std.specs.List.{AllByRecursion}
 use Rattle.leb_binary.specs.Shortest.{unsigned_bytes}
-use Rattle.trace_file.specs.Begins.{Begins, NoneBegins}
+use Rattle.trace_file.specs.Begins.{BeginsWithSpelling, NoneBegins}
 use Rattle.trace_file.proofs.Apart.{AreApart, same_front}
 use Rattle.wasm_num.specs.declared.Value.{Value}
 use Rattle.wasm_num.specs.declared.Value.TheVariants.{I32, I64}
@@ -37,7 +37,7 @@ module _ {A : Type 0} (fits : A → Type 0) (spelling : A → List ℕ) (a : Are
   none_behind [] left r h f e l = absurd (omega arith)
   none_behind (z ∷ zs) left r h f e l = h (flat_map spelling zs ++ r) z (f.0, e ∙ append_assoc (spelling z) (flat_map spelling zs) r)
 
-  pub none_counted : (bytes mid left : List ℕ) (n : ℕ) (xs : List A) → Begins FitsNumber unsigned_bytes bytes mid n → AllByRecursion fits xs → length xs < n
+  pub none_counted : (bytes mid left : List ℕ) (n : ℕ) (xs : List A) → BeginsWithSpelling FitsNumber unsigned_bytes bytes mid n → AllByRecursion fits xs → length xs < n
       → mid ≡ flat_map spelling xs ++ left → NoneBegins fits spelling left → NoneBegins AreCounted counted bytes
   none_counted bytes mid left n xs (f, d) fit l m h rest ys (g, e) =
       let e1 : unsigned_bytes n ++ mid ≡ unsigned_bytes (length ys) ++ (flat_map spelling ys ++ rest) = sym d ∙ e ∙ append_assoc (unsigned_bytes (length ys)) (flat_map spelling ys) rest in
@@ -46,8 +46,8 @@ module _ {A : Type 0} (fits : A → Type 0) (spelling : A → List ℕ) (a : Are
       let more : 0 < length s.0 = omega (arith, ap length s.1, length-append xs s.0) in
       none_behind s.0 left rest h (behind fits xs s.0 (subst (AllByRecursion fits) s.1 g.1)) s.2 more
 
-  pub some_counted : (bytes mid left : List ℕ) (n : ℕ) (xs : List A) → Begins FitsNumber unsigned_bytes bytes mid n → AllByRecursion fits xs → length xs ≡ n
-      → mid ≡ flat_map spelling xs ++ left → Begins AreCounted counted bytes left xs
+  pub some_counted : (bytes mid left : List ℕ) (n : ℕ) (xs : List A) → BeginsWithSpelling FitsNumber unsigned_bytes bytes mid n → AllByRecursion fits xs → length xs ≡ n
+      → mid ≡ flat_map spelling xs ++ left → BeginsWithSpelling AreCounted counted bytes left xs
   some_counted bytes mid left n xs (f, d) fit l m =
       ((subst FitsNumber (sym l) f, fit), d ∙ ap (λ k. unsigned_bytes k ++ mid) (sym l) ∙ ap (λ x. unsigned_bytes (length xs) ++ x) m ∙ sym (append_assoc (unsigned_bytes (length xs)) (flat_map spelling xs) left))
 

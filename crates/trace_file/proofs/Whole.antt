@@ -7,9 +7,9 @@ use Rattle.std.specs.List.{AllByRecursion}
 use Rattle.leb_binary.specs.Shortest.{unsigned_bytes}
 use Rattle.leb_binary.proofs.Lengths.{longer_unsigned}
 use Rattle.hook_select.specs.declared.Event.{Event}
-use Rattle.trace_file.specs.Begins.{Begins, NoneBegins}
+use Rattle.trace_file.specs.Begins.{BeginsWithSpelling, NoneBegins}
 use Rattle.trace_file.specs.Fields.{FitsNumber}
-use Rattle.trace_file.specs.Files.{header, events_bytes, ending, IsTrace, IsNoTrace, IsWithinBound, Reading, HasRead, writing_of, with_event}
+use Rattle.trace_file.specs.Files.{header, events_bytes, ending, IsTrace, IsNoTrace, IsWithinBound, TraceReading, HasRead, writing_of, with_event}
 use Rattle.trace_file.specs.Rows.{event_row, fields_bytes, event_bytes, FitsEvent}
 use Rattle.trace_file.proofs.Several.{behind, one_more, flat_more}
 use Rattle.trace_file.proofs.Tables.{apart_event, tag_least, tag_most}
@@ -44,18 +44,18 @@ record GoesOn (left : List ℕ) (xs es : List Event) : Type 0 where
   fit : AllByRecursion FitsEvent more
   follow : left ≡ events_bytes more ++ ending (length es)
 
-goes_on : (r : Reading) (xs es : List Event) → HasRead xs r → IsTrace r.bytes es → GoesOn r.left xs es
+goes_on : (r : TraceReading) (xs es : List Event) → HasRead xs r → IsTrace r.bytes es → GoesOn r.left xs es
 goes_on r xs es t h =
     let d : events_bytes xs ++ r.left ≡ events_bytes es ++ ending (length es) = behind_header (events_bytes xs ++ r.left) (events_bytes es ++ ending (length es)) (sym t.spelled ∙ h.spelled) in
     let f = first_events xs es r.left (unsigned_bytes (length es)) t.fit h.fit d in
     record { more = f.0; whole = f.1; fit = behind FitsEvent xs f.0 (subst (AllByRecursion FitsEvent) f.1 h.fit); follow = f.2 }
 
 -- those that were read are its first
-pub first_of : (r : Reading) (xs es : List Event) → HasRead xs r → IsTrace r.bytes es → (rest : List Event) × (es ≡ xs ++ rest)
+pub first_of : (r : TraceReading) (xs es : List Event) → HasRead xs r → IsTrace r.bytes es → (rest : List Event) × (es ≡ xs ++ rest)
 first_of r xs es t h = let on = goes_on r xs es t h in (on.more, on.whole)
 
 -- an event more
-pub read_one : (r : Reading) (rest : List ℕ) (xs : List Event) (x : Event) → HasRead xs r → Begins FitsEvent event_bytes r.left rest x
+pub read_one : (r : TraceReading) (rest : List ℕ) (xs : List Event) (x : Event) → HasRead xs r → BeginsWithSpelling FitsEvent event_bytes r.left rest x
     → HasRead (xs ++ x ∷ []) (record { bytes = r.bytes; count = r.count + 1; left = rest })
 read_one r rest xs x t (f, d) = record {
   many = ap (λ n. n + 1) t.many ∙ sym (length-append xs (x ∷ []));
@@ -64,17 +64,17 @@ read_one r rest xs x t (f, d) = record {
 }
 
 -- an event takes a byte at least
-pub shorter : (left rest : List ℕ) (x : Event) → Begins FitsEvent event_bytes left rest x → length rest < length left
+pub shorter : (left rest : List ℕ) (x : Event) → BeginsWithSpelling FitsEvent event_bytes left rest x → length rest < length left
 shorter left rest x (f, d) = omega (arith, ap length d, length-append (fields_bytes x) rest)
 
 -- what stands behind as many bytes as the event takes
-pub behind_one : (left rest back : List ℕ) (n : ℕ) (x : Event) → Begins FitsEvent event_bytes left rest x → n ≡ length left - length rest → back ≡ drop n left → back ≡ rest
+pub behind_one : (left rest back : List ℕ) (n : ℕ) (x : Event) → BeginsWithSpelling FitsEvent event_bytes left rest x → n ≡ length left - length rest → back ≡ drop n left → back ≡ rest
 behind_one left rest back n x (f, d) many e =
     let m : n ≡ length (event_bytes x) = omega (arith, many, ap length d, length-append (event_bytes x) rest) in
     e ∙ ap (λ k. drop k left) m ∙ ap (drop (length (event_bytes x))) d ∙ drop-append_seam (event_bytes x) rest
 
 -- where neither an event nor the end follows
-pub none_more : (r : Reading) (xs : List Event) → HasRead xs r → NoneBegins FitsEvent event_bytes r.left → ((rest : List ℕ) → r.left ≡ 0 ∷ rest → ⊥) → IsNoTrace r.bytes
+pub none_more : (r : TraceReading) (xs : List Event) → HasRead xs r → NoneBegins FitsEvent event_bytes r.left → ((rest : List ℕ) → r.left ≡ 0 ∷ rest → ⊥) → IsNoTrace r.bytes
 none_more r xs t none no_end es h = let g = goes_on r xs es t h in go g.more g.fit g.follow
   where
     go : (zs : List Event) → AllByRecursion FitsEvent zs → r.left ≡ events_bytes zs ++ ending (length es) → ⊥
@@ -82,7 +82,7 @@ none_more r xs t none no_end es h = let g = goes_on r xs es t h in go g.more g.f
     go (z ∷ zs) f d = none (events_bytes zs ++ ending (length es)) z (f.0, d ∙ append_assoc (event_bytes z) (events_bytes zs) (ending (length es)))
 
 -- behind the end stands the number of the events
-at_end : (r : Reading) (rest : List ℕ) (xs es : List Event) → HasRead xs r → r.left ≡ 0 ∷ rest → IsTrace r.bytes es → (es ≡ xs) × (rest ≡ unsigned_bytes (length xs))
+at_end : (r : TraceReading) (rest : List ℕ) (xs es : List Event) → HasRead xs r → r.left ≡ 0 ∷ rest → IsTrace r.bytes es → (es ≡ xs) × (rest ≡ unsigned_bytes (length xs))
 at_end r rest xs es t e h = let g = goes_on r xs es t h in go g.more g.whole g.follow
   where
     go : (zs : List Event) → es ≡ xs ++ zs → r.left ≡ events_bytes zs ++ ending (length es) → (es ≡ xs) × (rest ≡ unsigned_bytes (length xs))
@@ -94,7 +94,7 @@ at_end r rest xs es t e h = let g = goes_on r xs es t h in go g.more g.whole g.f
     go (z ∷ zs) w d = absurd (not_ended z (events_bytes zs ++ ending (length es)) rest (sym (append_assoc (event_bytes z) (events_bytes zs) (ending (length es))) ∙ sym d ∙ e))
 
 -- another number there, or none, and no list has the file
-pub not_counted : (r : Reading) (rest : List ℕ) (xs : List Event) → HasRead xs r → r.left ≡ 0 ∷ rest → (FitsNumber r.count → rest ≡ unsigned_bytes r.count → ⊥) → IsNoTrace r.bytes
+pub not_counted : (r : TraceReading) (rest : List ℕ) (xs : List Event) → HasRead xs r → r.left ≡ 0 ∷ rest → (FitsNumber r.count → rest ≡ unsigned_bytes r.count → ⊥) → IsNoTrace r.bytes
 not_counted r rest xs t e none es h =
     let a = at_end r rest xs es t e h in
     none (subst FitsNumber (ap length a.0 ∙ sym t.many) h.few) (a.1 ∙ ap unsigned_bytes (sym t.many))
@@ -102,7 +102,7 @@ not_counted r rest xs t e none es h =
 -- no two lists have one trace file
 pub one_list : (bytes : List ℕ) (xs ys : List Event) → IsTrace bytes xs → IsTrace bytes ys → xs ≡ ys
 one_list bytes xs ys h k =
-    let r : Reading = record { bytes = bytes; count = length xs; left = ending (length xs) } in
+    let r : TraceReading = record { bytes = bytes; count = length xs; left = ending (length xs) } in
     let t : HasRead xs r = record { many = refl; fit = h.fit; spelled = h.spelled } in
     sym (at_end r (unsigned_bytes (length xs)) xs ys t refl k).0
 

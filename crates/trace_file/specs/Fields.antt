@@ -17,18 +17,35 @@ use Rattle.wasm_num.specs.Opcodes.{num_opcode}
 use Rattle.module_ast.specs.Binary.{load_opcode, store_opcode}
 use Rattle.wasm_num.specs.Kinds.{kind_number}
 
-pub data Field : Type 0 where
-  place : Loc → Field
-  number : ℕ → Field
-  signed : ℤ → Field
-  value : Value → Field
-  kind : BlockKind → Field
-  var_op : VarOp → Field
-  num_op : NumOp → Field
-  load_op : LoadOp → Field
-  store_op : StoreOp → Field
-  callee : Option ℕ → Field
-  values : List Value → Field
+-- what stands in a field
+pub data FieldType : Type 0 where
+  place : FieldType
+  number : FieldType
+  signed : FieldType
+  value : FieldType
+  block_kind : FieldType
+  var_op : FieldType
+  num_op : FieldType
+  load_op : FieldType
+  store_op : FieldType
+  callee : FieldType
+  values : FieldType
+
+abbrev pub FieldOf : FieldType → Type 0
+FieldOf place = Loc
+FieldOf number = ℕ
+FieldOf signed = ℤ
+FieldOf value = Value
+FieldOf block_kind = BlockKind
+FieldOf var_op = VarOp
+FieldOf num_op = NumOp
+FieldOf load_op = LoadOp
+FieldOf store_op = StoreOp
+FieldOf callee = Option ℕ
+FieldOf values = List Value
+
+abbrev pub Field : Type 0
+Field = (t : FieldType) × FieldOf t
 
 -- a function, and a position in it
 abbrev pub place_bytes : Loc → List ℕ
@@ -62,17 +79,17 @@ abbrev pub values_bytes : List Value → List ℕ
 values_bytes vs = unsigned_bytes (length vs) ++ flat_map value_bytes vs
 
 abbrev pub field_bytes : Field → List ℕ
-field_bytes (place loc) = place_bytes loc
-field_bytes (number n) = unsigned_bytes n
-field_bytes (signed z) = signed_bytes z
-field_bytes (value v) = value_bytes v
-field_bytes (kind k) = kind_number k ∷ []
-field_bytes (var_op op) = var_number op ∷ []
-field_bytes (num_op op) = num_opcode op ∷ []
-field_bytes (load_op op) = load_opcode op ∷ []
-field_bytes (store_op op) = store_opcode op ∷ []
-field_bytes (callee c) = callee_bytes c
-field_bytes (values vs) = values_bytes vs
+field_bytes (place, loc) = place_bytes loc
+field_bytes (number, n) = unsigned_bytes n
+field_bytes (signed, z) = signed_bytes z
+field_bytes (value, v) = value_bytes v
+field_bytes (block_kind, k) = kind_number k ∷ []
+field_bytes (var_op, op) = var_number op ∷ []
+field_bytes (num_op, op) = num_opcode op ∷ []
+field_bytes (load_op, op) = load_opcode op ∷ []
+field_bytes (store_op, op) = store_opcode op ∷ []
+field_bytes (callee, c) = callee_bytes c
+field_bytes (values, vs) = values_bytes vs
 
 -- numbers are of their sizes
 abbrev pub FitsNumber : ℕ → Type 0
@@ -96,10 +113,10 @@ abbrev pub FitValues : List Value → Type 0
 FitValues vs = FitsNumber (length vs) × AllByRecursion FitsValue vs
 
 abbrev pub FitsField : Field → Type 0
-FitsField (place loc) = FitsLocation loc
-FitsField (number n) = FitsNumber n
-FitsField (signed z) = FitsSigned z
-FitsField (value v) = FitsValue v
-FitsField (callee c) = FitsCallee c
-FitsField (values vs) = FitValues vs
+FitsField (place, loc) = FitsLocation loc
+FitsField (number, n) = FitsNumber n
+FitsField (signed, z) = FitsSigned z
+FitsField (value, v) = FitsValue v
+FitsField (callee, c) = FitsCallee c
+FitsField (values, vs) = FitValues vs
 FitsField _ = Unit {0}

@@ -72,13 +72,13 @@ abbrev pub IsEmptyOrBegun : List ℕ → Type 0
 IsEmptyOrBegun file = (file ≡ []) ⊎ IsBegun file
 
 -- what contracts see of a reader: the bytes, how many events were read of them, and the bytes that are left
-pub record Reading : Type 0 where
+pub record TraceReading : Type 0 where
   pub bytes : List ℕ
   pub count : ℕ
   pub left : List ℕ
 
 -- these events were read of the bytes, and what follows them is left
-pub record HasRead (es : List Event) (r : Reading) : Type 0 where
+pub record HasRead (es : List Event) (r : TraceReading) : Type 0 where
   pub many : r.count ≡ length es
   pub fit : AllByRecursion FitsEvent es
   pub spelled : r.bytes ≡ header ++ (events_bytes es ++ r.left)

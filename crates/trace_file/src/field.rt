@@ -2,7 +2,7 @@
 
 ghost use Rattle.std.specs.Prelude.{◌≡◌, ℕ, List, [], ◌++◌, IfOk, IfErr};
 ghost use Rattle.trace_file.specs.declared.field.ReadTraceFault.TheVariants.{NoMemory};
-ghost use Rattle.trace_file.specs.Begins.{Begins, OnlyBegins, NoneBegins};
+ghost use Rattle.trace_file.specs.Begins.{BeginsWithSpelling, OnlyBegins, NoneBegins};
 
 use leb_binary::Cursor;
 use std::alloc::{AllocError, Global};
@@ -32,7 +32,7 @@ pub(crate) trait Take: Sized + Drop {
 
     // Takes it from the front of the bytes that are left, which begin with nothing else.
     fn take(alloc: Global, cursor: &mut Cursor<'_>) -> Result<Self, ReadTraceFault>
-        ensures taken { IfOk result (λ x. Begins fits spelling cursor.old.left cursor.new.left x) }
+        ensures taken { IfOk result (λ x. BeginsWithSpelling fits spelling cursor.old.left cursor.new.left x) }
         ensures only { IfOk result (λ x. OnlyBegins fits spelling cursor.old.left cursor.new.left x) }
         ensures none { IfErr result (λ fault. fault ≡ ReadTraceFault.NotTrace → NoneBegins fits spelling cursor.old.left) };
 }

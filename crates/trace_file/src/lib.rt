@@ -7,9 +7,8 @@ pub mod laws;
 mod numbers;
 mod put;
 mod reader;
-mod take;
+mod rows;
 mod values;
-mod write;
 mod writer;
 
 pub use field::ReadTraceFault;

@@ -76,36 +76,37 @@ impl<A: Put, B: Put> Put for (A, B) {
     }
 }
 
-impl Put for u32 {
-    ghost spelling = { unsigned_bytes };
+impl Put for &u32 {
+    ghost spelling = { λ number. unsigned_bytes number.now };
 
-    ghost fits = { FitsNumber };
+    ghost fits = { λ number. FitsNumber number.now };
 
     fn put(self, out: &mut Vec<u8>) -> Result<(), TraceFault> {
-        put_u32(out, self)?;
+        put_u32(out, *self)?;
         Ok(())
     }
 }
 
-impl Put for i32 {
-    ghost spelling = { signed_bytes };
+impl Put for &i32 {
+    ghost spelling = { λ number. signed_bytes number.now };
 
-    ghost fits = { FitsSigned };
+    ghost fits = { λ number. FitsSigned number.now };
 
     fn put(self, out: &mut Vec<u8>) -> Result<(), TraceFault> {
-        put_s32(out, self)?;
+        put_s32(out, *self)?;
         Ok(())
     }
 }
 
-impl Put for Loc {
-    ghost spelling = { place_bytes };
+impl Put for &Loc {
+    ghost spelling = { λ loc. place_bytes loc.now };
 
-    ghost fits = { FitsLocation };
+    ghost fits = { λ loc. FitsLocation loc.now };
 
     fn put(self, out: &mut Vec<u8>) -> Result<(), TraceFault> {
-        self.func.put(out)?;
-        self.instr.put(out)
+        put_u32(out, self.func)?;
+        put_s32(out, self.instr)?;
+        Ok(())
     }
 }
 
@@ -126,19 +127,19 @@ fn put_value(out: &mut Vec<u8>, value: Value) -> Result<(), AllocError>
     }
 }
 
-impl Put for Value {
-    ghost spelling = { value_bytes };
+impl Put for &Value {
+    ghost spelling = { λ value. value_bytes value.now };
 
-    ghost fits = { FitsValue };
+    ghost fits = { λ value. FitsValue value.now };
 
     fn put(self, out: &mut Vec<u8>) -> Result<(), TraceFault> {
-        put_value(out, self)?;
+        put_value(out, *self)?;
         Ok(())
     }
 }
 
-impl Put for BlockKind {
-    ghost spelling = { λ kind. kind_number kind ∷ [] };
+impl Put for &BlockKind {
+    ghost spelling = { λ kind. kind_number kind.now ∷ [] };
 
     ghost fits = { λ _. Unit {0} };
 
@@ -148,30 +149,19 @@ impl Put for BlockKind {
     }
 }
 
-impl Put for VarOp {
-    ghost spelling = { λ op. var_number op ∷ [] };
+impl Put for &VarOp {
+    ghost spelling = { λ op. var_number op.now ∷ [] };
 
     ghost fits = { λ _. Unit {0} };
 
     fn put(self, out: &mut Vec<u8>) -> Result<(), TraceFault> {
-        put_byte(out, var_number(self))?;
+        put_byte(out, var_number(*self))?;
         Ok(())
     }
 }
 
-impl Put for NumOp {
-    ghost spelling = { λ op. num_opcode op ∷ [] };
-
-    ghost fits = { λ _. Unit {0} };
-
-    fn put(self, out: &mut Vec<u8>) -> Result<(), TraceFault> {
-        put_byte(out, self.opcode())?;
-        Ok(())
-    }
-}
-
-impl Put for LoadOp {
-    ghost spelling = { λ op. load_opcode op ∷ [] };
+impl Put for &NumOp {
+    ghost spelling = { λ op. num_opcode op.now ∷ [] };
 
     ghost fits = { λ _. Unit {0} };
 
@@ -181,8 +171,8 @@ impl Put for LoadOp {
     }
 }
 
-impl Put for StoreOp {
-    ghost spelling = { λ op. store_opcode op ∷ [] };
+impl Put for &LoadOp {
+    ghost spelling = { λ op. load_opcode op.now ∷ [] };
 
     ghost fits = { λ _. Unit {0} };
 
@@ -192,13 +182,24 @@ impl Put for StoreOp {
     }
 }
 
-impl Put for Option<u32> {
-    ghost spelling = { callee_bytes };
+impl Put for &StoreOp {
+    ghost spelling = { λ op. store_opcode op.now ∷ [] };
 
-    ghost fits = { FitsCallee };
+    ghost fits = { λ _. Unit {0} };
 
     fn put(self, out: &mut Vec<u8>) -> Result<(), TraceFault> {
-        match self {
+        put_byte(out, self.opcode())?;
+        Ok(())
+    }
+}
+
+impl Put for &Option<u32> {
+    ghost spelling = { λ callee. callee_bytes callee.now };
+
+    ghost fits = { λ callee. FitsCallee callee.now };
+
+    fn put(self, out: &mut Vec<u8>) -> Result<(), TraceFault> {
+        match *self {
             None => put_byte(out, 0x00)?,
             Some(callee) => {
                 put_byte(out, 0x01)?;

@@ -3,13 +3,13 @@
 ghost use Rattle.std.specs.Prelude.{◌≡◌, ◌<◌, ◌+◌, ◌++◌, [], ◌∷◌, ℕ, List, length, OnOk, OnErr, IfOk, IfErr, IfSome, IfNone, MatchOption};
 ghost use Rattle.leb_binary.specs.Shortest.{unsigned_bytes};
 ghost use Rattle.hook_select.specs.declared.Event.{Event as EventSpec};
-ghost use Rattle.trace_file.specs.Begins.{Begins, NoneBegins};
+ghost use Rattle.trace_file.specs.Begins.{BeginsWithSpelling, NoneBegins};
 ghost use Rattle.trace_file.specs.Fields.{FitsNumber};
 ghost use Rattle.trace_file.specs.Files.{header, IsTrace, IsNoTrace, HasRead};
 ghost use Rattle.trace_file.specs.Rows.{event_bytes, FitsEvent};
 
 use crate::field::{ReadTraceFault, Take};
-use crate::take::take_event;
+use crate::rows::take_event;
 use crate::writer::HEADER;
 use hook_select::Event;
 use leb_binary::Cursor;
@@ -29,9 +29,9 @@ pub struct TraceReader<'b> {
 impl<'b> Model for TraceReader<'b> {
     ghost use Rattle.std.specs.Prelude.{◌≤◌, ◌+◌, List, length};
     ghost use Rattle.hook_select.specs.declared.Event.{Event as EventSpec};
-    ghost use Rattle.trace_file.specs.Files.{Reading, HasRead};
+    ghost use Rattle.trace_file.specs.Files.{TraceReading, HasRead};
 
-    ghost Value = { Reading };
+    ghost Value = { TraceReading };
 
     ghost view = { λ r. record { bytes = r.bytes.now; count = r.count; left = r.left.now } };
 
@@ -48,7 +48,7 @@ fn behind_header(bytes: &[u8]) -> Option<&[u8]>
 
 // Takes the next event, or the zero byte behind the last.
 fn take_next(alloc: Global, cursor: &mut Cursor<'_>) -> Result<Option<Event>, ReadTraceFault>
-    ensures taken { IfOk result (λ next. MatchOption next (cursor.old.left ≡ 0 ∷ cursor.new.left) (λ e. Begins FitsEvent event_bytes cursor.old.left cursor.new.left e)) }
+    ensures taken { IfOk result (λ next. MatchOption next (cursor.old.left ≡ 0 ∷ cursor.new.left) (λ e. BeginsWithSpelling FitsEvent event_bytes cursor.old.left cursor.new.left e)) }
     ensures none { IfErr result (λ fault. fault ≡ ReadTraceFault.NotTrace → NoneBegins FitsEvent event_bytes cursor.old.left) }
     ensures no_end { IfErr result (λ fault. fault ≡ ReadTraceFault.NotTrace → (rest : List ℕ) → cursor.old.left ≡ 0 ∷ rest → ⊥) }
 {

@@ -1,11 +1,12 @@
 // A trace file as it grows.
 
 ghost use Rattle.std.specs.Prelude.{◌≡◌, ◌+◌, ◌≤◌, [], drop, length, IfOk, OnOk, OnErr, IfErr};
+ghost use Rattle.module_ast.specs.Validation.Limits.{longest_file};
 ghost use Rattle.trace_file.specs.Files.{header, ending, file_bytes, Writing, IsWithinBound, IsBegun, IsEmptyOrBegun, with_event};
 ghost use Rattle.trace_file.specs.Rows.{FitsEvent};
 
 use crate::put::{TraceFault, put_byte};
-use crate::write::put_event;
+use crate::rows::put_event;
 use hook_select::Event;
 use leb_binary::{put_u32, unsigned_length};
 use std::alloc::{AllocError, Global};
@@ -25,13 +26,14 @@ pub struct TraceWriter {
 
 impl Model for TraceWriter {
     ghost use Rattle.std.specs.Prelude.{◌≤◌, drop};
+    ghost use Rattle.module_ast.specs.Validation.Limits.{longest_file};
     ghost use Rattle.trace_file.specs.Files.{Writing, IsEmptyOrBegun};
 
     ghost Value = { Writing };
 
     ghost view = { λ w. record { max = w.max; events = drop 4 w.file.items; count = w.count } };
 
-    ghost invariant = { λ w. IsEmptyOrBegun w.file.items × (w.max ≤ 268435456) };
+    ghost invariant = { λ w. IsEmptyOrBegun w.file.items × (w.max ≤ longest_file) };
 }
 
 // Writes the header, where there is none yet.
@@ -50,7 +52,7 @@ fn begin(file: &mut Vec<u8>) -> Result<(), AllocError>
 impl TraceWriter {
     /// A writer without events, of a file of at most `max` bytes, which are 268,435,456 at most. It allocates nothing.
     pub fn new(alloc: Global, max: u64) -> TraceWriter
-        requires { max ≤ 268435456 }
+        requires { max ≤ longest_file }
         ensures { result ≡ record { max = max; events = []; count = 0 } }
     {
         TraceWriter {

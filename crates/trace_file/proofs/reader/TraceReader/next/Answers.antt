@@ -1,6 +1,6 @@
 use Rattle.std.proofs.Common.{◌≡◌, ◌+◌, ◌∙◌, ◌++◌, ◌∷◌, [], length, sym, ap, subst, arith}
 use Rattle.std.proofs.lemmas.Result.{err_from_is_err_and}
-use Rattle.trace_file.specs.Begins.{Begins, NoneBegins}
+use Rattle.trace_file.specs.Begins.{BeginsWithSpelling, NoneBegins}
 use Rattle.trace_file.specs.Files.{IsNoTrace, HasRead}
 use Rattle.trace_file.specs.Rows.{event_bytes, FitsEvent}
 use Rattle.trace_file.proofs.Whole.{shorter, behind_one, read_one, none_more, not_counted}
@@ -23,9 +23,9 @@ returns-in_err-take_count-clause-not c =
     rw p.1 (λ e. subst IsNoTrace (ap (λ r. r.bytes) c.self.view_is) (not_counted _ _ xs.0 xs.1 end (c.in_err-take_count.ensures.not (sym p.2 ∙ e))))
 
 -- what is behind the event is what the cursor has left
-taken : (c : goal.After-self-1) → (Begins FitsEvent event_bytes c.self.inside.left.now c.take_next.new.cursor.left c.in-Some.event) × (c.split_at.result.1.now ≡ c.take_next.new.cursor.left)
+taken : (c : goal.After-self-1) → (BeginsWithSpelling FitsEvent event_bytes c.self.inside.left.now c.take_next.new.cursor.left c.in-Some.event) × (c.split_at.result.1.now ≡ c.take_next.new.cursor.left)
 taken c =
-    let b = subst (λ l. Begins FitsEvent event_bytes l c.take_next.new.cursor.left c.in-Some.event) c.new-cursor.ensures.left (rw c.in-Some.is at c.in_ok-event.ensures.taken) in
+    let b = subst (λ l. BeginsWithSpelling FitsEvent event_bytes l c.take_next.new.cursor.left c.in-Some.event) c.new-cursor.ensures.left (rw c.in-Some.is at c.in_ok-event.ensures.taken) in
     (b, behind_one _ _ _ _ _ b (omega (arith, c.left.ensures)) c.split_at.ensures.back)
 
 pub invariant_of-self : goal.invariant_of-self
