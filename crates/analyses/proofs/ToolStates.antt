@@ -17,7 +17,7 @@ state_at P f ts i t within read holds =
     subst P same (All-get_or P (map f ts) i (f t) inside holds)
 
 abbrev tool_state : Kind → ℕ → List Row → ToolState
-tool_state kind n rows = record { counts = kind; so_many = n; book = rows }
+tool_state kind n rows = record { counts = kind; event_count = n; book = rows }
 
 -- ---- the states that events lead to
 

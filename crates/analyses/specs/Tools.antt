@@ -8,20 +8,20 @@ use Rattle.analyses.specs.Book.{book, rows_after}
 -- what it counts, how many events it has taken, and its book
 pub record ToolState : Type 0 where
   pub counts : Kind
-  pub so_many : ℕ
+  pub event_count : ℕ
   pub book : List Row
 
 -- that of an analysis that has taken no event
 abbrev pub fresh_tool : Kind → ToolState
-fresh_tool kind = record { counts = kind; so_many = 0; book = [] }
+fresh_tool kind = record { counts = kind; event_count = 0; book = [] }
 
 -- that of one that has taken these events, and no other
 abbrev pub tool_with : Kind → List Event → ToolState
-tool_with kind es = record { counts = kind; so_many = length es; book = book kind es }
+tool_with kind es = record { counts = kind; event_count = length es; book = book kind es }
 
 -- with an event more
 abbrev pub state_after : ToolState → Event → ToolState
-state_after s e = record { counts = s.counts; so_many = s.so_many + 1; book = rows_after s.counts s.book e }
+state_after s e = record { counts = s.counts; event_count = s.event_count + 1; book = rows_after s.counts s.book e }
 
 -- taking event after event makes the state of these events
 abbrev pub TakesMakeTool : Type 0

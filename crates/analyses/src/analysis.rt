@@ -19,11 +19,11 @@ pub trait Analysis: Drop {
 
     /// How many events it has taken.
     fn taken(&self) -> u64
-        ensures { result ≡ (state self.now).so_many };
+        ensures { result ≡ (state self.now).event_count };
 
     /// Takes an event more. `Err` comes where there is no memory, and changes nothing.
     fn take(&mut self, event: &Event) -> Result<(), NoMemory>
-        requires { (state self.old).so_many + 1 < 2 ^ 64 }
+        requires { (state self.old).event_count + 1 < 2 ^ 64 }
         ensures taken { OnOk result (state self.new ≡ state_after (state self.old) event.now) }
         ensures kept { OnErr result (state self.new ≡ state self.old) };
 

@@ -111,7 +111,7 @@ impl Model for Ledger {
 
     ghost Value = { ToolState };
 
-    ghost view = { λ l. record { counts = l.kind; so_many = l.taken; book = book_of_entries l.rows.entries } };
+    ghost view = { λ l. record { counts = l.kind; event_count = l.taken; book = book_of_entries l.rows.entries } };
 
     ghost invariant = { λ l. CountsUpTo l.taken l.rows.entries };
 }
@@ -138,14 +138,14 @@ impl Ledger {
 
     // How many events it has taken.
     pub fn taken(&self) -> u64
-        ensures { result ≡ self.now.so_many }
+        ensures { result ≡ self.now.event_count }
     {
         self.taken
     }
 
     // Takes an event more; where memory ends, all is as before.
     pub fn take(&mut self, event: &Event) -> Result<(), NoMemory>
-        requires { self.old.so_many + 1 < 2 ^ 64 }
+        requires { self.old.event_count + 1 < 2 ^ 64 }
         ensures taken { OnOk result (self.new ≡ state_after self.old event.now) }
         ensures kept { OnErr result (self.new ≡ self.old) }
     {

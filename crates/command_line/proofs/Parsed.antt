@@ -1,11 +1,16 @@
 -- What the parser says of the command, and what is made of its answer.
-use Rattle.std.proofs.Common.{◌≡◌, ◌∙◌, Bool, true, false, true≢false, refl, sym, ap, [], ◌∷◌, Option, Some, None, option_map, Result, Ok, Err, IfOk, IsErrOf}
-use Rattle.std.specs.Option.{IfSome, ok_or}
-use Rattle.clap.specs.Words.{IsAmong, Kinds, is_simple, is_simple_and_free}
+use Rattle.std.proofs.Common.{◌≡◌, ◌∙◌, ◌≤◌, ◌<◌, ◌^◌, arith, codes, List, ℕ, Bool, true, false, true≢false, refl, sym, ap, subst, cond, [], ◌∷◌, Option, Some, None, option_map, Result, Ok, Err, IfOk, IsErrOf}
+use Rattle.std.specs.Prelude.{unwrap_or}
+use Rattle.std.specs.Option.{ok_or}
+use Rattle.module_ast.specs.Validation.Limits.{longest_file}
+use Rattle.std.specs.Str.Parse.{IsNumeral, digits_value, without_leading_plus}
+use Rattle.clap.specs.Words.{IsAmong, Kinds, Text, fault_of, first_of, is_simple, is_simple_and_free, matches_of}
+use Rattle.clap.specs.ValueTests.{is_unsigned_in}
+use Rattle.clap.specs.declared.builder.value_parser.ValueParser.TheVariants as parser
+use Rattle.clap.proofs.ValueTestLemmas.{Accepts-accepts, accepts-Accepts}
 use Rattle.clap.specs.declared.error.ErrorKind.{ErrorKind}
 use Rattle.clap.proofs.OnLiterals.{clap_on_literals}
-use Rattle.command_line.specs.Lines.{Line, unless, wasabi}
-use Rattle.command_line.specs.Reading.{line_of}
+use Rattle.command_line.specs.Lines.{IsLine, Line, is_complete, line_at, line_by, line_of, most_jobs, number_in, unless, wasabi}
 use Rattle.command_line.specs.declared.words.Line.{Line as ReadLine}
 use Rattle.command_line.specs.declared.words.LineFault.TheVariants.{Refused}
 
@@ -33,10 +38,55 @@ pub none_read : (o : Option ReadLine) (fault : Kinds) (found : Option Line) → 
 none_read None fault found is none err = ap (λ f. unless f found) none ∙ sym is
 none_read (Some line) fault found is none err = absurd (true≢false (ap succeeds err))
 
--- what is so of a line that was found is so of the line that was read
-pub read_with : (P : ReadLine → Type 0) (o : Option ReadLine) → IfSome o P → IfOk (ok_or o Refused) P
-read_with P None found = tt
-read_with P (Some line) found = found
+-- ---- a number that was read of a text
+
+pub parsed_number : (most n : ℕ) (t : Text) → (IsNumeral 10 (without_leading_plus t) × (digits_value 10 (without_leading_plus t) < 2 ^ 64)) × (n ≡ digits_value 10 (without_leading_plus t))
+    → 1 ≤ n → n ≤ most → number_in most (Some t) ≡ Some n
+parsed_number most n t (fits, is) least at_most =
+    let accepted = Accepts-accepts false (parser.Unsigned 1 most) t (fits.0, fits.1, subst (λ k. 1 ≤ k) is least, subst (λ k. k ≤ most) is at_most) in
+    ap (λ b. cond b (Some (digits_value 10 (without_leading_plus t))) None) accepted ∙ ap Some (sym is)
+
+pub no_number : (most : ℕ) (t : Text) → ¬ (IsNumeral 10 (without_leading_plus t) × (digits_value 10 (without_leading_plus t) < 2 ^ 64)) → number_in most (Some t) ≡ None
+no_number most t not = by (is_unsigned_in 1 most t) refl
+  where
+    by : (b : Bool) → is_unsigned_in 1 most t ≡ b → cond b (Some (digits_value 10 (without_leading_plus t))) None ≡ None
+    by true is =
+        let fits = accepts-Accepts false (parser.Unsigned 1 most) t is in
+        absurd (not (fits.0, fits.1))
+    by false is = refl
+
+-- ---- the numbers of a line are in their ranges
+
+number_ranged : (most : ℕ) (o : Option Text) → 1 ≤ most → (1 ≤ unwrap_or (number_in most o) 1) × (unwrap_or (number_in most o) 1 ≤ most)
+number_ranged most None some = (omega arith, some)
+number_ranged most (Some t) some = by (is_unsigned_in 1 most t) refl
+  where
+    by : (b : Bool) → is_unsigned_in 1 most t ≡ b
+        → (1 ≤ unwrap_or (cond b (Some (digits_value 10 (without_leading_plus t))) None) 1) × (unwrap_or (cond b (Some (digits_value 10 (without_leading_plus t))) None) 1 ≤ most)
+    by true is =
+        let fits = accepts-Accepts false (parser.Unsigned 1 most) t is in
+        (fits.2, fits.3)
+    by false is = (omega arith, some)
+
+pub record IsRanged (line : Line) : Type 0 where
+  pub jobs : (1 ≤ line.jobs) × (line.jobs ≤ 64)
+  pub max_output : (1 ≤ line.max_output) × (line.max_output ≤ longest_file)
+
+pub line_ranged : (words : List Text) (line : Line) → IsLine words line → IsRanged line
+line_ranged words line is = by (fault_of wasabi words) is
+  where
+    value : Text → Option Text
+    value = λ id. first_of id (matches_of wasabi words)
+
+    at : (complete : Bool) → cond complete (Some (line_at value)) None ≡ Some line → IsRanged line
+    at true e =
+        let same : line_at value ≡ line = cc in
+        subst IsRanged same (record { jobs = number_ranged most_jobs (value (codes "jobs")) (omega arith); max_output = number_ranged longest_file (value (codes "max-output")) (omega arith) })
+    at false e = cc
+
+    by : (faults : Kinds) → unless faults (line_by value) ≡ Some line → IsRanged line
+    by [] e = at (is_complete value) e
+    by (fault ∷ faults) e = cc
 
 -- where it found one, they have no line
 pub none_with : (kind : ErrorKind) (fault : Kinds) (found : Option Line) → IsAmong kind fault → unless fault found ≡ None

@@ -1,11 +1,14 @@
 -- How the parser goes over words in their plain form.
-use Rattle.std.proofs.Common.{◌≡◌, ◌≢◌, ◌∙◌, ◌||◌, ◌==◌, ◌<◌, ◌≤◌, ◌^◌, arith, subst, append_assoc, ℕ, Bool, true, false, true≢false, cond, refl, sym, ap, ap₂, inl, inr, List, [], ◌∷◌, ◌++◌, map, append-nil, Some, None, codes}
-use Rattle.std.specs.List.{fold}
+use Rattle.std.proofs.Common.{◌≡◌, ◌≢◌, ◌∙◌, ◌||◌, ◌&&◌, ◌==◌, nat_lt, ◌<◌, ◌≤◌, ◌^◌, arith, subst, append_assoc, ℕ, Bool, true, false, true≢false, cond, refl, sym, ap, ap₂, List, [], ◌∷◌, ◌++◌, map, append-nil, Option, Some, None, codes}
+use Rattle.std.specs.Prelude.{find}
+use Rattle.std.specs.List.{fold, list_all}
 use Rattle.std.specs.Str.{bytes_eq}
-use Rattle.std.proofs.lemmas.Bool.{ne_eqb}
+use Rattle.std.proofs.lemmas.Bool.{ltb-true, ne_eqb}
 use Rattle.std.proofs.lemmas.List.{map-append}
-use Rattle.clap.specs.Walk.{Row, Text, Walk, at_row, has_row, idle, more_values, nothing_held, option, without, settled_rows, walk_from, walked, with_values}
-use Rattle.clap.specs.Simple.{Shape, built}
+use Rattle.std.proofs.lemmas.Slice.Eq.{bytes_eq-Decides}
+use Rattle.clap.specs.Lexer.{long_of_rest}
+use Rattle.clap.specs.Walk.{Row, Rule, Text, Walk, arg_by_id, arg_by_long, at_row, has_row, idle, more_values, nothing_held, option, without, settled_rows, walk_from, walked, with_values}
+use Rattle.clap.specs.Simple.{Shape, built, filled}
 use Rattle.clap.specs.Kinds.{or_else}
 use Rattle.clap.specs.Faults.{settle_fault, turn_fault, walk_fault}
 use Rattle.clap.specs.declared.parser.matches.ValueSource.TheVariants.{CommandLine}
@@ -14,11 +17,96 @@ use Rattle.clap.proofs.ValueTestLemmas.{Accepts-accepts}
 use Rattle.clap.specs.ValueTests.{accepts}
 use Rattle.clap.specs.declared.builder.value_parser.ValueParser.TheVariants as parser
 use Rattle.clap.proofs.OnLiterals.{clap_on_literals}
-use Rattle.command_line.specs.Lines.{wasabi}
-use Rattle.command_line.specs.Pairs.{AreUses, IsOption, IsValue, Use, Writes, has_option, words_with}
+use Rattle.command_line.specs.Lines.{Kind, any_text, text_or, number_to, option_named, option_rule, options, wasabi}
+use Rattle.command_line.specs.Pairs.{AreUses, IsOption, IsValue, Takes, Use, WritesNumber, has_option, words_with}
 
 abbrev pub top : Shape
 top = (built wasabi).top
+
+-- ---- what is so of each option
+
+head_same : {B : Type 0} (a b : B) (xs ys : List B) → a ∷ xs ≡ b ∷ ys → (a ≡ b) × (xs ≡ ys)
+head_same a b xs ys e = (cc, cc)
+
+none_some : {A : Type 0} (x : A) → None ≡ Some x → ⊥
+none_some x e = cc
+
+-- what is found in a list passes the test, and has what each element has
+found_has : {A B : Type 0} (p : A → Bool) (f g : A → B) (xs : List A) (x : A) → find p xs ≡ Some x → map f xs ≡ map g xs → (p x ≡ true) × (f x ≡ g x)
+found_has p f g [] x e same = cc
+found_has {A} {B} p f g (y ∷ ys) x e same =
+    let parts = head_same (f y) (g y) (map f ys) (map g ys) same in
+    go (p y) refl e (λ there. found_has p f g ys x there parts.1)
+  where
+    go : (b : Bool) → p y ≡ b → cond b (Some y) (find p ys) ≡ Some x → (find p ys ≡ Some x → (p x ≡ true) × (f x ≡ g x)) → (p x ≡ true) × (f x ≡ g x)
+    go true is here more =
+        let one : y ≡ x = cc in
+        subst (λ z. (p z ≡ true) × (f z ≡ g z)) one (is, (head_same (f y) (g y) (map f ys) (map g ys) same).0)
+    go false is here more = more here
+
+-- what follows of each element
+pub each_has : {A B : Type 0} (f g : A → B) (q : A → Bool) → ((x : A) → f x ≡ g x → q x ≡ true) → (xs : List A) → map f xs ≡ map g xs → list_all q xs ≡ true
+each_has f g q each [] same = refl
+each_has f g q each (x ∷ xs) same =
+    let parts = head_same (f x) (g x) (map f xs) (map g xs) same in
+    ap₂ (λ a b. a && b) (each x parts.0) (each_has f g q each xs parts.1)
+
+-- an option's rule, as building fills it in
+abbrev pub made : Text × Kind → Rule
+made o = filled (option_rule o)
+
+abbrev pub is_small : Kind → Bool
+is_small (number_to most default) = nat_lt most (2 ^ 64)
+is_small _ = true
+
+-- the parser finds an option by its name, which is that of no other argument, and is written with two hyphens before it
+pub record IsKnown (o : Text × Kind) : Type 0 where
+  pub by_id : arg_by_id top.rules o.0 ≡ Some (made o)
+  pub by_long : arg_by_long top.rules o.0 ≡ Some (made o)
+  pub long : long_of_rest o.0 ≡ Some (o.0, None)
+  pub same : bytes_eq o.0 o.0 ≡ true
+  pub no_mode : bytes_eq (codes "mode") o.0 ≡ false
+  pub no_subject : bytes_eq (codes "subject") o.0 ≡ false
+  pub small : is_small o.1 ≡ true
+
+-- an option with a value that it takes
+pub record IsTaken (id v : Text) : Type 0 where
+  pub kind : Kind
+  pub named : option_named id ≡ Some (id, kind)
+  pub takes : Takes kind v
+  pub known : IsKnown (id, kind)
+
+known : (id : Text) (o : Text × Kind) → option_named id ≡ Some o → (o.0 ≡ id) × IsKnown o
+known id o e =
+    let fact = λ (B : Type 0) (f g : Text × Kind → B) (same : map f options ≡ map g options). found_has (λ (r : Text × Kind). bytes_eq r.0 id) f g options o e same in (
+      (bytes_eq-Decides o.0 id).0 (fact Bool (λ _. true) (λ _. true) refl).0,
+      record {
+        by_id = (fact (Option Rule) (λ r. arg_by_id top.rules r.0) (λ r. Some (made r)) refl).1;
+        by_long = (fact (Option Rule) (λ r. arg_by_long top.rules r.0) (λ r. Some (made r)) refl).1;
+        long = (fact (Option (Text × Option Text)) (λ r. long_of_rest r.0) (λ r. Some (r.0, None)) refl).1;
+        same = (fact Bool (λ r. bytes_eq r.0 r.0) (λ _. true) refl).1;
+        no_mode = (fact Bool (λ r. bytes_eq (codes "mode") r.0) (λ _. false) refl).1;
+        no_subject = (fact Bool (λ r. bytes_eq (codes "subject") r.0) (λ _. false) refl).1;
+        small = (fact Bool (λ r. is_small r.1) (λ _. true) refl).1;
+      },
+    )
+
+pub taken : (id v : Text) → IsOption (option_named id) v → IsTaken id v
+taken id v is = go (option_named id) refl is
+  where
+    go : (found : Option (Text × Kind)) → option_named id ≡ found → IsOption found v → IsTaken id v
+    go None e is = absurd is
+    go (Some (name, kind)) e takes =
+        let facts = known id (name, kind) e in
+        let one : name ≡ id = facts.0 in
+        record {
+          kind = kind;
+          named = e ∙ ap (λ (i : Text). Some (i, kind)) one;
+          takes = takes;
+          known = subst (λ (i : Text). IsKnown (i, kind)) one facts.1;
+        }
+
+-- ---- the words
 
 -- what is found for a use
 abbrev pub row_for : Use → Row
@@ -82,24 +170,47 @@ starts_well mode subject m s rest =
     ap₂ (λ a b. or_else a (or_else b (walk_fault top [] (walked top.rules [] (walked top.rules [] (walk_from nothing_held) mode) subject) rest))) (first_turn mode m) second
     ∙ ap (λ w. walk_fault top [] w rest) (starts mode subject m s)
 
+-- ---- an option and its value
+
 -- behind the name of an option
-abbrev named : List Row → Use → (id : Text) → Walk
-named rows u id = record {
-  held = record { rows = settled_rows top.rules (Some (u.id, u.value ∷ [])) rows; pending = Some (id, []); skip = 0 };
+abbrev named : List Rule → List Row → Use → (id : Text) → Walk
+named c rows u id = record {
+  held = record { rows = settled_rows c (Some (u.id, u.value ∷ [])) rows; pending = Some (id, []); skip = 0 };
   waiting = option id;
   position = 3;
   is_trailing = false;
   stopped = None;
 }
 
--- how an option's name and value are gone over
-record Known (id : Text) : Type 0 where
-  name : (rows : List Row) (u : Use) → walked top.rules [] (standing rows u) (45 ∷ 45 ∷ id) ≡ named rows u id
-  value : (rows : List Row) (u : Use) (v : Text) → IsValue v → walked top.rules [] (named rows u id) v ≡ standing (settled_rows top.rules (Some (u.id, u.value ∷ [])) rows) (record { id = id; value = v })
-  name_fault : (rows : List Row) (u : Use) → turn_fault top [] (standing rows u) (45 ∷ 45 ∷ id) ≡ or_else (settle_fault top.rules false (standing rows u).held) []
-  value_fault : (rows : List Row) (u : Use) (v : Text) → IsValue v → turn_fault top [] (named rows u id) v ≡ []
+module _ (s : Shape) (o : Text × Kind) (by_id : arg_by_id s.rules o.0 ≡ Some (made o)) (by_long : arg_by_long s.rules o.0 ≡ Some (made o))
+    (long : long_of_rest o.0 ≡ Some (o.0, None)) (same : bytes_eq o.0 o.0 ≡ true) (rows : List Row) (u : Use) where
+  at_name : walked s.rules [] (standing rows u) (45 ∷ 45 ∷ o.0) ≡ named s.rules rows u o.0
+  unfolding clap_on_literals
+  at_name = go o.0 refl
+    where
+      go : (id : Text) → o.0 ≡ id → walked s.rules [] (standing rows u) (45 ∷ 45 ∷ o.0) ≡ named s.rules rows u o.0
+      go [] e = absurd (none_some (o.0, None) (sym (ap long_of_rest e) ∙ long))
+      go (x ∷ xs) e = rw (ap (λ i. bytes_eq i []) e, long, by_long) refl
 
--- how a use is noted, where it has not been used before
+  at_value : (v : Text) → IsValue v → walked s.rules [] (named s.rules rows u o.0) v ≡ standing (settled_rows s.rules (Some (u.id, u.value ∷ [])) rows) (record { id = o.0; value = v })
+  unfolding clap_on_literals
+  at_value [] h = absurd h
+  at_value (b ∷ bs) h = let e = not_dash b h in rw e (rw e (rw (by_id, same) refl))
+
+  name_fault : turn_fault s [] (standing rows u) (45 ∷ 45 ∷ o.0) ≡ or_else (settle_fault s.rules s.args_override_self (standing rows u).held) []
+  unfolding clap_on_literals
+  name_fault = go o.0 refl
+    where
+      go : (id : Text) → o.0 ≡ id → turn_fault s [] (standing rows u) (45 ∷ 45 ∷ o.0) ≡ or_else (settle_fault s.rules s.args_override_self (standing rows u).held) []
+      go [] e = absurd (none_some (o.0, None) (sym (ap long_of_rest e) ∙ long))
+      go (x ∷ xs) e = rw (ap (λ i. bytes_eq i []) e, long, by_long) refl
+
+  value_fault : (v : Text) → IsValue v → turn_fault s [] (named s.rules rows u o.0) v ≡ []
+  unfolding clap_on_literals
+  value_fault [] h = absurd h
+  value_fault (b ∷ bs) h = let e = not_dash b h in rw e (rw e refl)
+
+-- how a use is noted, if it has not been used before
 pub record Kept (id v : Text) : Type 0 where
   rows : (rows : List Row) → has_row id rows ≡ false → settled_rows top.rules (Some (id, v ∷ [])) rows ≡ rows ++ row_for (record { id = id; value = v }) ∷ []
   fault : (rows : List Row) → has_row id rows ≡ false → settle_fault top.rules false (standing rows (record { id = id; value = v })).held ≡ []
@@ -119,220 +230,28 @@ noted id v rows h =
     let none : without id rows ≡ rows = missing_row id (λ _. []) [] rows h ∙ append-nil rows in
     rw none (missing_row id (more_values CommandLine (v ∷ [])) (row_for (record { id = id; value = v }) ∷ []) rows h)
 
-out_value : (rows : List Row) (u : Use) (v : Text) → IsValue v → walked top.rules [] (named rows u (codes "out")) v ≡ standing (settled_rows top.rules (Some (u.id, u.value ∷ [])) rows) (record { id = codes "out"; value = v })
-unfolding clap_on_literals
-out_value rows u [] h = absurd h
-out_value rows u (b ∷ bs) h = let e = not_dash b h in rw e (rw e refl)
+pub accepted : (most n : ℕ) (v : Text) → nat_lt most (2 ^ 64) ≡ true → WritesNumber most v n → accepts false (parser.Unsigned 1 most) v ≡ true
+accepted most n v small is =
+    let below : most < 2 ^ 64 = ltb-true _ _ small in
+    Accepts-accepts false (parser.Unsigned 1 most) v
+    (is.numeral, omega (arith, is.value, is.at_most, below), subst (λ k. 1 ≤ k) is.value is.least, subst (λ k. k ≤ most) is.value is.at_most)
 
-out_fault : (rows : List Row) (u : Use) (v : Text) → IsValue v → turn_fault top [] (named rows u (codes "out")) v ≡ []
-unfolding clap_on_literals
-out_fault rows u [] h = absurd h
-out_fault rows u (b ∷ bs) h = let e = not_dash b h in rw e (rw e refl)
+-- a rule that notes its value as it is written
+kept_by : (c : List Rule) (kind : Kind) (id v : Text) → arg_by_id c id ≡ Some (made (id, kind)) → is_small kind ≡ true → Takes kind v → (rows : List Row) → has_row id rows ≡ false
+    → (settled_rows c (Some (id, v ∷ [])) rows ≡ rows ++ row_for (record { id = id; value = v }) ∷ []) × (settle_fault c false (standing rows (record { id = id; value = v })).held ≡ [])
+kept_by c any_text id v found small takes rows h = (rw found (noted id v rows h), rw (found, h) refl)
+kept_by c (text_or d) id v found small takes rows h = (rw found (noted id v rows h), rw (found, h) refl)
+kept_by c (number_to most d) id v found small takes rows h = (rw found (noted id v rows h), rw (found, h, accepted most takes.0 v small takes.1) refl)
 
-out_known : Known (codes "out")
-unfolding clap_on_literals
-out_known = record { name = λ rows u. refl; value = out_value; name_fault = λ rows u. refl; value_fault = out_fault }
-
-info_value : (rows : List Row) (u : Use) (v : Text) → IsValue v → walked top.rules [] (named rows u (codes "info")) v ≡ standing (settled_rows top.rules (Some (u.id, u.value ∷ [])) rows) (record { id = codes "info"; value = v })
-unfolding clap_on_literals
-info_value rows u [] h = absurd h
-info_value rows u (b ∷ bs) h = let e = not_dash b h in rw e (rw e refl)
-
-info_fault : (rows : List Row) (u : Use) (v : Text) → IsValue v → turn_fault top [] (named rows u (codes "info")) v ≡ []
-unfolding clap_on_literals
-info_fault rows u [] h = absurd h
-info_fault rows u (b ∷ bs) h = let e = not_dash b h in rw e (rw e refl)
-
-info_known : Known (codes "info")
-unfolding clap_on_literals
-info_known = record { name = λ rows u. refl; value = info_value; name_fault = λ rows u. refl; value_fault = info_fault }
-
-script_value : (rows : List Row) (u : Use) (v : Text) → IsValue v → walked top.rules [] (named rows u (codes "script")) v ≡ standing (settled_rows top.rules (Some (u.id, u.value ∷ [])) rows) (record { id = codes "script"; value = v })
-unfolding clap_on_literals
-script_value rows u [] h = absurd h
-script_value rows u (b ∷ bs) h = let e = not_dash b h in rw e (rw e refl)
-
-script_fault : (rows : List Row) (u : Use) (v : Text) → IsValue v → turn_fault top [] (named rows u (codes "script")) v ≡ []
-unfolding clap_on_literals
-script_fault rows u [] h = absurd h
-script_fault rows u (b ∷ bs) h = let e = not_dash b h in rw e (rw e refl)
-
-script_known : Known (codes "script")
-unfolding clap_on_literals
-script_known = record { name = λ rows u. refl; value = script_value; name_fault = λ rows u. refl; value_fault = script_fault }
-
-sources_value : (rows : List Row) (u : Use) (v : Text) → IsValue v → walked top.rules [] (named rows u (codes "sources")) v ≡ standing (settled_rows top.rules (Some (u.id, u.value ∷ [])) rows) (record { id = codes "sources"; value = v })
-unfolding clap_on_literals
-sources_value rows u [] h = absurd h
-sources_value rows u (b ∷ bs) h = let e = not_dash b h in rw e (rw e refl)
-
-sources_fault : (rows : List Row) (u : Use) (v : Text) → IsValue v → turn_fault top [] (named rows u (codes "sources")) v ≡ []
-unfolding clap_on_literals
-sources_fault rows u [] h = absurd h
-sources_fault rows u (b ∷ bs) h = let e = not_dash b h in rw e (rw e refl)
-
-sources_known : Known (codes "sources")
-unfolding clap_on_literals
-sources_known = record { name = λ rows u. refl; value = sources_value; name_fault = λ rows u. refl; value_fault = sources_fault }
-
-sinks_value : (rows : List Row) (u : Use) (v : Text) → IsValue v → walked top.rules [] (named rows u (codes "sinks")) v ≡ standing (settled_rows top.rules (Some (u.id, u.value ∷ [])) rows) (record { id = codes "sinks"; value = v })
-unfolding clap_on_literals
-sinks_value rows u [] h = absurd h
-sinks_value rows u (b ∷ bs) h = let e = not_dash b h in rw e (rw e refl)
-
-sinks_fault : (rows : List Row) (u : Use) (v : Text) → IsValue v → turn_fault top [] (named rows u (codes "sinks")) v ≡ []
-unfolding clap_on_literals
-sinks_fault rows u [] h = absurd h
-sinks_fault rows u (b ∷ bs) h = let e = not_dash b h in rw e (rw e refl)
-
-sinks_known : Known (codes "sinks")
-unfolding clap_on_literals
-sinks_known = record { name = λ rows u. refl; value = sinks_value; name_fault = λ rows u. refl; value_fault = sinks_fault }
-
-hooks_value : (rows : List Row) (u : Use) (v : Text) → IsValue v → walked top.rules [] (named rows u (codes "hooks")) v ≡ standing (settled_rows top.rules (Some (u.id, u.value ∷ [])) rows) (record { id = codes "hooks"; value = v })
-unfolding clap_on_literals
-hooks_value rows u [] h = absurd h
-hooks_value rows u (b ∷ bs) h = let e = not_dash b h in rw e (rw e refl)
-
-hooks_fault : (rows : List Row) (u : Use) (v : Text) → IsValue v → turn_fault top [] (named rows u (codes "hooks")) v ≡ []
-unfolding clap_on_literals
-hooks_fault rows u [] h = absurd h
-hooks_fault rows u (b ∷ bs) h = let e = not_dash b h in rw e (rw e refl)
-
-hooks_known : Known (codes "hooks")
-unfolding clap_on_literals
-hooks_known = record { name = λ rows u. refl; value = hooks_value; name_fault = λ rows u. refl; value_fault = hooks_fault }
-
-reports_value : (rows : List Row) (u : Use) (v : Text) → IsValue v → walked top.rules [] (named rows u (codes "reports")) v ≡ standing (settled_rows top.rules (Some (u.id, u.value ∷ [])) rows) (record { id = codes "reports"; value = v })
-unfolding clap_on_literals
-reports_value rows u [] h = absurd h
-reports_value rows u (b ∷ bs) h = let e = not_dash b h in rw e (rw e refl)
-
-reports_fault : (rows : List Row) (u : Use) (v : Text) → IsValue v → turn_fault top [] (named rows u (codes "reports")) v ≡ []
-unfolding clap_on_literals
-reports_fault rows u [] h = absurd h
-reports_fault rows u (b ∷ bs) h = let e = not_dash b h in rw e (rw e refl)
-
-reports_known : Known (codes "reports")
-unfolding clap_on_literals
-reports_known = record { name = λ rows u. refl; value = reports_value; name_fault = λ rows u. refl; value_fault = reports_fault }
-
-names_value : (rows : List Row) (u : Use) (v : Text) → IsValue v → walked top.rules [] (named rows u (codes "names")) v ≡ standing (settled_rows top.rules (Some (u.id, u.value ∷ [])) rows) (record { id = codes "names"; value = v })
-unfolding clap_on_literals
-names_value rows u [] h = absurd h
-names_value rows u (b ∷ bs) h = let e = not_dash b h in rw e (rw e refl)
-
-names_fault : (rows : List Row) (u : Use) (v : Text) → IsValue v → turn_fault top [] (named rows u (codes "names")) v ≡ []
-unfolding clap_on_literals
-names_fault rows u [] h = absurd h
-names_fault rows u (b ∷ bs) h = let e = not_dash b h in rw e (rw e refl)
-
-names_known : Known (codes "names")
-unfolding clap_on_literals
-names_known = record { name = λ rows u. refl; value = names_value; name_fault = λ rows u. refl; value_fault = names_fault }
-
-jobs_value : (rows : List Row) (u : Use) (v : Text) → IsValue v → walked top.rules [] (named rows u (codes "jobs")) v ≡ standing (settled_rows top.rules (Some (u.id, u.value ∷ [])) rows) (record { id = codes "jobs"; value = v })
-unfolding clap_on_literals
-jobs_value rows u [] h = absurd h
-jobs_value rows u (b ∷ bs) h = let e = not_dash b h in rw e (rw e refl)
-
-jobs_fault : (rows : List Row) (u : Use) (v : Text) → IsValue v → turn_fault top [] (named rows u (codes "jobs")) v ≡ []
-unfolding clap_on_literals
-jobs_fault rows u [] h = absurd h
-jobs_fault rows u (b ∷ bs) h = let e = not_dash b h in rw e (rw e refl)
-
-jobs_known : Known (codes "jobs")
-unfolding clap_on_literals
-jobs_known = record { name = λ rows u. refl; value = jobs_value; name_fault = λ rows u. refl; value_fault = jobs_fault }
-
-max_output_value : (rows : List Row) (u : Use) (v : Text) → IsValue v → walked top.rules [] (named rows u (codes "max-output")) v ≡ standing (settled_rows top.rules (Some (u.id, u.value ∷ [])) rows) (record { id = codes "max-output"; value = v })
-unfolding clap_on_literals
-max_output_value rows u [] h = absurd h
-max_output_value rows u (b ∷ bs) h = let e = not_dash b h in rw e (rw e refl)
-
-max_output_fault : (rows : List Row) (u : Use) (v : Text) → IsValue v → turn_fault top [] (named rows u (codes "max-output")) v ≡ []
-unfolding clap_on_literals
-max_output_fault rows u [] h = absurd h
-max_output_fault rows u (b ∷ bs) h = let e = not_dash b h in rw e (rw e refl)
-
-max_output_known : Known (codes "max-output")
-unfolding clap_on_literals
-max_output_known = record { name = λ rows u. refl; value = max_output_value; name_fault = λ rows u. refl; value_fault = max_output_fault }
-
-pub mode_kept : (v : Text) → Kept (codes "mode") v
-unfolding clap_on_literals
-mode_kept v = record { rows = λ rows h. noted (codes "mode") v rows h; fault = λ rows h. rw h refl }
+pub option_kept : (id v : Text) → IsTaken id v → Kept id v
+option_kept id v is = record {
+  rows = λ rows h. (kept_by top.rules is.kind id v is.known.by_id is.known.small is.takes rows h).0;
+  fault = λ rows h. (kept_by top.rules is.kind id v is.known.by_id is.known.small is.takes rows h).1;
+}
 
 pub subject_kept : (v : Text) → Kept (codes "subject") v
 unfolding clap_on_literals
 subject_kept v = record { rows = λ rows h. noted (codes "subject") v rows h; fault = λ rows h. rw h refl }
-
-pub out_kept : (v : Text) → Kept (codes "out") v
-unfolding clap_on_literals
-out_kept v = record { rows = λ rows h. noted (codes "out") v rows h; fault = λ rows h. rw h refl }
-
-pub info_kept : (v : Text) → Kept (codes "info") v
-unfolding clap_on_literals
-info_kept v = record { rows = λ rows h. noted (codes "info") v rows h; fault = λ rows h. rw h refl }
-
-pub script_kept : (v : Text) → Kept (codes "script") v
-unfolding clap_on_literals
-script_kept v = record { rows = λ rows h. noted (codes "script") v rows h; fault = λ rows h. rw h refl }
-
-pub sources_kept : (v : Text) → Kept (codes "sources") v
-unfolding clap_on_literals
-sources_kept v = record { rows = λ rows h. noted (codes "sources") v rows h; fault = λ rows h. rw h refl }
-
-pub sinks_kept : (v : Text) → Kept (codes "sinks") v
-unfolding clap_on_literals
-sinks_kept v = record { rows = λ rows h. noted (codes "sinks") v rows h; fault = λ rows h. rw h refl }
-
-pub hooks_kept : (v : Text) → Kept (codes "hooks") v
-unfolding clap_on_literals
-hooks_kept v = record { rows = λ rows h. noted (codes "hooks") v rows h; fault = λ rows h. rw h refl }
-
-pub reports_kept : (v : Text) → Kept (codes "reports") v
-unfolding clap_on_literals
-reports_kept v = record { rows = λ rows h. noted (codes "reports") v rows h; fault = λ rows h. rw h refl }
-
-pub names_kept : (v : Text) → Kept (codes "names") v
-unfolding clap_on_literals
-names_kept v = record { rows = λ rows h. noted (codes "names") v rows h; fault = λ rows h. rw h refl }
-
-pub jobs_kept : (v : Text) → accepts false (parser.Unsigned 1 64) v ≡ true → Kept (codes "jobs") v
-unfolding clap_on_literals
-jobs_kept v fits = record { rows = λ rows h. noted (codes "jobs") v rows h; fault = λ rows h. rw (h, fits) refl }
-
-pub max_output_kept : (v : Text) → accepts false (parser.Unsigned 1 268435456) v ≡ true → Kept (codes "max-output") v
-unfolding clap_on_literals
-max_output_kept v fits = record { rows = λ rows h. noted (codes "max-output") v rows h; fault = λ rows h. rw (h, fits) refl }
-
--- what is known of an option and its value
-record Pair (u : Use) : Type 0 where
-  known : Known u.id
-  kept : Kept u.id u.value
-
-pub accepted : (most n : ℕ) (v : Text) → most < 2 ^ 64 → Writes most v n → accepts false (parser.Unsigned 1 most) v ≡ true
-accepted most n v small is =
-    Accepts-accepts false (parser.Unsigned 1 most) v
-    (is.numeral, omega (arith, is.value, is.at_most), subst (λ k. 1 ≤ k) is.value is.least, subst (λ k. k ≤ most) is.value is.at_most)
-
-pair_as : (id : Text) (u : Use) → u.id ≡ id → Known id → Kept id u.value → Pair u
-pair_as id u is known kept = record { known = subst Known (sym is) known; kept = subst (λ i. Kept i u.value) (sym is) kept }
-
-pair_of : (u : Use) → IsOption u.id u.value → Pair u
-pair_of u (inl is) = pair_as (codes "out") u is out_known (out_kept u.value)
-pair_of u (inr (inl is)) = pair_as (codes "info") u is info_known (info_kept u.value)
-pair_of u (inr (inr (inl is))) = pair_as (codes "script") u is script_known (script_kept u.value)
-pair_of u (inr (inr (inr (inl is)))) = pair_as (codes "sources") u is sources_known (sources_kept u.value)
-pair_of u (inr (inr (inr (inr (inl is))))) = pair_as (codes "sinks") u is sinks_known (sinks_kept u.value)
-pair_of u (inr (inr (inr (inr (inr (inl is)))))) = pair_as (codes "hooks") u is hooks_known (hooks_kept u.value)
-pair_of u (inr (inr (inr (inr (inr (inr (inl is))))))) = pair_as (codes "reports") u is reports_known (reports_kept u.value)
-pair_of u (inr (inr (inr (inr (inr (inr (inr (inl is)))))))) = pair_as (codes "names") u is names_known (names_kept u.value)
-pair_of u (inr (inr (inr (inr (inr (inr (inr (inr (inl is))))))))) =
-    pair_as (codes "jobs") u is.0 jobs_known (jobs_kept u.value (accepted 64 is.1.0 u.value (omega arith) is.1.1))
-pair_of u (inr (inr (inr (inr (inr (inr (inr (inr (inr is))))))))) =
-    pair_as (codes "max-output") u is.0 max_output_known (max_output_kept u.value (accepted 268435456 is.1.0 u.value (omega arith) is.1.1))
 
 has_rows : (uses : List Use) (id : Text) → has_row id (map row_for uses) ≡ has_option uses id
 has_rows [] id = refl
@@ -366,17 +285,19 @@ unfolding clap_on_literals
 goes before u [] passes are =
     record { before = before; last = u; rows = passes.rows; fault = passes.fault; end = refl; no_fault = refl }
 goes before u (n ∷ ns) passes are =
-    let pair = pair_of n are.0 in
-    let rest = goes (before ++ u ∷ []) n ns (passes_if (before ++ u ∷ []) n pair.kept are.2) are.3 in
+    let is = taken n.id n.value are.0 in
+    let o : Text × Kind = (n.id, is.kind) in
+    let k = is.known in
+    let rest = goes (before ++ u ∷ []) n ns (passes_if (before ++ u ∷ []) n (option_kept n.id n.value is) are.2) are.3 in
     let rows = map row_for before in
-    let at_name = pair.known.name rows u in
-    let at_value : walked top.rules [] (named rows u n.id) n.value ≡ standing (map row_for (before ++ u ∷ [])) n =
-    pair.known.value rows u n.value are.1 ∙ ap (λ r. standing r n) passes.rows in
+    let name = at_name top o k.by_id k.by_long k.long k.same rows u in
+    let value : walked top.rules [] (named top.rules rows u n.id) n.value ≡ standing (map row_for (before ++ u ∷ [])) n =
+    at_value top o k.by_id k.by_long k.long k.same rows u n.value are.1 ∙ ap (λ r. standing r n) passes.rows in
     let here : walked top.rules [] (walked top.rules [] (standing rows u) (45 ∷ 45 ∷ n.id)) n.value ≡ standing (map row_for (before ++ u ∷ [])) n =
-    ap (λ w. walked top.rules [] w n.value) at_name ∙ at_value in
-    let first : turn_fault top [] (standing rows u) (45 ∷ 45 ∷ n.id) ≡ [] = pair.known.name_fault rows u ∙ ap (λ ks. or_else ks []) passes.fault in
+    ap (λ w. walked top.rules [] w n.value) name ∙ value in
+    let first : turn_fault top [] (standing rows u) (45 ∷ 45 ∷ n.id) ≡ [] = name_fault top o k.by_id k.by_long k.long k.same rows u ∙ ap (λ ks. or_else ks []) passes.fault in
     let second : turn_fault top [] (walked top.rules [] (standing rows u) (45 ∷ 45 ∷ n.id)) n.value ≡ [] =
-    ap (λ w. turn_fault top [] w n.value) at_name ∙ pair.known.value_fault rows u n.value are.1 in
+    ap (λ w. turn_fault top [] w n.value) name ∙ value_fault top o k.by_id k.by_long k.long k.same rows u n.value are.1 in
     record {
       before = rest.before;
       last = rest.last;

@@ -1,49 +1,79 @@
 -- The words of a command: which are taken, and what they ask for.
-use Rattle.std.specs.Prelude.{◌≡◌, ℕ, true, List, [], ◌∷◌, map, codes, cond, Option, Some, None, option_and_then, option_map, String, string_bytes}
+use Rattle.std.specs.Prelude.{◌≡◌, ◌&&◌, ℕ, Bool, true, List, [], ◌∷◌, map, codes, cond, find, Option, Some, None, is_some, option_map, unwrap_or, String, string_bytes}
+use Rattle.std.specs.List.{list_all}
+use Rattle.std.specs.Str.{bytes_eq}
 use Rattle.std.specs.declared.alloc.Global.{Global}
 use Rattle.std.specs.Str.Parse.{digits_value, without_leading_plus}
+use Rattle.module_ast.specs.Validation.Limits.{longest_file}
 use Rattle.clap.specs.ValueTests.{is_unsigned_in}
-use Rattle.clap.specs.Words.{App, Kinds, Row, Rule, Text, fault_of, first_of, matches_of, new_app, new_rule, one_of, with_rule}
+use Rattle.clap.specs.Words.{App, Kinds, Rule, Text, fault_of, first_of, matches_of, new_app, new_rule, with_rule}
+use Rattle.clap.specs.declared.builder.value_parser.ValueParser.{ValueParser}
 use Rattle.clap.specs.declared.builder.value_parser.ValueParser.TheVariants as parser
+use Rattle.command_line.specs.declared.words.Line.{Line as ReadLine}
 
 -- texts as their bytes
 abbrev pub texts : List (String Global) → List Text
 texts words = map string_bytes words
 
+-- ---- the options
+
+-- what an option takes: any text, a text that is `default` if it is not given, or a number from 1 to `most`
+pub data Kind : Type 0 where
+  any_text : Kind
+  text_or : (default : Text) → Kind
+  number_to : (most : ℕ) → (default : Text) → Kind
+
+-- the most threads that a command may ask for
+abbrev pub most_jobs : ℕ
+most_jobs = 64
+
+-- the most bytes of an output, in decimal
+abbrev pub longest_file_digits : Text
+longest_file_digits = codes "268435456"
+
+-- each option's name, and what it takes
+abbrev pub options : List (Text × Kind)
+options =
+    (codes "out", any_text)
+    ∷ (codes "info", any_text)
+    ∷ (codes "script", any_text)
+    ∷ (codes "sources", any_text)
+    ∷ (codes "sinks", any_text)
+    ∷ (codes "hooks", text_or (codes "all"))
+    ∷ (codes "reports", text_or (codes "all"))
+    ∷ (codes "names", text_or (codes "drop"))
+    ∷ (codes "jobs", number_to most_jobs (codes "1"))
+    ∷ (codes "max-output", number_to longest_file longest_file_digits)
+    ∷ []
+
+abbrev pub option_named : (id : Text) → Option (Text × Kind)
+option_named id = find (λ o. bytes_eq o.0 id) options
+
 -- ---- the command
+
+abbrev pub defaults_of : Kind → List Text
+defaults_of any_text = []
+defaults_of (text_or default) = default ∷ []
+defaults_of (number_to most default) = default ∷ []
+
+abbrev pub parser_of : Kind → Option ValueParser
+parser_of (number_to most default) = Some (parser.Unsigned 1 most)
+parser_of _ = None
 
 -- a word that stands by itself, and has to be there
 abbrev pub wanted : (id : Text) → Rule
 wanted id = record (new_rule id) { required = true }
 
--- an option with any text
-abbrev pub text_option : (id : Text) → Rule
-text_option id = record (new_rule id) { long = Some id }
-
--- an option with words that are `default` where it is not given
-abbrev pub worded_option : (id : Text) → (default : Text) → Rule
-worded_option id default = record (text_option id) { defaults = default ∷ [] }
-
--- an option with a number from 1 to `most`
-abbrev pub number_option : (id : Text) → (most : ℕ) → (default : Text) → Rule
-number_option id most default = record (text_option id) { parser = Some (parser.Unsigned 1 most); defaults = default ∷ [] }
+abbrev pub option_rule : Text × Kind → Rule
+option_rule o = record (new_rule o.0) { long = Some o.0; parser = parser_of o.1; defaults = defaults_of o.1 }
 
 abbrev pub with_rules : App → List Rule → App
 with_rules app [] = app
 with_rules app (rule ∷ rest) = with_rules (with_rule app rule) rest
 
--- a mode, a subject, and options
-abbrev pub arguments : List Rule
-arguments =
-    wanted (codes "mode") ∷ wanted (codes "subject")
-    ∷ text_option (codes "out") ∷ text_option (codes "info") ∷ text_option (codes "script")
-    ∷ text_option (codes "sources") ∷ text_option (codes "sinks")
-    ∷ worded_option (codes "hooks") (codes "all") ∷ worded_option (codes "reports") (codes "all") ∷ worded_option (codes "names") (codes "drop")
-    ∷ number_option (codes "jobs") 64 (codes "1") ∷ number_option (codes "max-output") 268435456 (codes "268435456") ∷ []
-
 -- `wasabi MODE SUBJECT` with its options
 abbrev pub wasabi : App
-wasabi = with_rules (new_app (codes "wasabi")) arguments
+wasabi = with_rules (new_app (codes "wasabi")) (wanted (codes "mode") ∷ wanted (codes "subject") ∷ map option_rule options)
 
 -- ---- what the words ask for
 
@@ -61,34 +91,40 @@ pub record Line : Type 0 where
   pub jobs : ℕ
   pub max_output : ℕ
 
--- the number that the text under an id writes, with or without a `+`, where it is from 1 to `most`
+-- the number that a text writes, with or without a `+`, if it is from 1 to `most`
 abbrev pub number_in : (most : ℕ) → Option Text → Option ℕ
 number_in most None = None
 number_in most (Some text) = cond (is_unsigned_in 1 most text) (Some (digits_value 10 (without_leading_plus text))) None
 
--- the line in what was found under each id: none where a part is missing that has to be there
-abbrev pub line_in : List Row → Option Line
-line_in found =
-    option_and_then (λ mode. option_and_then (λ subject. option_and_then (λ hooks. option_and_then (λ reports.
-    option_and_then (λ names. option_and_then (λ jobs. option_map (λ max_output. record {
-      mode = mode;
-      subject = subject;
-      out = first_of (codes "out") found;
-      info = first_of (codes "info") found;
-      script = first_of (codes "script") found;
-      sources = first_of (codes "sources") found;
-      sinks = first_of (codes "sinks") found;
-      hooks = hooks;
-      reports = reports;
-      names = names;
-      jobs = jobs;
-      max_output = max_output;
-    })
-    (number_in 268435456 (one_of (codes "max-output") found)))
-    (number_in 64 (one_of (codes "jobs") found)))
-    (first_of (codes "names") found))
-    (first_of (codes "reports") found)) (first_of (codes "hooks") found))
-    (first_of (codes "subject") found)) (first_of (codes "mode") found)
+-- an option of this kind may have this text, or none
+abbrev pub may_have : Kind → Option Text → Bool
+may_have any_text value = true
+may_have (text_or default) value = is_some value
+may_have (number_to most default) value = is_some (number_in most value)
+
+-- the texts under the names of arguments are what these may have
+abbrev pub is_complete : (value : Text → Option Text) → Bool
+is_complete value = is_some (value (codes "mode")) && (is_some (value (codes "subject")) && list_all (λ o. may_have o.1 (value o.0)) options)
+
+-- the line of such texts
+abbrev pub line_at : (value : Text → Option Text) → Line
+line_at value = record {
+  mode = unwrap_or (value (codes "mode")) [];
+  subject = unwrap_or (value (codes "subject")) [];
+  out = value (codes "out");
+  info = value (codes "info");
+  script = value (codes "script");
+  sources = value (codes "sources");
+  sinks = value (codes "sinks");
+  hooks = unwrap_or (value (codes "hooks")) [];
+  reports = unwrap_or (value (codes "reports")) [];
+  names = unwrap_or (value (codes "names")) [];
+  jobs = unwrap_or (number_in most_jobs (value (codes "jobs"))) 1;
+  max_output = unwrap_or (number_in longest_file (value (codes "max-output"))) 1;
+}
+
+abbrev pub line_by : (value : Text → Option Text) → Option Line
+line_by value = cond (is_complete value) (Some (line_at value)) None
 
 -- where there is no fault
 abbrev pub unless : Kinds → Option Line → Option Line
@@ -97,12 +133,29 @@ unless (fault ∷ faults) line = None
 
 -- the line of words: none where the parser refuses them
 abbrev pub line_of_words : List Text → Option Line
-line_of_words words = unless (fault_of wasabi words) (line_in (matches_of wasabi words))
+line_of_words words = unless (fault_of wasabi words) (line_by (λ id. first_of id (matches_of wasabi words)))
 
 -- the words ask for this
 abbrev pub IsLine : List Text → Line → Type 0
 IsLine words line = line_of_words words ≡ Some line
 
 -- they ask for nothing
-abbrev pub IsRefused : List Text → Type 0
-IsRefused words = line_of_words words ≡ None
+abbrev pub AsksForNothing : List Text → Type 0
+AsksForNothing words = line_of_words words ≡ None
+
+-- the line that was read, as its texts
+abbrev pub line_of : ReadLine → Line
+line_of line = record {
+  mode = line.mode.now;
+  subject = line.subject.now;
+  out = option_map (λ t. t.now) line.out;
+  info = option_map (λ t. t.now) line.info;
+  script = option_map (λ t. t.now) line.script;
+  sources = option_map (λ t. t.now) line.sources;
+  sinks = option_map (λ t. t.now) line.sinks;
+  hooks = line.hooks.now;
+  reports = line.reports.now;
+  names = line.names.now;
+  jobs = line.jobs;
+  max_output = line.max_output;
+}

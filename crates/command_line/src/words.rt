@@ -1,13 +1,14 @@
 // The words of a command.
 
-ghost use Rattle.std.specs.Prelude.{◌≡◌, ◌≢◌, ◌≤◌, IfOk, IfSome, IsErrOf, codes, option_map};
-ghost use Rattle.clap.specs.Words.{first_of, found_of, kind_of, one_of, rows_of};
-ghost use Rattle.command_line.specs.Lines.{IsLine, IsRefused, line_in, number_in, texts};
-ghost use Rattle.command_line.specs.Reading.{IsPassed, line_of};
+ghost use Rattle.std.specs.Prelude.{◌≡◌, ◌≢◌, ◌≤◌, IfOk, IsErrOf, option_map};
+ghost use Rattle.clap.specs.Words.{first_of, found_of, kind_of, rows_of};
+ghost use Rattle.module_ast.specs.Validation.Limits.{longest_file};
+ghost use Rattle.command_line.specs.Lines.{AsksForNothing, IsLine, line_by, line_of, number_in, texts};
 
-use crate::command::{LONGEST_OUTPUT, MOST_JOBS, wasabi};
+use crate::command::{MOST_JOBS, wasabi};
 use clap::error::ErrorKind;
 use clap::{ArgMatches, Error};
+use module_ast::module::LONGEST_FILE;
 use std::alloc::{AllocError, Global};
 
 /// What the words of a command ask for.
@@ -27,15 +28,15 @@ pub struct Line<'w> {
     pub sources: Option<&'w str>,
     /// `--sinks`, a list of names of imports, separated by commas.
     pub sinks: Option<&'w str>,
-    /// `--hooks`, a list of groups, `all` where it is not given.
+    /// `--hooks`, a list of groups, `all` if it is not given.
     pub hooks: &'w str,
-    /// `--reports`, a list of kinds of reports, `all` where it is not given.
+    /// `--reports`, a list of kinds of reports, `all` if it is not given.
     pub reports: &'w str,
-    /// `--names`, what becomes of names, `drop` where it is not given.
+    /// `--names`, what becomes of names, `drop` if it is not given.
     pub names: &'w str,
-    /// `--jobs`, how many threads may work, 1 to 64, 1 where it is not given.
+    /// `--jobs`, how many threads may work, 1 to 64, 1 if it is not given.
     pub jobs: u32,
-    /// `--max-output`, how many bytes the output may have, 1 to 268,435,456, which it is where it is not given.
+    /// `--max-output`, how many bytes the output may have, 1 to 268,435,456, which it is if it is not given.
     pub max_output: u64,
 }
 
@@ -60,12 +61,12 @@ impl From<AllocError> for LineFault {
 
 /// Reads the words of a command, of which the first is the program's name.
 ///
-/// `Refused` comes exactly where the words ask for nothing, and `NoMemory` where there is no memory.
+/// `Refused` comes exactly if the words ask for nothing, and `NoMemory` if there is no memory.
 pub fn read_line(alloc: Global, words: &[String]) -> Result<Line<'_>, LineFault>
     ensures line { IfOk result (λ line. IsLine (texts words.now) (line_of line)) }
     ensures jobs { IfOk result (λ line. (1 ≤ line.jobs) × (line.jobs ≤ 64)) }
-    ensures bound { IfOk result (λ line. (1 ≤ line.max_output) × (line.max_output ≤ 268435456)) }
-    ensures refused { IsErrOf result LineFault.Refused → IsRefused (texts words.now) }
+    ensures bound { IfOk result (λ line. (1 ≤ line.max_output) × (line.max_output ≤ longest_file)) }
+    ensures refused { IsErrOf result LineFault.Refused → AsksForNothing (texts words.now) }
 {
     let found = match wasabi(alloc)?.try_get_matches_from(words) {
         Ok(found) => found,
@@ -87,11 +88,7 @@ fn fault_of(error: &Error) -> LineFault
 
 // The line in what the parser found.
 fn line_in<'w>(found: &ArgMatches<'w>) -> Option<Line<'w>>
-    requires jobs { IsPassed 64 (one_of (codes "jobs") (rows_of (found_of found.now))) }
-    requires most { IsPassed 268435456 (one_of (codes "max-output") (rows_of (found_of found.now))) }
-    ensures line { option_map line_of result ≡ line_in (rows_of (found_of found.now)) }
-    ensures jobs { IfSome result (λ line. (1 ≤ line.jobs) × (line.jobs ≤ 64)) }
-    ensures bound { IfSome result (λ line. (1 ≤ line.max_output) × (line.max_output ≤ 268435456)) }
+    ensures { option_map line_of result ≡ line_by (λ id. first_of id (rows_of (found_of found.now))) }
 {
     Some(Line {
         mode: text_in(found, "mode")?,
@@ -100,7 +97,7 @@ fn line_in<'w>(found: &ArgMatches<'w>) -> Option<Line<'w>>
         reports: text_in(found, "reports")?,
         names: text_in(found, "names")?,
         jobs: number_in(found, "jobs", MOST_JOBS)? as u32,
-        max_output: number_in(found, "max-output", LONGEST_OUTPUT)?,
+        max_output: number_in(found, "max-output", LONGEST_FILE)?,
         out: text_in(found, "out"),
         info: text_in(found, "info"),
         script: text_in(found, "script"),
@@ -116,11 +113,12 @@ fn text_in<'w>(found: &ArgMatches<'w>, id: &str) -> Option<&'w str>
     found.get_str(id)
 }
 
-// The number under an id, which the parser let pass where it is from 1 to `most`.
+// The number under an id, if it is from 1 to `most`. The parser lets no other pass.
 fn number_in(found: &ArgMatches<'_>, id: &str, most: u64) -> Option<u64>
-    requires { IsPassed most (one_of id.now (rows_of (found_of found.now))) }
-    ensures number { result ≡ number_in most (one_of id.now (rows_of (found_of found.now))) }
-    ensures range { IfSome result (λ number. (1 ≤ number) × (number ≤ most)) }
+    ensures { result ≡ number_in most (first_of id.now (rows_of (found_of found.now))) }
 {
-    found.get_one::<u64>(id)
+    match text_in(found, id)?.parse::<u64>() {
+        Ok(number) if 1 <= number && number <= most => Some(number),
+        _ => None,
+    }
 }

@@ -1,15 +1,12 @@
-use Rattle.std.proofs.Common.{◌∙◌}
-use Rattle.std.specs.Str.Parse.{ParsesUnsigned, ExplainsUnsignedError, HasUnsignedDigitsIfOk}
-use Rattle.clap.specs.Words.{found_of, one_of, rows_of}
-use Rattle.clap.proofs.WalkLemmas.{one_text-rows}
-use Rattle.command_line.proofs.Found.{number_found, number_range}
+use Rattle.std.proofs.Common.{◌∙◌, ap, arith, sym}
+use Rattle.command_line.specs.Lines.{number_in}
+use Rattle.command_line.proofs.Parsed.{no_number, parsed_number}
 use Rattle.command_line.proofs.words.number_in.Goals as goal
 
-pub returns : goal.returns
-returns c =
-    let found = found_of c.args.found.now in
-    let id = c.args.id.now in
-    let same = one_text-rows found id in
-    let is = number_found (λ bs r. ParsesUnsigned 64 10 bs r × ExplainsUnsignedError 10 bs r × HasUnsignedDigitsIfOk bs r) (λ t r g. g.0)
-    c.args.most (one_of id (rows_of found)) c.get_one.result (λ none. c.get_one.ensures.none (same ∙ none)) (λ t some. c.get_one.ensures.value t (same ∙ some)) c.requires in
-    record { number = is; range = number_range c.args.most (one_of id (rows_of found)) c.get_one.result is c.requires }
+pub returns-in-Ok : goal.returns-in-Ok
+returns-in-Ok c =
+    sym (parsed_number c.args.most c.in-Ok.number c.in_ok-text_in.field-0.now c.in-Ok.ensures.value.0 (omega (arith, c.if-number-ge1.true)) (omega (arith, c.if-number-most.true)))
+    ∙ ap (number_in c.args.most) c.in_ok-text_in.ensures
+
+pub returns-in_default-3 : goal.returns-in_default-3
+returns-in_default-3 c = sym (no_number c.args.most c.in_ok-text_in.field-0.now c.in_default.ensures.value.0) ∙ ap (number_in c.args.most) c.in_ok-text_in.ensures

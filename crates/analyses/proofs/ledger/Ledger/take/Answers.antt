@@ -4,7 +4,7 @@ use Rattle.analyses.proofs.ledger.Ledger.take.Goals as goal
 use Rattle.analyses.proofs.ledger.Ledger.take.Goals.{in-Some+in_ok-count_under, in_default}
 
 pub count_under-requires : goal.count_under-requires
-count_under-requires c = let so_many : c.self.inside.taken ≡ c.args.self.now.so_many = ap (λ s. s.so_many) c.self.view_is in (c.self.inside.taken, omega (arith, so_many), c.self.invariant)
+count_under-requires c = let event_count : c.self.inside.taken ≡ c.args.self.now.event_count = ap (λ s. s.event_count) c.self.view_is in (c.self.inside.taken, omega (arith, event_count), c.self.invariant)
 
 pub invariant_of-self-2 : goal.invariant_of-self-2
 invariant_of-self-2 c = elim c.match-heading_of.branch [
