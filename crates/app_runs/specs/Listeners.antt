@@ -1,4 +1,4 @@
--- Why the analyses, a writer of traces, a tree of calls and a shadow may hear of a run.
+-- Why the analyses, a writer of traces, a tree of calls and a shadow are listeners of a run.
 use Rattle.std.specs.Prelude.{alloc_error}
 use Rattle.std.specs.declared.alloc.AllocError.{AllocError}
 use Rattle.std.proofs.Common.{◌≡◌, ℕ, ◌+◌, ◌<◌, ◌^◌, List, [], ◌++◌, length, All, is_some, is_none, refl, sym, ap, ap₂, subst, ◌∙◌, arith, add-zero, length-append}
@@ -18,17 +18,18 @@ use Rattle.shadow_replay.specs.Items.{AreFitFor, TakesAll, TakesFirst}
 use Rattle.shadow_replay.specs.Replayed.{Replay}
 use Rattle.shadow_replay.proofs.Taken.{takes_none, takes_then, fit_front, fit_rest, first_none, first_more, first_then}
 use Rattle.analyses.specs.Tools.{ToolState}
-use Rattle.app_plan.specs.declared.kinds.Kinds.{Kinds}
-use Rattle.app_plan.specs.Feeding.{fed, AreFedPart}
-use Rattle.app_plan.proofs.Fed.{none_fed, none_part, all_then, parts_early, parts_late, rooms_front, rooms_rest, fewer, passed_then}
+use Rattle.app_load.specs.declared.kinds.Kinds.{Kinds}
+use Rattle.app_load.specs.Feeding.{fed, AreFedPart}
+use Rattle.app_load.proofs.Fed.{none_fed, none_part, all_then, parts_early, parts_late, rooms_front, rooms_rest, fewer, passed_then}
 use Rattle.app_runs.specs.declared.feeding.Tally.{Tally}
 use Rattle.app_runs.specs.Feeding.{tally_of, tallied, FedState, TakesEvents, ToolsHaveRoom, StandsFed}
 use Rattle.app_runs.specs.Listening.{Listens}
-use Rattle.app_runs.specs.Recording.{Writes, MayWrite, StandsWritten}
+use Rattle.app_runs.specs.Recording.{WritesEvents, MayWrite, StandsWritten}
 use Rattle.app_runs.specs.Treeing.{TreeGrows, MayGrow, StandsGrown}
 
--- ---- what hears of events alone
+-- ---- listeners that hear events alone
 
+-- what listens to events also listens to items, and takes the events among the items
 pub by_events : (S F : Type 0) (hears : List Event → S → S → Type 0) (ready : List Event → S → Type 0) (stands : List Event → S → F → S → Type 0) (wants : F → Type 0)
     → Listens Event S F hears ready stands wants
     → Listens TraceItem S F (λ is. hears (events_in is)) (λ is. ready (events_in is)) (λ is. stands (events_in is)) wants
@@ -42,7 +43,7 @@ by_events S F hears ready stands wants l = record {
   late = λ xs ys a b c f t s. subst (λ es. stands es a f c) (sym (events_append xs ys)) (l.late (events_in xs) (events_in ys) a b c f t s);
 }
 
--- events bring it from one state to another: items without events change nothing
+-- if only events bring a listener from one state to another, items without events change nothing
 pub by_no_events : (S : Type 0) (hears : List Event → S → S → Type 0) → ((a : S) → hears [] a a) → (is : List TraceItem) (a : S) → events_in is ≡ [] → hears (events_in is) a a
 by_no_events S hears none is a silent = subst (λ es. hears es a a) (sym silent) (none a)
 
@@ -79,7 +80,7 @@ room_rest es fs a b r t =
     let events = ap (λ (u : Tally). u.events) t.counted in
     let strays = ap (λ (u : Tally). u.strays) t.counted in
     record {
-      tools = subst (All (λ (t : ToolState). t.so_many + length fs < 2 ^ 64)) (sym t.taken) (rooms_rest (2 ^ 64) a.pick es fs a.tools r.tools);
+      tools = subst (All (λ (t : ToolState). t.event_count + length fs < 2 ^ 64)) (sym t.taken) (rooms_rest (2 ^ 64) a.pick es fs a.tools r.tools);
       events = omega (arith, length-append es fs, events, r.events, fewer (λ e. is_some (group_of e)) es);
       strays = omega (arith, length-append es fs, strays, r.strays, fewer (λ e. is_none (group_of e)) es);
     }
@@ -104,10 +105,10 @@ tools_listen =
 
 -- ---- a writer of traces
 
-pub writer_listens : Listens TraceItem Writing TraceFault (λ is. Writes (events_in is)) (λ is. MayWrite (events_in is)) (λ is. StandsWritten (events_in is))
+pub writer_listens : Listens TraceItem Writing TraceFault (λ is. WritesEvents (events_in is)) (λ is. MayWrite (events_in is)) (λ is. StandsWritten (events_in is))
     (λ f. f ≡ writer_faults.NoMemory)
 writer_listens =
-    by_events Writing TraceFault Writes MayWrite StandsWritten (λ f. f ≡ writer_faults.NoMemory)
+    by_events Writing TraceFault WritesEvents MayWrite StandsWritten (λ f. f ≡ writer_faults.NoMemory)
     (record {
       none = λ a. refl;
       both = both_written;

@@ -5,12 +5,12 @@ use Rattle.leb_binary.specs.Leb.{IsInSize}
 use Rattle.wasm_sem.specs.Types.{Module}
 use Rattle.module_ast.specs.declared.module.Which.TheVariants.{Functions, Locals, Nesting, Parameters, Types}
 use Rattle.module_ast.specs.Binary.{module_bytes, Fits, FitsBody, FitsElement, FitsExport, FitsGlobal, FitsImport, FitsIndex, FitsRange, FitsSegment, IsWithin}
-use Rattle.module_ast.specs.Validation.{narrow, wide, IsValid}
+use Rattle.module_ast.specs.Validation.{narrow, wide, IsValid, longest_narrow_file}
 use Rattle.module_ast.proofs.WrittenModules.{module_spelled}
 use Rattle.wasm_sem.specs.declared.HostAnswer.{HostAnswer}
 use Rattle.wasm_sem.specs.Execution.{IsFree, IsScriptInRange, IsWriteInRange, Links}
-use Rattle.app_plan.specs.Files.{IsFit}
-use Rattle.app_plan.proofs.Files.{one_module}
+use Rattle.app_load.specs.Files.{IsFit}
+use Rattle.app_load.proofs.Files.{one_module}
 use Rattle.wasabi_app.specs.Trying.{IsTriable}
 use Rattle.app_tests.specs.Storing.{called_once, storing, storing_one, storing_two}
 
@@ -55,8 +55,8 @@ narrow_two Nesting = (omega arith, tt)
 pub two_narrow : (m : Module) → m ≡ storing_two → IsWithin narrow m
 two_narrow m is = subst (IsWithin narrow) (sym is) narrow_two
 
-pub two_short : (m : Module) → m ≡ storing_two → length (module_bytes m) ≤ 16777216
-two_short m is = subst (λ (x : Module). length (module_bytes x) ≤ 16777216) (sym is) (omega (arith, short_two))
+pub two_short : (m : Module) → m ≡ storing_two → length (module_bytes m) ≤ longest_narrow_file
+two_short m is = subst (λ (x : Module). length (module_bytes x) ≤ longest_narrow_file) (sym is) (omega (arith, short_two))
 
 -- it may get hooks
 pub two_triable : (m : Module) → m ≡ storing_two → IsValid m → IsFree m → IsTriable m

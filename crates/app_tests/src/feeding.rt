@@ -5,11 +5,11 @@ ghost use Rattle.wasm_sem.specs.Execution.{IsScriptInRange};
 ghost use Rattle.static_info.specs.Belongs.{Belongs};
 ghost use Rattle.static_info.specs.Form.{IsWellFormed};
 ghost use Rattle.analyses.specs.Tools.{ToolState};
-ghost use Rattle.app_plan.specs.Feeding.{fresh_tools};
+ghost use Rattle.app_load.specs.Feeding.{fresh_tools};
 
 use crate::commands::{CALL, fails_of, status_of, taken_by};
 use analyses::{Analysis, Blocks, Branches, CallGraph, Kind, MemoryUse};
-use app_plan::Kinds;
+use app_load::Kinds;
 use app_runs::{Tally, feed};
 use module_ast::module::Limits;
 use outside_io::{MemoryShelf, MemorySink};
@@ -53,7 +53,7 @@ fn fed_tally(
 ) -> Result<Option<Tally>, AllocError>
     requires formed { IsWellFormed info.now }
     requires belongs { Belongs info.now session.old.module }
-    requires room { All (λ (t : ToolState). t.so_many ≤ 2 ^ 63) (map state tools.old.items) }
+    requires room { All (λ (t : ToolState). t.event_count ≤ 2 ^ 63) (map state tools.old.items) }
 {
     let pick = Kinds::none().with(Kind::Blocks).with(Kind::Calls);
     let mut tally = Tally {

@@ -1,13 +1,13 @@
 // A shadow that takes what a session of another module tells.
 
 ghost use Rattle.std.specs.Prelude.{◌≡◌, ◌≤◌, IfOk, OnOk, length};
-ghost use Rattle.module_ast.specs.Validation.{wide, IsValid};
+ghost use Rattle.module_ast.specs.Validation.{wide, IsValid, longest_file};
 ghost use Rattle.wasm_sem.specs.Execution.{IsFree};
 ghost use Rattle.run_session.specs.Sessions.{opened_run};
 ghost use Rattle.static_info.specs.Belongs.{Belongs};
 ghost use Rattle.static_info.specs.Form.{IsWellFormed};
-ghost use Rattle.instrument.specs.Made.{IsMade, longest_output};
-ghost use Rattle.app_plan.specs.Files.{IsFit};
+ghost use Rattle.instrument.specs.Made.{IsMade};
+ghost use Rattle.app_load.specs.Files.{IsFit};
 ghost use Rattle.wasabi_app.specs.Making.{output_length};
 ghost use Rattle.wasabi_app.specs.Modes.Trial.{all_hooks};
 ghost use Rattle.app_tests.specs.Storing.{called_once, hooked_two, info_two, storing_one, storing_two};
@@ -15,7 +15,7 @@ ghost use Rattle.app_tests.specs.Storing.{called_once, hooked_two, info_two, sto
 use app_runs::follow_out;
 use hook_select::Hooks;
 use instrument::{Made, instrument};
-use module_ast::module::Limits;
+use module_ast::module::{LONGEST_FILE, Limits};
 use module_ast::name::Name;
 use module_ast::seq::Seq;
 use rewrite::PlainRewriter;
@@ -50,16 +50,13 @@ const STORING_TWO: [u8; 43] = [
     0x0A, 0x0B, 0x01, 0x09, 0x00, 0x41, 0x00, 0x41, 0x02, 0x3A, 0x00, 0x00, 0x0B, // code
 ];
 
-// How many bytes the output may have.
-const LONGEST_OUTPUT: u64 = 268_435_456;
-
 // The valid module with these bytes.
 pub(crate) fn read<R: Threads + Sync>(
     rt: &R,
     alloc: Global,
     file: &[u8],
 ) -> Result<ValidModule, NoMemory>
-    requires short { length file.now ≤ longest_output }
+    requires short { length file.now ≤ longest_file }
     ensures fit { IfOk result (λ v. IsFit wide file.now v) }
     ensures valid { IfOk result (λ v. IsValid v) }
 {
@@ -135,18 +132,10 @@ fn linked_byte(
 fn hooked<R: Threads + Sync>(rt: &R, alloc: Global, m: &ValidModule) -> Result<Made, NoMemory>
     requires { m.now ≡ storing_two }
     ensures made { IfOk result (λ made. IsMade m.now all_hooks made.bytes.items made.info) }
-    ensures few { OnOk result (output_length m.now all_hooks ≤ longest_output) }
+    ensures few { OnOk result (output_length m.now all_hooks ≤ longest_file) }
     ensures free { OnOk result (IsFree m.now) }
 {
-    match instrument(
-        rt,
-        alloc,
-        m,
-        Hooks::all(),
-        1,
-        LONGEST_OUTPUT,
-        &PlainRewriter,
-    ) {
+    match instrument(rt, alloc, m, Hooks::all(), 1, LONGEST_FILE, &PlainRewriter) {
         Ok(made) => Ok(made),
         Err(_) => Err(AllocError),
     }
@@ -182,7 +171,7 @@ fn made_byte<R: Threads + Sync>(
     requires valid { IsValid other.now }
     requires free { IsFree other.now }
     requires made { IsMade other.now all_hooks hooked.now.bytes.items hooked.now.info }
-    requires few { output_length other.now all_hooks ≤ longest_output }
+    requires few { output_length other.now all_hooks ≤ longest_file }
 {
     let output = read(rt, alloc, hooked.bytes.as_slice())?;
     called_byte(alloc, own, &output, &hooked.info)

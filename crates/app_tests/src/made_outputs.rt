@@ -6,6 +6,7 @@ ghost use Rattle.module_gen.specs.Made.{made};
 use crate::commands::{fails_of, status_of};
 use hook_select::Hooks;
 use instrument::instrument;
+use module_ast::module::LONGEST_FILE;
 use module_gen::make;
 use outside_io::{MemoryShelf, MemorySink};
 use rewrite::PlainRewriter;
@@ -14,9 +15,6 @@ use std::test;
 use std::thread::Threads;
 use wasm_num::NoMemory;
 use wasm_valid::{ValidModule, validate};
-
-// The most bytes of an output.
-const LONGEST: u64 = 268_435_456;
 
 // The valid module that a number makes.
 fn valid_of<R: Threads + Sync>(rt: &R, alloc: Global, number: u64) -> Result<ValidModule, NoMemory>
@@ -32,7 +30,15 @@ fn valid_of<R: Threads + Sync>(rt: &R, alloc: Global, number: u64) -> Result<Val
 // Its file: its output where no group is selected.
 fn file_of<R: Threads + Sync>(rt: &R, alloc: Global, number: u64) -> Result<Vec<u8>, NoMemory> {
     let valid = valid_of(rt, alloc, number)?;
-    match instrument(rt, alloc, &valid, Hooks::none(), 1, LONGEST, &PlainRewriter) {
+    match instrument(
+        rt,
+        alloc,
+        &valid,
+        Hooks::none(),
+        1,
+        LONGEST_FILE,
+        &PlainRewriter,
+    ) {
         Ok(made) => Ok(made.bytes),
         Err(_) => Err(AllocError),
     }

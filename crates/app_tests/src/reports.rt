@@ -3,7 +3,7 @@
 ghost use Rattle.std.specs.Prelude.{◌≡◌, map};
 ghost use Rattle.analyses.specs.Tools.{fresh_tool};
 ghost use Rattle.analyses.specs.declared.Kind.TheVariants as kinds;
-ghost use Rattle.app_plan.specs.Feeding.{fresh_tools};
+ghost use Rattle.app_load.specs.Feeding.{fresh_tools};
 
 use crate::commands::{CALL, fails_of, status_of, taken_by, words_of};
 use analyses::{Analysis, Blocks, Branches, CallGraph, Kind, MemoryUse, Row};

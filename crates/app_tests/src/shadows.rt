@@ -1,20 +1,22 @@
 // All bytes of a shadow's memory, when it has taken what the output of its module told.
 
 ghost use Rattle.std.specs.Prelude.{◌≡◌, ◌≤◌, IfOk, OnOk};
+ghost use Rattle.module_ast.specs.Validation.Limits.{longest_file};
 ghost use Rattle.wasm_sem.specs.Execution.{IsFree, IsScriptInRange, Links};
-ghost use Rattle.instrument.specs.Made.{IsMade, longest_output};
+ghost use Rattle.instrument.specs.Made.{IsMade};
 ghost use Rattle.wasabi_app.specs.Making.{output_length};
 ghost use Rattle.wasabi_app.specs.Modes.Trial.{all_hooks};
 ghost use Rattle.wasabi_app.specs.Warning.{ArePaired, IsFollowable};
 
 use crate::commands::fails_of;
 use crate::following::read;
-use app_plan::load;
+use app_load::load;
 use app_runs::follow_out;
 use hook_select::Hooks;
 use instrument::{Made, instrument};
-use module_ast::module::Limits;
+use module_ast::module::{LONGEST_FILE, LONGEST_NARROW_FILE, Limits};
 use outside_io::MemoryShelf;
+use par_phase::Jobs;
 use rewrite::PlainRewriter;
 use run_session::{Session, read_script};
 use shadow_replay::Shadow;
@@ -41,11 +43,6 @@ const GROWING: [u8; 62] = [
 const SCRIPT: &str =
     r#"{"calls":[{"export":"g","args":[1]},{"export":"g","args":[1]},{"export":"s","args":[131071]},{"export":"s","args":[131072]}],"pages":2}"#;
 
-// The most bytes of a subject, and of an output.
-const LONGEST_SUBJECT: u64 = 16_777_216;
-
-const LONGEST_OUTPUT: u64 = 268_435_456;
-
 // The valid module of a file, which may get hooks.
 fn loaded<R: Threads + Sync>(rt: &R, alloc: Global, file: &[u8]) -> Result<ValidModule, NoMemory>
     ensures { IfOk result (λ m. IsFollowable m) }
@@ -56,9 +53,9 @@ fn loaded<R: Threads + Sync>(rt: &R, alloc: Global, file: &[u8]) -> Result<Valid
         rt,
         alloc,
         "a.wasm",
-        LONGEST_SUBJECT,
+        LONGEST_NARROW_FILE,
         &Limits::narrow(),
-        1,
+        Jobs::new(1),
         &mut shelf,
     ) {
         Ok(valid) => Ok(valid),
@@ -70,18 +67,10 @@ fn loaded<R: Threads + Sync>(rt: &R, alloc: Global, file: &[u8]) -> Result<Valid
 fn hooked<R: Threads + Sync>(rt: &R, alloc: Global, m: &ValidModule) -> Result<Made, NoMemory>
     requires { IsFollowable m.now }
     ensures made { IfOk result (λ made. IsMade m.now all_hooks made.bytes.items made.info) }
-    ensures few { OnOk result (output_length m.now all_hooks ≤ longest_output) }
+    ensures few { OnOk result (output_length m.now all_hooks ≤ longest_file) }
     ensures free { OnOk result (IsFree m.now) }
 {
-    match instrument(
-        rt,
-        alloc,
-        m,
-        Hooks::all(),
-        1,
-        LONGEST_OUTPUT,
-        &PlainRewriter,
-    ) {
+    match instrument(rt, alloc, m, Hooks::all(), 1, LONGEST_FILE, &PlainRewriter) {
         Ok(made) => Ok(made),
         Err(_) => Err(AllocError),
     }
@@ -145,7 +134,7 @@ fn read_and_linked<R: Threads + Sync>(
     requires followable { IsFollowable m.now }
     requires free { IsFree m.now }
     requires made { IsMade m.now all_hooks hooked.now.bytes.items hooked.now.info }
-    requires few { output_length m.now all_hooks ≤ longest_output }
+    requires few { output_length m.now all_hooks ≤ longest_file }
 {
     let output = read(rt, alloc, hooked.bytes.as_slice())?;
     linked(alloc, m, &hooked.info, &output, script)

@@ -21,7 +21,7 @@ fewer : (m n : ℕ) (gs : List (ℕ × Growth)) → m ≤ n → MayCountAll n gs
 fewer m n gs few room =
     (omega (arith, few, room.0), All-weaker (MayCount n) (MayCount m) (λ g r. (omega (arith, few, r.0), omega (arith, few, r.1))) (values_of gs) room.1)
 
--- a growth takes the room of one
+-- one growth takes the room of one
 room_of_one : (n : ℕ) (o : Option Growth) (refused : Bool) → n + 1 < 2 ^ 64 → IfSome o (MayCount (n + 1)) → MayCount n (once_more o refused)
 room_of_one n None true few room = (omega (arith, few), omega (arith, few))
 room_of_one n None false few room = (omega (arith, few), omega (arith, few))

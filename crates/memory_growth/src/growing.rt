@@ -23,11 +23,13 @@ use wasm_valid::ValidModule;
 /// How often a function executed `memory.grow`, and how often the answer was -1. (Standard, 4.4.4)
 #[derive(Clone, Copy, Debug, PartialEq, Eq)]
 pub struct Growth {
+    /// How often the function executed `memory.grow`.
     pub times: u64,
+    /// How often the answer was -1.
     pub refused: u64,
 }
 
-// One more, behind those so far.
+// The growths of a function after one more.
 fn once_more(before: Option<Growth>, refused: bool) -> Growth
     requires times { IfSome before (λ g. g.times + 1 < 2 ^ 64) }
     requires refused { IfSome before (λ g. g.refused + 1 < 2 ^ 64) }
@@ -43,14 +45,15 @@ fn once_more(before: Option<Growth>, refused: bool) -> Growth
     }
 }
 
-// What each function has done so far.
+// The growths of each function so far, by the index of the function.
 #[derive(Drop)]
 struct Growths {
     functions: BTreeMap<u32, Growth>,
 }
 
 impl Growths {
-    // Counts one more of a function. An `Err` comes if there is no memory for a new function, and changes nothing.
+    // Counts one more growth of a function. An `Err` comes if there is no memory for a new function. After an `Err`
+    // nothing has changed.
     fn count(&mut self, func: u32, refused: bool) -> Result<(), NoMemory>
         requires { MayCountAll 1 self.old.functions.entries }
         ensures counted { OnOk result (self.new.functions.entries ≡ with_growth (Some (func, refused)) self.old.functions.entries) }
@@ -98,16 +101,20 @@ impl Listener for Growths {
     ghost unasked = { λ off. by_no_events (List (ℕ × Growth)) Counts growths_listen.none };
 }
 
-/// What came of a run, and which functions grew the memory in it, by rising function.
+/// What a run came to, and which functions grew the memory in it.
 #[derive(Drop)]
 pub struct Grown {
+    /// What the run came to.
     pub outcome: Outcome,
+    /// The growths of each function that grew the memory, by the index of the function in the original.
     pub functions: BTreeMap<u32, Growth>,
 }
 
-/// Links a module with a script and runs it, to the end or for the script's steps; what came of it, with the functions
-/// of the original that its hook calls tell to have grown the memory: none if it has no hooks of the group
-/// `memory_grow`. An `Err` says why the two do not link, or comes if there is no memory.
+/// Links a module with a script, and runs it to the end or for the script's steps. The answer is what the run came to,
+/// and the growths of the functions of the original that the module's hook calls tell to have grown the memory. There
+/// are none if the module has no hooks of the group `memory_grow`.
+///
+/// An `Err` tells why the module and the script do not link, or comes if there is no memory.
 pub fn growth_of_run(
     alloc: Global,
     m: &ValidModule,

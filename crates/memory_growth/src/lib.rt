@@ -1,4 +1,4 @@
-// Which functions grow the memory: a tool over runs, in a crate of its own.
+// Tells which functions grow the memory: a tool over runs, in a crate of its own.
 #![tactic(auto)]
 
 mod growing;

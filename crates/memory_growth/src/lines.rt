@@ -7,7 +7,6 @@ use crate::growing::Growth;
 use std::alloc::{AllocError, Global};
 use std::collections::BTreeMap;
 
-// Appends the line of a function.
 fn push_line(text: &mut String, func: u32, growth: &Growth) -> Result<(), AllocError>
     ensures { OnOk result (string_bytes text.new ≡ string_bytes text.old ++ growth_line (func, growth.now)) }
 {
@@ -15,7 +14,10 @@ fn push_line(text: &mut String, func: u32, growth: &Growth) -> Result<(), AllocE
     write!(text, "function {func}: {refused} of {times} refused\n")
 }
 
-/// A line for each function that grew the memory, by rising function, as `function 3: 1 of 2 refused`.
+/// A line for each function that grew the memory, by rising function, such as `function 3: 1 of 2 refused`. The line
+/// tells the index of the function, how many growths the answer -1 refused, and how many growths there were.
+///
+/// An `Err` comes if there is no memory for the text.
 pub fn growth_text(alloc: Global, functions: &BTreeMap<u32, Growth>) -> Result<String, AllocError>
     ensures { IfOk result (λ text. string_bytes text ≡ growths_text functions.now.entries) }
 {

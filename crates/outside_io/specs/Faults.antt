@@ -1,5 +1,5 @@
 -- Which fault an error of the machine is, and how a machine's counts of faults rise.
-use Rattle.std.specs.Prelude.{◌+◌, ℕ, min, Result, Ok, Err}
+use Rattle.std.specs.Prelude.{ℕ, None, Result, Ok, Err}
 use Rattle.std.specs.declared.io.ErrorKind.{ErrorKind}
 use Rattle.std.specs.declared.io.ErrorKind.TheVariants.{NotFound, OutOfMemory}
 use Rattle.outside_io.specs.declared.outside.ReadFault.{ReadFault}
@@ -8,7 +8,7 @@ use Rattle.outside_io.specs.declared.outside.SinkFault.{SinkFault}
 use Rattle.outside_io.specs.declared.outside.ReadFault.TheVariants as read
 use Rattle.outside_io.specs.declared.outside.WriteFault.TheVariants as write
 use Rattle.outside_io.specs.declared.outside.SinkFault.TheVariants as sink
-use Rattle.outside_io.specs.Outside.{last_count}
+use Rattle.outside_io.specs.Outside.{raised_count, ShelfState, PrintState}
 
 -- the fault of a read that met an error of this kind
 abbrev pub read_fault_of : ErrorKind → ReadFault
@@ -25,10 +25,6 @@ write_fault_of _ = write.Failed
 abbrev pub sink_fault_of : ErrorKind → SinkFault
 sink_fault_of OutOfMemory = sink.NoMemory
 sink_fault_of _ = sink.Failed
-
--- one more, and no more than the last count
-abbrev pub raised_count : ℕ → ℕ
-raised_count count = min (count + 1) last_count
 
 -- the count after a read with this answer: each refusal is counted but for the end of memory
 abbrev pub after_read : {T : Type 0} → Result T ReadFault → ℕ → ℕ
@@ -47,3 +43,12 @@ abbrev pub after_put : {T : Type 0} → Result T SinkFault → ℕ → ℕ
 after_put (Ok _) count = count
 after_put (Err sink.NoMemory) count = count
 after_put (Err sink.Failed) count = raised_count count
+
+-- what contracts see of the files of a machine, with these counts
+abbrev pub seen_files : (reads writes read_faults write_faults : ℕ) → ShelfState
+seen_files reads writes read_faults write_faults =
+    record { contents = None; reads = reads; writes = writes; read_faults = read_faults; write_faults = write_faults }
+
+-- and of its standard output
+abbrev pub seen_output : (prints faults : ℕ) → PrintState
+seen_output prints faults = record { text = None; prints = prints; faults = faults }

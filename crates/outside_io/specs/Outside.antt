@@ -1,13 +1,22 @@
 -- What is outside: files by their names, and text that is printed.
-use Rattle.std.specs.Prelude.{◌≡◌, ◌≢◌, ℕ, ◌^◌, ◌-◌, ◌<◌, ◌⊎◌, List, ◌++◌, length, Option, Some, None}
+use Rattle.std.specs.Prelude.{◌≡◌, ◌≢◌, ℕ, zero, suc, ◌^◌, ◌+◌, ◌-◌, ◌<◌, ◌≤◌, min, ◌⊎◌, List, ◌++◌, length, Option, Some, None}
 
 -- what stands under each name, where something does
 abbrev pub Contents : Type 0
 Contents = List ℕ → Option (List ℕ)
 
--- the greatest value of a count of faults, where it stands still
+-- the greatest value of a count, where it stands still
 abbrev pub last_count : ℕ
 last_count = 2 ^ 64 - 1
+
+-- one more, and no more than the last count
+abbrev pub raised_count : ℕ → ℕ
+raised_count count = min (count + 1) last_count
+
+-- a count of calls, after so many more
+abbrev pub after_calls : (calls count : ℕ) → ℕ
+after_calls zero count = count
+after_calls (suc calls) count = after_calls calls (raised_count count)
 
 -- a count rose, as far as it can tell
 abbrev pub Rose : (old new : ℕ) → Type 0
@@ -71,3 +80,40 @@ Printed bytes _ _ = ⊥
 -- by a prefix of these
 abbrev pub PrintedPart : List ℕ → (old new : Option (List ℕ)) → Type 0
 PrintedPart bytes old new = (part : List ℕ) × IsPrefixOf part bytes × Printed part old new
+
+-- ---- what contracts see of a shelf and of a sink
+
+-- a shelf: its contents, if it tells them, how many reads and writes were made, and how many of each were refused because the outside
+-- failed
+pub record ShelfState : Type 0 where
+  pub contents : Option Contents
+  pub reads : ℕ
+  pub writes : ℕ
+  pub read_faults : ℕ
+  pub write_faults : ℕ
+
+-- so many reads were made, and nothing else
+pub record OnlyRead (calls : ℕ) (old new : ShelfState) : Type 0 where
+  pub contents : Unchanged old.contents new.contents
+  pub reads : new.reads ≡ after_calls calls old.reads
+  pub writes : new.writes ≡ old.writes
+  pub read_faults : old.read_faults ≤ new.read_faults
+  pub write_faults : new.write_faults ≡ old.write_faults
+
+-- so many writes were made, and no reads
+pub record OnlyWrote (calls : ℕ) (old new : ShelfState) : Type 0 where
+  pub reads : new.reads ≡ old.reads
+  pub writes : new.writes ≡ after_calls calls old.writes
+  pub read_faults : new.read_faults ≡ old.read_faults
+  pub write_faults : old.write_faults ≤ new.write_faults
+
+-- a sink: what was printed, if it tells it, how many prints were made, and how many were refused because the outside failed
+pub record PrintState : Type 0 where
+  pub text : Option (List ℕ)
+  pub prints : ℕ
+  pub faults : ℕ
+
+-- so many prints were made
+pub record OnlyPrinted (calls : ℕ) (old new : PrintState) : Type 0 where
+  pub prints : new.prints ≡ after_calls calls old.prints
+  pub faults : old.faults ≤ new.faults

@@ -7,21 +7,24 @@ use Rattle.std.specs.Ordering.{nat_cmp}
 use Rattle.std.specs.Cmp.Lexicographic.{slice_cmp}
 use Rattle.std.specs.declared.alloc.Global.{Global}
 use Rattle.outside_io.specs.Calls.{CallCount}
-use Rattle.outside_io.specs.Outside.{Contents}
+use Rattle.outside_io.specs.Outside.{Contents, ShelfState, PrintState}
 use Rattle.outside_io.specs.declared.outside.ReadFault.{ReadFault}
 use Rattle.outside_io.specs.declared.outside.ReadFault.TheVariants.{Missing, TooLong, NoMemory}
 
--- a shelf in memory: its names with their bytes, its calls, and its counts of faults
+-- a shelf in memory: its names with their bytes, its calls, and its counts of reads, of writes and of faults
 pub record ShelfInMemory : Type 0 where
   pub held : List (String Global × Vec ℕ Global)
   pub calls : CallCount
+  pub reads : ℕ
+  pub writes : ℕ
   pub read_faults : ℕ
   pub write_faults : ℕ
 
--- a sink in memory: what was printed, its calls, and its count of faults
+-- a sink in memory: what was printed, its calls, and its counts of prints and of faults
 pub record SinkInMemory : Type 0 where
   pub printed : List ℕ
   pub calls : CallCount
+  pub prints : ℕ
   pub faults : ℕ
 
 -- the bytes under each name
@@ -32,6 +35,14 @@ map_contents held name =
 -- a shelf in memory tells what is under each name
 abbrev pub contents_of : List (String Global × Vec ℕ Global) → Option Contents
 contents_of held = Some (map_contents held)
+
+abbrev pub seen_shelf : ShelfInMemory → ShelfState
+seen_shelf s =
+    record { contents = contents_of s.held; reads = s.reads; writes = s.writes; read_faults = s.read_faults; write_faults = s.write_faults }
+
+-- and a sink in memory what was printed
+abbrev pub seen_sink : SinkInMemory → PrintState
+seen_sink s = record { text = Some s.printed; prints = s.prints; faults = s.faults }
 
 -- the answer of a read that does not fail: by what is under the name, and by the cap
 abbrev pub AnswersRead : {Z : Type 0} → Option (List ℕ) → ℕ → Result (Vec ℕ Z) ReadFault → Type 0

@@ -13,20 +13,24 @@ use std::rt::Files;
 #[derive(Drop)]
 pub struct HostShelf<'r, R: Files + AllocGlobal> {
     rt: &'r R,
+    reads: u64,
+    writes: u64,
     read_faults: u64,
     write_faults: u64,
 }
 
 impl<'r, R: Files + AllocGlobal> HostShelf<'r, R> {
     ghost use Rattle.std.specs.Prelude.{◌≡◌};
+    ghost use Rattle.outside_io.specs.Faults.{seen_files};
 
     /// The files that this runtime reaches.
     pub fn new(rt: &'r R) -> HostShelf<'r, R>
-        ensures read_count { result.read_faults ≡ 0 }
-        ensures write_count { result.write_faults ≡ 0 }
+        ensures { seen_files result.reads result.writes result.read_faults result.write_faults ≡ seen_files 0 0 0 0 }
     {
         HostShelf {
             rt,
+            reads: 0,
+            writes: 0,
             read_faults: 0,
             write_faults: 0,
         }
@@ -35,14 +39,10 @@ impl<'r, R: Files + AllocGlobal> HostShelf<'r, R> {
 
 impl<R: Files + AllocGlobal> Shelf for HostShelf<'_, R> {
     ghost use Rattle.std.specs.Prelude.{◌≡◌, ◌≤◌, ◌<◌, ℕ, None, IfOk, OnOk, OnErr, IsErrOf, vec_len};
-    ghost use Rattle.outside_io.specs.Outside.{Holds, IsMissing, IsTooLong, Rose, Unchanged, Wrote, WrotePart};
-    ghost use Rattle.outside_io.specs.Faults.{after_read, after_write};
+    ghost use Rattle.outside_io.specs.Outside.{Holds, IsMissing, IsTooLong, OnlyRead, OnlyWrote, Rose, Wrote, WrotePart};
+    ghost use Rattle.outside_io.specs.Faults.{after_read, after_write, seen_files};
 
-    ghost contents = { λ _. None };
-
-    ghost read_faults = { λ s. s.read_faults };
-
-    ghost write_faults = { λ s. s.write_faults };
+    ghost seen = { λ s. seen_files s.reads s.writes s.read_faults s.write_faults };
 
     /// The bytes of a file, at most `cap` many. `TooLong` has the number of bytes that were taken: it stops past the
     /// cap. Each refusal but `NoMemory` is counted.
@@ -54,13 +54,13 @@ impl<R: Files + AllocGlobal> Shelf for HostShelf<'_, R> {
         ensures too_long { (long : ℕ) → IsErrOf result (ReadFault.TooLong long) →
             IsTooLong None name.now cap long self.old.read_faults self.new.read_faults }
         ensures failed { IsErrOf result ReadFault.Failed → Rose self.old.read_faults self.new.read_faults }
-        ensures kept { Unchanged None None }
-        ensures read_count { self.old.read_faults ≤ self.new.read_faults }
-        ensures write_count { self.new.write_faults ≡ self.old.write_faults }
+        ensures once { OnlyRead 1 (seen_files self.old.reads self.old.writes self.old.read_faults self.old.write_faults)
+            (seen_files self.new.reads self.new.writes self.new.read_faults self.new.write_faults) }
 
         ensures counted { self.new.read_faults ≡ after_read result self.old.read_faults }
         ensures past { (long : ℕ) → IsErrOf result (ReadFault.TooLong long) → cap < long }
     {
+        self.reads = self.reads.saturating_add(1);
         let answer = read_file(self.rt, alloc, name, cap);
         match answer {
             Ok(_) | Err(ReadFault::NoMemory) => {}
@@ -75,11 +75,12 @@ impl<R: Files + AllocGlobal> Shelf for HostShelf<'_, R> {
         ensures written { OnOk result (Wrote name.now bytes.now None None) }
         ensures part { OnErr result (WrotePart name.now bytes.now None None) }
         ensures failed { IsErrOf result WriteFault.Failed → Rose self.old.write_faults self.new.write_faults }
-        ensures read_count { self.new.read_faults ≡ self.old.read_faults }
-        ensures write_count { self.old.write_faults ≤ self.new.write_faults }
+        ensures once { OnlyWrote 1 (seen_files self.old.reads self.old.writes self.old.read_faults self.old.write_faults)
+            (seen_files self.new.reads self.new.writes self.new.read_faults self.new.write_faults) }
 
         ensures counted { self.new.write_faults ≡ after_write result self.old.write_faults }
     {
+        self.writes = self.writes.saturating_add(1);
         let answer = write_file(self.rt, name, bytes);
         if let Err(WriteFault::Failed) = answer {
             self.write_faults = self.write_faults.saturating_add(1);

@@ -17,6 +17,8 @@ pub struct MemoryShelf {
     alloc: Global,
     held: BTreeMap<String, Vec<u8>>,
     calls: Calls,
+    reads: u64,
+    writes: u64,
     read_faults: u64,
     write_faults: u64,
 }
@@ -31,6 +33,8 @@ impl Model for MemoryShelf {
     ghost view = { λ s. record {
       held = s.held.entries;
       calls = s.calls;
+      reads = s.reads;
+      writes = s.writes;
       read_faults = s.read_faults;
       write_faults = s.write_faults;
     } };
@@ -49,14 +53,16 @@ impl MemoryShelf {
         ensures empty { (name : List ℕ) → map_contents result.held name ≡ None }
         ensures fails { result.calls.fails ≡ fails.items }
         ensures next { result.calls.next ≡ Some 0 }
-        ensures read_count { result.read_faults ≡ 0 }
-        ensures write_count { result.write_faults ≡ 0 }
+        ensures uncalled { (result.reads ≡ 0) × (result.writes ≡ 0) }
+        ensures faultless { (result.read_faults ≡ 0) × (result.write_faults ≡ 0) }
         ensures counts { result.read_faults + result.write_faults ≡ listed_calls_made result.calls }
     {
         MemoryShelf {
             alloc,
             held: BTreeMap::new(alloc),
             calls: Calls::new(fails),
+            reads: 0,
+            writes: 0,
             read_faults: 0,
             write_faults: 0,
         }
@@ -67,8 +73,8 @@ impl MemoryShelf {
         ensures added { OnOk result (Wrote name.now bytes.now (contents_of self.old.held) (contents_of self.new.held)) }
         ensures unchanged { OnErr result (Unchanged (contents_of self.old.held) (contents_of self.new.held)) }
         ensures calls { self.new.calls ≡ self.old.calls }
-        ensures read_count { self.new.read_faults ≡ self.old.read_faults }
-        ensures write_count { self.new.write_faults ≡ self.old.write_faults }
+        ensures uncalled { (self.new.reads ≡ self.old.reads) × (self.new.writes ≡ self.old.writes) }
+        ensures faultless { (self.new.read_faults ≡ self.old.read_faults) × (self.new.write_faults ≡ self.old.write_faults) }
         ensures counts { self.new.read_faults + self.new.write_faults ≡ listed_calls_made self.new.calls }
     {
         put_under(&mut self.held, self.alloc, name, bytes)
@@ -87,15 +93,11 @@ impl MemoryShelf {
 
 impl Shelf for MemoryShelf {
     ghost use Rattle.std.specs.Prelude.{ℕ, ◌+◌, ◌≤◌, if◌then◌else◌, IfOk, OnOk, OnErr, IsErrOf, IsSome, vec_len, is_some, take, ◌⊎◌};
-    ghost use Rattle.outside_io.specs.Outside.{Holds, IsMissing, IsTooLong, Rose, Unchanged, Wrote, WrotePart};
+    ghost use Rattle.outside_io.specs.Outside.{Holds, IsMissing, IsTooLong, OnlyRead, OnlyWrote, Rose, Unchanged, Wrote, WrotePart};
     ghost use Rattle.outside_io.specs.Calls.{failing_next, listed_calls_made, CountsCall};
-    ghost use Rattle.outside_io.specs.Shelved.{map_contents, contents_of, AnswersRead};
+    ghost use Rattle.outside_io.specs.Shelved.{map_contents, contents_of, seen_shelf, AnswersRead};
 
-    ghost contents = { λ s. contents_of s.held };
-
-    ghost read_faults = { λ s. s.read_faults };
-
-    ghost write_faults = { λ s. s.write_faults };
+    ghost seen = { seen_shelf };
 
     /// The bytes under a name, at most `cap` many: `Failed` exactly where the call is listed, `Missing` and `TooLong`
     /// exactly where a call that is not listed finds no bytes or more than `cap`.
@@ -107,9 +109,7 @@ impl Shelf for MemoryShelf {
         ensures too_long { (long : ℕ) → IsErrOf result (ReadFault.TooLong long) →
             IsTooLong (contents_of self.old.held) name.now cap long self.old.read_faults self.new.read_faults }
         ensures failed { IsErrOf result ReadFault.Failed → Rose self.old.read_faults self.new.read_faults }
-        ensures kept { Unchanged (contents_of self.old.held) (contents_of self.new.held) }
-        ensures read_count { self.old.read_faults ≤ self.new.read_faults }
-        ensures write_count { self.new.write_faults ≡ self.old.write_faults }
+        ensures once { OnlyRead 1 (seen_shelf self.old) (seen_shelf self.new) }
 
         ensures counted { CountsCall self.old.calls self.new.calls }
         ensures counts { self.new.read_faults + self.new.write_faults ≡ listed_calls_made self.new.calls }
@@ -117,6 +117,7 @@ impl Shelf for MemoryShelf {
         ensures listed { IsSome (failing_next self.old.calls) → IsErrOf result ReadFault.Failed }
         ensures unlisted { failing_next self.old.calls ≡ None → AnswersRead (map_contents self.old.held name.now) cap result }
     {
+        self.reads = self.reads.saturating_add(1);
         if self.calls.count().is_some() {
             self.read_faults += 1;
             return Err(ReadFault::Failed);
@@ -130,8 +131,7 @@ impl Shelf for MemoryShelf {
         ensures written { OnOk result (Wrote name.now bytes.now (contents_of self.old.held) (contents_of self.new.held)) }
         ensures part { OnErr result (WrotePart name.now bytes.now (contents_of self.old.held) (contents_of self.new.held)) }
         ensures failed { IsErrOf result WriteFault.Failed → Rose self.old.write_faults self.new.write_faults }
-        ensures read_count { self.new.read_faults ≡ self.old.read_faults }
-        ensures write_count { self.old.write_faults ≤ self.new.write_faults }
+        ensures once { OnlyWrote 1 (seen_shelf self.old) (seen_shelf self.new) }
 
         ensures counted { CountsCall self.old.calls self.new.calls }
         ensures counts { self.new.read_faults + self.new.write_faults ≡ listed_calls_made self.new.calls }
@@ -142,6 +142,7 @@ impl Shelf for MemoryShelf {
             Wrote name.now (take kept bytes.now) (contents_of self.old.held) (contents_of self.new.held) }
         ensures no_memory { IsErrOf result WriteFault.NoMemory → Unchanged (contents_of self.old.held) (contents_of self.new.held) }
     {
+        self.writes = self.writes.saturating_add(1);
         match self.calls.count() {
             Some(kept) => {
                 self.write_faults += 1;

@@ -13,6 +13,7 @@ use std::marker::Model;
 pub struct MemorySink {
     printed: Vec<u8>,
     calls: Calls,
+    prints: u64,
     faults: u64,
 }
 
@@ -23,7 +24,7 @@ impl Model for MemorySink {
 
     ghost Value = { SinkInMemory };
 
-    ghost view = { λ s. record { printed = s.printed.items; calls = s.calls; faults = s.faults } };
+    ghost view = { λ s. record { printed = s.printed.items; calls = s.calls; prints = s.prints; faults = s.faults } };
 
     ghost invariant = { λ s. s.faults ≡ listed_calls_made s.calls };
 }
@@ -37,12 +38,14 @@ impl MemorySink {
         ensures empty { result.printed ≡ [] }
         ensures fails { result.calls.fails ≡ fails.items }
         ensures next { result.calls.next ≡ Some 0 }
-        ensures count { result.faults ≡ 0 }
+        ensures unprinted { result.prints ≡ 0 }
+        ensures faultless { result.faults ≡ 0 }
         ensures counts { result.faults ≡ listed_calls_made result.calls }
     {
         MemorySink {
             printed: Vec::new(alloc),
             calls: Calls::new(fails),
+            prints: 0,
             faults: 0,
         }
     }
@@ -57,12 +60,11 @@ impl MemorySink {
 
 impl Sink for MemorySink {
     ghost use Rattle.std.specs.Prelude.{ℕ, ◌+◌, ◌≤◌, ◌⊎◌, ◌++◌, if◌then◌else◌, OnOk, OnErr, IsErrOf, IsSome, is_some, take};
-    ghost use Rattle.outside_io.specs.Outside.{Rose, Printed, PrintedPart};
+    ghost use Rattle.outside_io.specs.Outside.{Rose, OnlyPrinted, Printed, PrintedPart};
     ghost use Rattle.outside_io.specs.Calls.{failing_next, listed_calls_made, CountsCall};
+    ghost use Rattle.outside_io.specs.Shelved.{seen_sink};
 
-    ghost written = { λ s. Some s.printed };
-
-    ghost faults = { λ s. s.faults };
+    ghost seen = { seen_sink };
 
     /// Prints bytes. A call that is listed keeps the first bytes, as many as are listed, and answers `Failed`; where
     /// memory ends, nothing is printed.
@@ -70,7 +72,7 @@ impl Sink for MemorySink {
         ensures printed { OnOk result (Printed bytes.now (Some self.old.printed) (Some self.new.printed)) }
         ensures part { OnErr result (PrintedPart bytes.now (Some self.old.printed) (Some self.new.printed)) }
         ensures failed { IsErrOf result SinkFault.Failed → Rose self.old.faults self.new.faults }
-        ensures count { self.old.faults ≤ self.new.faults }
+        ensures once { OnlyPrinted 1 (seen_sink self.old) (seen_sink self.new) }
 
         ensures counted { CountsCall self.old.calls self.new.calls }
         ensures counts { self.new.faults ≡ listed_calls_made self.new.calls }
@@ -81,6 +83,7 @@ impl Sink for MemorySink {
             self.new.printed ≡ self.old.printed ++ take kept bytes.now }
         ensures no_memory { IsErrOf result SinkFault.NoMemory → self.new.printed ≡ self.old.printed }
     {
+        self.prints = self.prints.saturating_add(1);
         match self.calls.count() {
             Some(kept) => {
                 self.faults += 1;

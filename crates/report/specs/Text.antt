@@ -24,7 +24,7 @@ kind_text Memory = codes "memory"
 abbrev pub location : ℕ → ℤ → List ℕ
 location func instr = decimal func ++ 58 ∷ signed_decimal instr
 
--- What tags stand for.
+-- the words for tags
 abbrev pub part_name : (tag : ℕ) → List ℕ
 part_name tag = unwrap_or (option_map kind_name (kind_of_number tag)) []
 
@@ -63,7 +63,7 @@ head_line kind rows = line (codes "report" ∷ kind_text kind ∷ decimal rows �
 abbrev pub report_text : Kind → List Row → List ℕ
 report_text kind rows = head_line kind (length rows) ++ flat_map (row_line kind) rows
 
--- the last line: so many events without strays, and so many strays
+-- the last line: the number of events that are no strays, and the number of strays
 abbrev pub events_text : (events strays : ℕ) → List ℕ
 events_text events strays = line (codes "events" ∷ decimal events ∷ codes "stray" ∷ decimal strays ∷ [])
 

@@ -1,4 +1,4 @@
-// The text of a report, written to a sink line by line.
+// The texts of reports and of names, written to a sink line by line.
 #![tactic(auto)]
 
 mod lines;

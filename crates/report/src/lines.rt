@@ -9,7 +9,7 @@ use analyses::{Kind, Row};
 use std::alloc::Global;
 use wasm_num::NoMemory;
 
-// The first line of a report: its kind, and how many rows it has.
+/// The first line of a report: its kind, and how many rows it has.
 pub(crate) fn first_line(alloc: Global, kind: Kind, rows: usize) -> Result<String, NoMemory>
     ensures { IfOk result (λ line. string_bytes line ≡ head_line kind rows) }
 {
@@ -17,7 +17,7 @@ pub(crate) fn first_line(alloc: Global, kind: Kind, rows: usize) -> Result<Strin
     format!(in alloc; "report {word} {rows}\n")
 }
 
-// The function and the position of a row.
+// The function and the position of a row, as text.
 fn location_of(alloc: Global, row: &Row) -> Result<String, NoMemory>
     ensures { IfOk result (λ text. string_bytes text ≡ location row.now.func row.now.instr) }
 {
@@ -25,7 +25,6 @@ fn location_of(alloc: Global, row: &Row) -> Result<String, NoMemory>
     format!(in alloc; "{func}:{instr}")
 }
 
-// The line of a row of blocks.
 fn block_line(alloc: Global, row: &Row) -> Result<String, NoMemory>
     ensures { IfOk result (λ line. string_bytes line ≡ row_line Blocks row.now) }
 {
@@ -35,7 +34,6 @@ fn block_line(alloc: Global, row: &Row) -> Result<String, NoMemory>
     format!(in alloc; "block {place} {part} {count}\n")
 }
 
-// The line of a row of branches.
 fn branch_line(alloc: Global, row: &Row) -> Result<String, NoMemory>
     ensures { IfOk result (λ line. string_bytes line ≡ row_line Branches row.now) }
 {
@@ -50,7 +48,7 @@ fn branch_line(alloc: Global, row: &Row) -> Result<String, NoMemory>
     format!(in alloc; "branch {place} {word} {other} {count}\n")
 }
 
-// The line of a row of calls. A row without a callee has 0 beside it, else one more than the callee.
+// The line of a row of calls. The row's `other` is 0 if there is no callee, otherwise the callee plus 1.
 fn call_line(alloc: Global, row: &Row) -> Result<String, NoMemory>
     ensures { IfOk result (λ line. string_bytes line ≡ row_line Calls row.now) }
 {
@@ -66,7 +64,6 @@ fn call_line(alloc: Global, row: &Row) -> Result<String, NoMemory>
     }
 }
 
-// The line of a row of loads or stores.
 fn memory_line(alloc: Global, row: &Row) -> Result<String, NoMemory>
     ensures { IfOk result (λ line. string_bytes line ≡ row_line Memory row.now) }
 {
@@ -82,7 +79,7 @@ fn memory_line(alloc: Global, row: &Row) -> Result<String, NoMemory>
     format!(in alloc; "memory {place} {word} {count} {least} {greatest}\n")
 }
 
-// The line of a row.
+/// The line of a row.
 pub(crate) fn line_of_row(alloc: Global, kind: Kind, row: &Row) -> Result<String, NoMemory>
     ensures { IfOk result (λ line. string_bytes line ≡ row_line kind row.now) }
 {
@@ -94,8 +91,8 @@ pub(crate) fn line_of_row(alloc: Global, kind: Kind, row: &Row) -> Result<String
     }
 }
 
-/// The line behind the reports: how many events came that were no strays, and how many strays.
-/// An `Err` comes where there is no memory.
+/// The line after the reports: how many events there were that are no strays, and how many strays. `NoMemory` if memory
+/// runs out.
 pub fn events_line(alloc: Global, events: u64, strays: u64) -> Result<String, NoMemory>
     ensures { IfOk result (λ line. string_bytes line ≡ events_text events strays) }
 {

@@ -1,4 +1,4 @@
-// The words that numbers stand for.
+// The words for the numbers in rows.
 
 ghost use Rattle.std.specs.Prelude.{◌≡◌};
 ghost use Rattle.report.specs.Text.{access_name, branch_name, kind_text, part_name};
@@ -7,7 +7,7 @@ use analyses::Kind;
 use module_ast::ops::{LoadOp, StoreOp};
 use wasm_num::BlockKind;
 
-// The word of a kind of analysis.
+/// The word for a kind of report.
 pub(crate) fn kind_word(kind: Kind) -> &'static str
     ensures { result.now ≡ kind_text kind }
 {
@@ -19,14 +19,14 @@ pub(crate) fn kind_word(kind: Kind) -> &'static str
     }
 }
 
-// The name of a kind of block by its number, empty where it is above 4.
+/// The name of the kind of block with this number; empty if the number is above 4.
 pub(crate) fn part_word(tag: u8) -> &'static str
     ensures { result.now ≡ part_name tag }
 {
     BlockKind::of_number(tag).map_or("", |kind| kind.name())
 }
 
-// The name of an instruction that branches, by its number from 0 to 3.
+/// The name of the branching instruction with this number, 0 to 3.
 pub(crate) fn branch_word(tag: u8) -> &'static str
     ensures { result.now ≡ branch_name tag }
 {
@@ -38,7 +38,7 @@ pub(crate) fn branch_word(tag: u8) -> &'static str
     }
 }
 
-// The name of the load or store of an opcode, empty where there is none. (Standard, 6.5.6)
+/// The name of the load or store with this opcode; empty if there is none. (Standard, 6.5.6)
 pub(crate) fn access_word(opcode: u8) -> &'static str
     ensures { result.now ≡ access_name opcode }
 {

@@ -4,7 +4,7 @@ use Rattle.wasm_sem.specs.Types.{Module, Hooks}
 use Rattle.module_ast.specs.Binary.{limited_counts, IsWithin}
 use Rattle.module_ast.specs.declared.module.Which.TheVariants.{Functions, Types, Parameters, Locals, Nesting}
 use Rattle.module_ast.specs.Memory.{pages}
-use Rattle.module_ast.specs.Validation.{narrow, wide, IsValid}
+use Rattle.module_ast.specs.Validation.{narrow, wide, IsValid, deepest, longest_file}
 use Rattle.module_ast.proofs.Sizes.{within_more}
 use Rattle.wasm_sem.specs.declared.Answer.{Answer}
 use Rattle.wasm_sem.specs.declared.Script.{Script}
@@ -12,11 +12,11 @@ use Rattle.wasm_sem.specs.Execution.{Summary, start_answer, call_answers, summar
 use Rattle.wasm_sem.proofs.Ended.{stays_over}
 use Rattle.rewrite.specs.Cost.{cost}
 use Rattle.instrument.specs.Same.{IsOver, SameRuns, Matches, env_in, env_of}
-use Rattle.app_plan.specs.Files.{IsFit, wide_file}
-use Rattle.app_plan.specs.Plans.{Finish, Effect, does, prints, printing}
-use Rattle.app_plan.specs.Wants.{Gives, module_read}
-use Rattle.app_plan.proofs.Files.{one_module}
-use Rattle.app_plan.proofs.Going.{leads_by}
+use Rattle.app_load.specs.Files.{IsFit}
+use Rattle.app_load.specs.Plans.{Finish, Effect, does, prints, printing}
+use Rattle.app_load.specs.Wants.{Gives, module_read}
+use Rattle.app_load.proofs.Files.{one_module}
+use Rattle.app_load.proofs.Going.{leads_by}
 use Rattle.app_runs.specs.RunTexts.{run_text}
 use Rattle.wasabi_app.specs.Alike.{with_steps, PrintsAlike, OutputsPrintAlike, RunHas, RunsPrintAlike}
 use Rattle.wasabi_app.specs.Modes.Run.{run_plan}
@@ -109,14 +109,14 @@ narrow_wide m within Functions = within_more 100000 600000 (limited_counts m Fun
 narrow_wide m within Types = within_more 100000 600000 (limited_counts m Types) (omega arith) (within Types)
 narrow_wide m within Parameters = within_more 400 900 (limited_counts m Parameters) (omega arith) (within Parameters)
 narrow_wide m within Locals = within_more 50000 60000 (limited_counts m Locals) (omega arith) (within Locals)
-narrow_wide m within Nesting = within_more 1000 1002 (limited_counts m Nesting) (omega arith) (within Nesting)
+narrow_wide m within Nesting = within_more 1000 deepest (limited_counts m Nesting) (omega arith) (within Nesting)
 
 -- what it prints of a valid module, with a script with which it links
-run_has : (bytes : List ℕ) (m : Module) (s : Script) (text : List ℕ) (finish : Finish) → length bytes ≤ wide_file → IsFit wide bytes m → IsValid m → Links m s
+run_has : (bytes : List ℕ) (m : Module) (s : Script) (text : List ℕ) (finish : Finish) → length bytes ≤ longest_file → IsFit wide bytes m → IsValid m → Links m s
     → text ≡ ending_text m s → finish ≡ ending_finish m s → RunHas bytes s (prints text finish)
 run_has bytes m s text finish short fit valid links text_is finish_is held subject script there script_there =
     let printed = printing (ending_text m s) (ending_finish m s) in
-    let module_there : Gives held (module_read subject wide_file wide) m =
+    let module_there : Gives held (module_read subject longest_file wide) m =
     record { bytes = bytes; read_well = record { there = there; short = short }; spelled = (fit, valid) } in
     let same : prints (ending_text m s) (ending_finish m s) ≡ prints text finish =
     ap (λ t. prints t (ending_finish m s)) (sym text_is) ∙ ap (prints text) (sym finish_is) in

@@ -6,7 +6,7 @@ use Rattle.wasm_sem.specs.declared.Answer.{Answer}
 use Rattle.wasm_sem.specs.declared.Answer.TheVariants.{Returned, Trapped}
 use Rattle.wasm_sem.specs.declared.Script.{Script}
 use Rattle.wasm_sem.specs.Execution.{TraceItem, entry, host_call, event, hook_call, shown_items, Callee, Instance, instance, Label, Frame, Phase, starting, calling, over, Env, Configuration, configuration, Next, reduces, traps, ends, stuck, env_after, return_to, step, after_step, opening_configuration, run, run_of, told_items, items_by, items, trace, trace_of}
-use Rattle.wasm_sem.specs.Rules.{answered_env, AreEvents, no_more, an_event, Invokes, begins, too_deep, replies, hears, Jumps, lands, leaves, crosses, unfed, unheld, Rule, computes, halts, jumps, stays, calls, misses, opens, skips, falls, finishes, enters, rests, lacks}
+use Rattle.wasm_sem.specs.Rules.{answered_env, AreEvents, no_more, an_event, Invokes, begins, too_deep, replies, hears, Jumps, lands, leaves, crosses, unfed, unheld, StepRule, computes, halts, jumps, stays, calls, misses, opens, skips, falls, finishes, enters, rests, lacks}
 use Rattle.wasm_sem.proofs.Rules.{begin_events, post_events, jump_events, only_quiet, quiet_events, rule_of}
 use Rattle.wasm_run.specs.Beside.{hosts_in}
 
@@ -80,7 +80,7 @@ invoke_counts inst e below f args (hears ty) = record { same = refl; few = omega
 abbrev Counted : Configuration → (shown told : List TraceItem) → Next → Type 0
 Counted (configuration e frames) shown told next = Counts e.store.hosts shown told next
 
-rule_counts : (inst : Instance) {c : Configuration} {is ts : List TraceItem} {next : Next} → Rule inst c is ts next → Counted c is ts next
+rule_counts : (inst : Instance) {c : Configuration} {is ts : List TraceItem} {next : Next} → StepRule inst c is ts next → Counted c is ts next
 rule_counts inst (computes e fr below i k o new l left si sr q same) = quiet_counts e.store.hosts _ _ (only_quiet q) (same.hosts ∙ no_more_hosts e.store.hosts)
 rule_counts inst (halts e fr below i k o t si sr q) = quiet_counts e.store.hosts _ _ (only_quiet q) refl
 rule_counts inst (jumps e fr below i k o n left b q j) = quiet_counts e.store.hosts _ _ (quiet_events q (jump_events j)) (jump_made inst e _ below left j)

@@ -25,7 +25,6 @@ use Rattle.name_map.proofs.Follow.{names_follow}
 use Rattle.name_map.proofs.Proper.{map_keeps_proper, read_are_proper}
 use Rattle.name_map.proofs.PutRead.{put_is_read}
 use Rattle.instrument.specs.Accepted.{IsAccepted}
-use Rattle.instrument.specs.Made.{longest_output, narrow_file}
 use Rattle.instrument.specs.Output.{hook_remap, output, output_bytes}
 use Rattle.instrument.specs.Shell.{Shell, with_customs}
 use Rattle.instrument.proofs.Customs.{valid_same, within_same, customs_same}
@@ -34,8 +33,8 @@ use Rattle.instrument.proofs.OutputSame.{same}
 use Rattle.instrument.proofs.OutputShell.{output_has_shell}
 use Rattle.instrument.proofs.OutputSpelled.{output_is_spelled}
 use Rattle.instrument.proofs.OutputWithin.{output_is_within}
-use Rattle.module_ast.specs.Validation.{narrow, wide, IsValid}
-use Rattle.app_plan.specs.Wants.{AreKept}
+use Rattle.module_ast.specs.Validation.{narrow, wide, IsValid, longest_file, longest_narrow_file}
+use Rattle.app_load.specs.Wants.{AreKept}
 use Rattle.wasabi_app.specs.KeptNames.{DroppedNamesLeaveNothing, HasNameSection, IsOutput, IsSoundWith, named_output, output_names}
 
 -- ---- whether there are names
@@ -96,12 +95,12 @@ content_short names most least short = by (names_bytes names) short
 abbrev name_text : Text
 name_text = ascii_text (codes "name") refl
 
-module _ (file : List ℕ) (m : Module) (hooks : Hooks) (keeps : Bool) (names : Names) (accepted : IsAccepted file m) (short : length file ≤ narrow_file)
-    (kept : AreKept keeps file m names) (few : length (named_output m hooks names) ≤ longest_output) where
+module _ (file : List ℕ) (m : Module) (hooks : Hooks) (keeps : Bool) (names : Names) (accepted : IsAccepted file m) (short : length file ≤ longest_narrow_file)
+    (kept : AreKept keeps file m names) (few : length (named_output m hooks names) ≤ longest_file) where
   small : length (module_bytes m) < 2 ^ 31
   small = omega (arith, short, module_least file m accepted.spelled)
 
-  bare_few : length (output_bytes m hooks) ≤ longest_output
+  bare_few : length (output_bytes m hooks) ≤ longest_file
   bare_few = omega (arith, few, length-append (output_bytes m hooks) (name_section_bytes (output_names m hooks names)))
 
   fits : Fits m
@@ -122,8 +121,8 @@ module _ (file : List ℕ) (m : Module) (hooks : Hooks) (keeps : Bool) (names : 
   carries =
       let remap = hook_remap m (needed_keys m hooks) in
       let section = name_section_bytes (output_names m hooks names) in
-      let whole : length section ≤ longest_output = omega (arith, few, length-append (output_bytes m hooks) section) in
-      let content = content_short (output_names m hooks names) longest_output (omega arith) whole in
+      let whole : length section ≤ longest_file = omega (arith, few, length-append (output_bytes m hooks) section) in
+      let content = content_short (output_names m hooks names) longest_file (omega arith) whole in
       put_is_read (output_bytes m hooks) (length (funcs_of (output m hooks))) (output_names m hooks names)
       (files_without_customs (output_bytes m hooks) (output m hooks) bare refl) few_funcs
       (subst (λ n. AreProper n (output_names m hooks names)) funcs_of_output
@@ -149,8 +148,8 @@ module _ (file : List ℕ) (m : Module) (hooks : Hooks) (keeps : Bool) (names : 
   content_few : length (content_bytes (output_names m hooks names)) < 2 ^ 32
   content_few =
       let section = name_section_bytes (output_names m hooks names) in
-      let whole : length section ≤ longest_output = omega (arith, few, length-append (output_bytes m hooks) section) in
-      let content = content_short (output_names m hooks names) longest_output (omega arith) whole in
+      let whole : length section ≤ longest_file = omega (arith, few, length-append (output_bytes m hooks) section) in
+      let content = content_short (output_names m hooks names) longest_file (omega arith) whole in
       omega (arith, content)
 
   is_sound : IsSoundWith names m hooks (named_output m hooks names)

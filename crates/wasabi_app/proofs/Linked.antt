@@ -8,19 +8,19 @@ use Rattle.run_session.specs.declared.link.LinkFault.{LinkFault}
 use Rattle.run_session.specs.declared.link.LinkFault.TheVariants.{NoExport, BadArgs, MemoryCap, TableCap, SegmentRange, NoMemory}
 use Rattle.run_session.specs.Linking.{TellsRefusal}
 use Rattle.analyses.specs.Tools.{ToolState}
-use Rattle.app_plan.specs.Printing.{ShelfState}
+use Rattle.outside_io.specs.Outside.{ShelfState}
 use Rattle.app_runs.specs.RunTexts.{has_trapped, run_status, run_text}
 use Rattle.app_runs.specs.Linking.{link_reason, link_text, IsUnlinkedBy, IsUnlinked}
-use Rattle.app_plan.proofs.Contents.{unchanged_same}
 use Rattle.app_runs.proofs.RunEnds.{call_within}
-use Rattle.app_plan.specs.declared.told.Printed.{Printed}
-use Rattle.app_plan.specs.declared.told.Refusal.{Refusal}
-use Rattle.app_plan.specs.declared.told.Refusal.TheVariants as refusals
-use Rattle.app_plan.specs.Plans.{no_output, Finish, finish_status, Ending, refuses, does, prints, Plan, refusing, printing}
+use Rattle.app_load.specs.declared.printing.Printed.{Printed}
+use Rattle.app_load.specs.declared.printing.Refusal.{Refusal}
+use Rattle.app_load.specs.declared.printing.Refusal.TheVariants as refusals
+use Rattle.app_load.specs.declared.status.Status.TheVariants as status
+use Rattle.app_load.specs.Plans.{no_output, Finish, finish_status, Ending, refuses, does, prints, Plan, refusing, printing}
 use Rattle.wasabi_app.specs.Playing.{finish_of, linked, played, ending_of, ending_text, ending_finish}
-use Rattle.app_plan.proofs.Within.{Within, WritesNone, FeedsNone, MakesNone}
-use Rattle.app_plan.specs.Outcomes.{Yields}
-use Rattle.app_plan.proofs.Going.{was_refused, took_text, no_memory, leads_by}
+use Rattle.app_load.proofs.Within.{Within, WritesNone, FeedsNone, MakesNone}
+use Rattle.app_load.specs.Outcomes.{Yields}
+use Rattle.app_load.proofs.Going.{was_refused, took_text, no_memory}
 
 -- a module and a script that do not link are refused
 pub played_refuses : (m : Module) (s : Script) (why : linking.Refusal) (plan : Plan) → link m s ≡ Some why
@@ -31,7 +31,7 @@ pub played_links : (m : Module) (s : Script) (plan : Plan) → Links m s → pla
 played_links m s plan e = ap (λ o. linked s o plan) e
 
 finish_by : (running trap : Bool)
-    → finish_status (cond running Finish.unfinished (cond trap Finish.trapped Finish.done)) ≡ cond running 13 (cond trap 12 0)
+    → finish_status (cond running Finish.unfinished (cond trap Finish.trapped Finish.done)) ≡ cond running status.Unfinished (cond trap status.Trapped status.Done)
 finish_by true trap = refl
 finish_by false true = refl
 finish_by false false = refl
@@ -47,12 +47,12 @@ fault_within m s fault call t e = call_within m s call (subst (λ f. TellsRefusa
 pub want_of_memory : (plan : Plan) (at : ShelfState) (tools : List ToolState) (refusal : Refusal) → refusal ≡ refusals.NoMemory
     → Yields (Some plan) at at tools tools (Err refusal)
 want_of_memory plan at tools refusal e =
-    subst (λ r. Yields (Some plan) at at tools tools (Err r)) (sym e) (no_memory (Some plan) at at tools (unchanged_same at.contents))
+    subst (λ r. Yields (Some plan) at at tools tools (Err r)) (sym e) (no_memory (Some plan) at tools)
 
 told_why : (m : Module) (s : Script) (plan : Plan) (at : ShelfState) (tools : List ToolState) (refusal : Refusal) (why : LinkRefusal)
     → link m s ≡ Some why → IsUnlinkedBy s.calls (Some why) refusal → Yields (Some (played m s plan)) at at tools tools (Err refusal)
 told_why m s plan at tools refusal why e is =
-    was_refused (played m s plan) (link_reason why) (link_text s.calls why) at tools refusal (leads_by at.contents (refuses (link_reason why) (link_text s.calls why)) (played_refuses m s why plan e) refl) is
+    was_refused (played m s plan) (link_reason why) (link_text s.calls why) at tools refusal (played_refuses m s why plan e) is
 
 -- they do not link
 pub was_unlinked : (m : Module) (s : Script) (fault : LinkFault) (plan : Plan) (at : ShelfState) (tools : List ToolState) (refusal : Refusal)

@@ -14,16 +14,16 @@ use Rattle.std.specs.List.{list_any}
 use Rattle.std.proofs.lemmas.Slice.Eq.{bytes_eq-Decides}
 use Rattle.outside_io.specs.Outside.{Contents}
 use Rattle.analyses.specs.Tools.{ToolState}
-use Rattle.app_plan.specs.Printing.{ShelfState}
-use Rattle.app_plan.specs.Plans.{Ending, Plan, Leads}
-use Rattle.app_plan.specs.declared.told.Printed.{Printed}
-use Rattle.app_plan.specs.declared.told.Refusal.{Refusal}
-use Rattle.app_plan.specs.declared.told.Refusal.TheVariants.{NoMemory}
-use Rattle.app_plan.specs.Texts.{bad_words_text}
-use Rattle.app_plan.specs.Outcomes.{IsRefusal, Yields}
-use Rattle.app_plan.proofs.Contents.{unchanged_same}
-use Rattle.app_plan.proofs.Going.{no_memory, was_no_command}
-use Rattle.app_plan.proofs.Within.{Within, within_leads, WritesNone, FeedsNone, MakesNone, keeps, never_unwritten, leaves, never_refused}
+use Rattle.outside_io.specs.Outside.{ShelfState}
+use Rattle.app_load.specs.Plans.{Ending, Plan, Leads}
+use Rattle.app_load.specs.declared.printing.Printed.{Printed}
+use Rattle.app_load.specs.declared.printing.Refusal.{Refusal}
+use Rattle.app_load.specs.declared.printing.Refusal.TheVariants.{NoMemory}
+use Rattle.app_load.specs.Texts.{bad_words_text}
+use Rattle.app_load.specs.Outcomes.{IsRefusal, Yields}
+use Rattle.app_load.proofs.Contents.{unchanged_same}
+use Rattle.app_load.proofs.Going.{no_memory, was_no_command}
+use Rattle.app_load.proofs.Within.{Within, within_leads, WritesNone, FeedsNone, MakesNone, keeps, never_unwritten, leaves, never_refused}
 use Rattle.wasabi_app.specs.Words.{Given, given}
 use Rattle.wasabi_app.specs.Mode.{Mode}
 use Rattle.wasabi_app.specs.Modes.{modes, plan_in, plan_of}
@@ -97,7 +97,7 @@ followed words g old new was is result e y =
 pub not_followed : (words : List (List ℕ)) (at : ShelfState) (tools : List ToolState) (refusal : Refusal)
     → (refusal ≡ NoMemory) ⊎ ((given words ≡ None) × IsRefusal 2 bad_words_text refusal) → Yields (plan_of words) at at tools tools (Err refusal)
 not_followed words at tools refusal (inl none) =
-    subst (λ r. Yields (plan_of words) at at tools tools (Err r)) (sym none) (no_memory (plan_of words) at at tools (unchanged_same at.contents))
+    subst (λ r. Yields (plan_of words) at at tools tools (Err r)) (sym none) (no_memory (plan_of words) at tools)
 not_followed words at tools refusal (inr (e, r)) =
     subst (λ p. Yields p at at tools tools (Err refusal)) (sym (ap (option_and_then (λ (h : Given). plan_in h.mode h)) e)) (was_no_command at tools refusal r)
 

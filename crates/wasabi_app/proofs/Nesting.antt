@@ -16,8 +16,8 @@ use Rattle.instrument.specs.Same.{SameRuns, told_so_far}
 use Rattle.call_tree.specs.Paths.{open_after, open_after_all, paths, HasBadEnd, NoRunIsBad}
 use Rattle.call_tree.proofs.Following.{got}
 use Rattle.call_tree.proofs.Nested.{open_append}
-use Rattle.app_plan.proofs.Files.{one_module}
-use Rattle.app_plan.proofs.Infos.{one_info}
+use Rattle.app_load.proofs.Files.{one_module}
+use Rattle.app_load.proofs.Infos.{one_info}
 use Rattle.app_runs.specs.Reporting.{items_told}
 use Rattle.call_tree.specs.Unnested.{end_place, first_unnested}
 use Rattle.app_runs.specs.Treeing.{tells_brackets}

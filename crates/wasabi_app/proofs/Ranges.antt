@@ -6,6 +6,7 @@ use Rattle.std.specs.List.{AllByRecursion, slice_index}
 use Rattle.std.proofs.lemmas.Int.{ints}
 use Rattle.std.proofs.lemmas.List.{reverse-append}
 use Rattle.std.proofs.lemmas.List.Elements.{All-nil, All-cons, All-head, All-tail, All-filter, All-from_recursion, All-map, All-push, All-take, All-weaker, recursion_from_All}
+use Rattle.module_ast.specs.Validation.Limits.{deepest}
 use Rattle.wasm_sem.specs.Types.{ValType, NumOp, Value, Loc, GroupName, Event, HookKey}
 use Rattle.wasm_num.specs.declared.ValType.TheVariants as types
 use Rattle.wasm_num.specs.declared.Value.TheVariants.{I32, I64}
@@ -235,7 +236,7 @@ all_reverse P (b ∷ bs) h =
     subst (All P) (sym (reverse-append (b ∷ []) bs)) (All-push P (reverse bs) b (all_reverse P bs (All-tail P b bs h)) (All-head P b bs h))
 
 module _ (hook : ℕ) (few : FitsNumber hook) (loc : Loc) (there : FitsLocation loc) (index : ℕ) (small : FitsNumber index) where
-  jump_fits : (label : ℕ) (blocks : List Block) (o : Option Block) → label ≤ 1002 → All FitsBlock blocks → slice_get blocks label ≡ o
+  jump_fits : (label : ℕ) (blocks : List Block) (o : Option Block) → label ≤ deepest → All FitsBlock blocks → slice_get blocks label ≡ o
       → Fit (jump_events hook loc index label blocks o)
   jump_fits label blocks None low fit e = ((few, tt), tt)
   jump_fits label blocks (Some b) low fit e =
@@ -245,7 +246,7 @@ module _ (hook : ℕ) (few : FitsNumber hook) (loc : Loc) (there : FitsLocation 
       All-weaker FitsBlock (λ c. FitsEvent (end_event loc.func c)) (λ c h. ((there.0, h.1), (tt, (h.0, tt)))) left (All-take FitsBlock (label + 1) blocks fit) in
       ((there, (small, (omega (arith, low), (here.2, tt)))), recursion_from_All FitsEvent (map (end_event loc.func) left) (All-map FitsEvent (end_event loc.func) left ends))
 
-  table_fits : (blocks : List Block) (o : Option TableInfo) → All FitsBlock blocks → ((t : TableInfo) → o ≡ Some t → All (λ l. l ≤ 1002) t.labels)
+  table_fits : (blocks : List Block) (o : Option TableInfo) → All FitsBlock blocks → ((t : TableInfo) → o ≡ Some t → All (λ l. l ≤ deepest) t.labels)
       → Fit (table_events hook loc index blocks o)
   table_fits blocks None fit low = ((few, tt), tt)
   table_fits blocks (Some t) fit low =

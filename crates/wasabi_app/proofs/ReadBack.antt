@@ -1,8 +1,8 @@
 -- What `instrument` wrote is read by every mode that reads an output.
 use Rattle.std.proofs.Common.{◌≡◌, ℕ, ◌≤◌, inl, inr, List, [], length, Bool, true, false, Option, Some, None, refl, sym, subst, arith, nat_le}
-use Rattle.outside_io.specs.Outside.{Contents, Holds}
+use Rattle.outside_io.specs.Outside.{Contents, Holds, ShelfState}
 use Rattle.wasm_sem.specs.Types.{Loc, Module, Hooks}
-use Rattle.module_ast.specs.Validation.{wide}
+use Rattle.module_ast.specs.Validation.{wide, longest_file}
 use Rattle.wasm_sem.specs.declared.Script.{Script}
 use Rattle.wasm_sem.specs.Execution.{link}
 use Rattle.wasm_sem.specs.Link as linking
@@ -14,15 +14,15 @@ use Rattle.static_info.specs.Info.{info_of}
 use Rattle.static_info.specs.Json.{HoldInfo}
 use Rattle.instrument.specs.Shell.{with_customs}
 use Rattle.analyses.specs.Tools.{ToolState}
-use Rattle.app_plan.specs.declared.kinds.Kinds.{Kinds}
-use Rattle.app_plan.specs.Ends as statuses
-use Rattle.app_plan.specs.Ends.{Ends, IsBad, IsUnread, IsRefuted, absent, over, wrong}
-use Rattle.app_plan.specs.Files.{IsFit, wide_file, info_file}
-use Rattle.app_plan.specs.Plans.{done, prints, does, Ending, Plan, reads, ends, LeadsTo, ComesTo}
-use Rattle.app_plan.specs.Printing.{ShelfState, shelf_state, PrintState}
-use Rattle.app_plan.specs.Wants.{Read, module_read, named_read, info_read, script_read, Gives, AreKept, IsUnscripted, unscripted, IsWrong}
-use Rattle.app_plan.proofs.Leading.{bad_or_ending}
-use Rattle.app_plan.proofs.Telling.{tells_at}
+use Rattle.app_load.specs.declared.kinds.Kinds.{Kinds}
+use Rattle.app_load.specs.Statuses as statuses
+use Rattle.app_load.specs.Ends.{Ends, IsBad, IsUnread, IsRefuted, absent, over, wrong}
+use Rattle.app_load.specs.Files.{IsFit}
+use Rattle.app_load.specs.Plans.{done, prints, does, Ending, Plan, reads, ends, LeadsTo, ComesTo}
+use Rattle.outside_io.specs.Outside.{ShelfState, PrintState}
+use Rattle.app_load.specs.Wants.{Read, module_read, named_read, info_read, script_read, Gives, AreKept, IsUnscripted, unscripted, IsWrong}
+use Rattle.app_load.proofs.Leading.{bad_or_ending}
+use Rattle.app_load.proofs.Telling.{tells_at}
 use Rattle.app_runs.specs.Texts.{ok_text, counts_of}
 use Rattle.app_runs.specs.Recording.{recorded_bytes}
 use Rattle.call_tree.specs.Unnested.{first_unnested}
@@ -35,7 +35,7 @@ use Rattle.wasabi_app.specs.Modes.Run.{run_plan}
 use Rattle.wasabi_app.specs.Modes.Tree.{where_nested, treed_plan, where_told, tree_plan, tree_text}
 use Rattle.wasabi_app.specs.Playing.{linked, ending_finish}
 use Rattle.wasabi_app.specs.ReadBack.{OnlyBad, OutputIsRead, AreTaken, InfoIsRead, OutputsAreRead, IsOfScript, OnlyScriptsAreRefused}
-use Rattle.wasabi_app.specs.ToldRuns.{RunNames, scripted}
+use Rattle.wasabi_app.specs.ToldRuns.{scripted}
 use Rattle.wasabi_app.proofs.Composed.{shell_belongs, bare_belongs}
 use Rattle.wasabi_app.proofs.Traces.{leads_only}
 
@@ -70,7 +70,7 @@ told_reads held false plan read c = absurd c
 -- ---- the modes
 
 abbrev subject_plan : (subject : List ℕ) → Plan
-subject_plan subject = reads (module_read subject wide_file wide) (λ m. ends nowhere)
+subject_plan subject = reads (module_read subject longest_file wide) (λ m. ends nowhere)
 
 -- the script is the last read of a plan that was led to by the others
 run_only : (contents : Contents) (subject script : List ℕ) → LeadsTo (Some contents) (subject_plan subject) nowhere
@@ -81,16 +81,16 @@ run_only contents subject script leads read status (inr (m, there, inl last)) ba
 run_only contents subject script leads read status (inr (m, there, inr (s, found, more))) bad =
     absurd (linked_reads (Some contents) s (link m s) _ read more)
 
-module _ (contents : Contents) (names : RunNames) where
+module _ (contents : Contents) (subject info_name script : List ℕ) where
   abbrev pair_plan : Plan
-  pair_plan = reads (module_read names.subject wide_file wide) (λ m. reads (info_read names.info m) (λ info. ends nowhere))
+  pair_plan = reads (module_read subject longest_file wide) (λ m. reads (info_read info_name m) (λ info. ends nowhere))
 
   abbrev named_plan : (keeps : Bool) → Plan
   named_plan keeps =
-      reads (named_read names.subject wide_file wide keeps) (λ named. reads (info_read names.info named.0) (λ info. ends nowhere))
+      reads (named_read subject longest_file wide keeps) (λ named. reads (info_read info_name named.0) (λ info. ends nowhere))
 
   report_only : (kinds : Kinds) (keeps : Bool) → LeadsTo (Some contents) (named_plan keeps) nowhere
-      → OnlyBad contents (report_plan (record { names = names; kinds = kinds; keeps = keeps })) (script_read names.script)
+      → OnlyBad contents (report_plan subject info_name script kinds keeps) (script_read script)
   report_only kinds keeps leads read status (inl first) bad = absurd (none_bad contents (named_plan keeps) nowhere leads read status (inl first) bad)
   report_only kinds keeps leads read status (inr (named, there, inl second)) bad =
       absurd (none_bad contents (named_plan keeps) nowhere leads read status (inr (named, there, inl second)) bad)
@@ -99,7 +99,7 @@ module _ (contents : Contents) (names : RunNames) where
       absurd (linked_reads (Some contents) s (link named.0 s) _ read more)
 
   record_only : (target : List ℕ) (bound : ℕ) → LeadsTo (Some contents) pair_plan nowhere
-      → OnlyBad contents (record_plan (record { names = names; target = target; bound = bound })) (script_read names.script)
+      → OnlyBad contents (record_plan subject target info_name script bound) (script_read script)
   record_only target bound leads read status (inl first) bad = absurd (none_bad contents pair_plan nowhere leads read status (inl first) bad)
   record_only target bound leads read status (inr (m, there, inl second)) bad =
       absurd (none_bad contents pair_plan nowhere leads read status (inr (m, there, inl second)) bad)
@@ -109,18 +109,18 @@ module _ (contents : Contents) (names : RunNames) where
       (linked_reads (Some contents) s (link m s) _ read more))
 
   -- behind the information of a tree
-  tree_behind : (m : Module) (info : Info) (read : Read) → ComesTo (Some contents) (scripted names treed_plan m info) read → read ≡ script_read names.script
+  tree_behind : (m : Module) (info : Info) (read : Read) → ComesTo (Some contents) (scripted script treed_plan m info) read → read ≡ script_read script
   tree_behind m info read (inl last) = sym last
   tree_behind m info read (inr (s, found, more)) =
       absurd (nested_reads (Some contents) (first_unnested (tree_items m info s)) (does (prints (tree_text m info s) (ending_finish m s))) read
       (linked_reads (Some contents) s (link m s) _ read more))
 
-  tree_only : LeadsTo (Some contents) pair_plan nowhere → OnlyBad contents (tree_plan names) (script_read names.script)
+  tree_only : LeadsTo (Some contents) pair_plan nowhere → OnlyBad contents (tree_plan subject info_name script) (script_read script)
   tree_only leads read status (inl first) bad = absurd (none_bad contents pair_plan nowhere leads read status (inl first) bad)
   tree_only leads read status (inr (m, there, inl second)) bad =
       absurd (none_bad contents pair_plan nowhere leads read status (inr (m, there, inl second)) bad)
   tree_only leads read status (inr (m, there, inr (info, known, more))) bad =
-      tree_behind m info read (told_reads (Some contents) (tells_brackets info) (scripted names treed_plan m info) read more)
+      tree_behind m info read (told_reads (Some contents) (tells_brackets info) (scripted script treed_plan m info) read more)
 
 -- ---- the output of an accepted file, and its information
 
@@ -131,7 +131,7 @@ module _ (file : List ℕ) (hooks : Hooks) (keeps : Bool) (written : List ℕ) (
   fit : IsFit wide written result
   fit = record { spelled = has.sound.spelled; within = has.sound.limits }
 
-  plain_there : (held : Option Contents) (name : List ℕ) → Holds held name written → Gives held (module_read name wide_file wide) result
+  plain_there : (held : Option Contents) (name : List ℕ) → Holds held name written → Gives held (module_read name longest_file wide) result
   plain_there held name there =
       record { bytes = written; read_well = record { there = there; short = has.sound.short }; spelled = (fit, has.sound.valid) }
 
@@ -141,7 +141,7 @@ module _ (file : List ℕ) (hooks : Hooks) (keeps : Bool) (written : List ℕ) (
   carried true = (output_names has.original hooks has.names, has.sound.carries)
 
   named_there : (kept : Bool) → (names : Names)
-      × ((held : Option Contents) (name : List ℕ) → Holds held name written → Gives held (named_read name wide_file wide kept) (result, names))
+      × ((held : Option Contents) (name : List ℕ) → Holds held name written → Gives held (named_read name longest_file wide kept) (result, names))
   named_there kept =
       let (names, are) = carried kept in
       (names, λ held name there. record { bytes = written; read_well = record { there = there; short = has.sound.short }; spelled = (fit, has.sound.valid, are) })
@@ -155,7 +155,7 @@ module _ (file : List ℕ) (hooks : Hooks) (keeps : Bool) (written : List ℕ) (
     run_by = λ contents subject script there. run_only contents subject script (result, plain_there (Some contents) subject there, refl);
   }
 
-  module _ (told : List ℕ) (holds : HoldInfo told (info_of has.original hooks)) (short : length told ≤ info_file) where
+  module _ (told : List ℕ) (holds : HoldInfo told (info_of has.original hooks)) (short : length told ≤ longest_file) where
     belongs : Belongs (info_of has.original hooks) result
     belongs =
         bare_belongs (info_of has.original hooks) result
@@ -164,17 +164,18 @@ module _ (file : List ℕ) (hooks : Hooks) (keeps : Bool) (written : List ℕ) (
     informed_there : (held : Option Contents) (name : List ℕ) → Holds held name told → Gives held (info_read name result) (info_of has.original hooks)
     informed_there held name there = record { bytes = told; read_well = record { there = there; short = short }; spelled = (holds, belongs) }
 
-    are_taken : (contents : Contents) (names : RunNames) → contents names.subject ≡ Some written → contents names.info ≡ Some told → AreTaken contents names
-    are_taken contents names subject_there info_there =
-        let info = informed_there (Some contents) names.info info_there in
-        let pair : LeadsTo (Some contents) (pair_plan contents names) nowhere =
-        (result, plain_there (Some contents) names.subject subject_there, (info_of has.original hooks, info, refl)) in
+    are_taken : (contents : Contents) (subject info_name script : List ℕ) → contents subject ≡ Some written → contents info_name ≡ Some told
+        → AreTaken contents subject info_name script
+    are_taken contents subject info_name script subject_there info_there =
+        let info = informed_there (Some contents) info_name info_there in
+        let pair : LeadsTo (Some contents) (pair_plan contents subject info_name script) nowhere =
+        (result, plain_there (Some contents) subject subject_there, (info_of has.original hooks, info, refl)) in
         record {
           reported = λ kinds kept.
               let (carried_names, there) = named_there kept in
-              report_only contents names kinds kept ((result, carried_names), there (Some contents) names.subject subject_there, (info_of has.original hooks, info, refl));
-          recorded = λ target bound. record_only contents names target bound pair;
-          treed = tree_only contents names pair;
+              report_only contents subject info_name script kinds kept ((result, carried_names), there (Some contents) subject subject_there, (info_of has.original hooks, info, refl));
+          recorded = λ target bound. record_only contents subject info_name script target bound pair;
+          treed = tree_only contents subject info_name script pair;
         }
 
     pub told_read : InfoIsRead written told has.original hooks result
@@ -204,17 +205,19 @@ module _ (contents : Contents) (plan : Plan) (script : List ℕ) (only : OnlyBad
   unread_script old new (read, comes, inl missing) = is_last read comes (absent missing)
   unread_script old new (read, comes, inr (long, (bytes, there, is, above))) = is_last read comes (over bytes there above)
 
-  of_script : (read_faults write_faults : ℕ) (new : ShelfState) (was is : List ToolState) (before after : PrintState) (status : ℕ)
-      → Ends (Some plan) (shelf_state (Some contents) read_faults write_faults) new was is before after status → IsOfScript contents script status
-  of_script read_faults write_faults new was is before after status x =
-      let at : (n : ℕ) → status ≡ n → Ends (Some plan) (shelf_state (Some contents) read_faults write_faults) new was is before after n =
-      λ n e. subst (Ends (Some plan) (shelf_state (Some contents) read_faults write_faults) new was is before after) e x in
+  of_script : (old new : ShelfState) (was is : List ToolState) (before after : PrintState) (status : ℕ) → old.contents ≡ Some contents
+      → Ends (Some plan) old new was is before after status → IsOfScript contents script status
+  of_script old new was is before after status told x =
+      let at : (n : ℕ) → status ≡ n → Ends (Some plan) old new was is before after n = λ n e. subst (Ends (Some plan) old new was is before after) e x in
+      let bytes : (n : ℕ) → IsRefuted (Some plan) old.contents n → IsRefuted (Some plan) (Some contents) n = λ n. subst (λ h. IsRefuted (Some plan) h n) told in
       record {
-        unread = λ e. unread_script read_faults new.reads (tells_at 3 statuses.of_names (at 3 e) refl).0;
-        not_malformed = λ e. (let ten : 6 ≡ 10 = refuted_script 6 (tells_at 6 statuses.of_bytes (at 6 e) refl).0 in omega (arith, ten));
-        not_unfit = λ e. (let ten : 7 ≡ 10 = refuted_script 7 (tells_at 7 statuses.of_bytes (at 7 e) refl).0 in omega (arith, ten));
-        not_invalid = λ e. (let ten : 8 ≡ 10 = refuted_script 8 (tells_at 8 statuses.of_bytes (at 8 e) refl).0 in omega (arith, ten));
-        not_foreign = λ e. (let ten : 16 ≡ 10 = refuted_script 16 (tells_at 16 statuses.of_bytes (at 16 e) refl).0 in omega (arith, ten));
+        unread = λ e.
+            unread_script old.read_faults new.read_faults
+            (subst (λ h. IsUnread (Some plan) h old.read_faults new.read_faults) told (tells_at 3 statuses.of_names (at 3 e) refl).0);
+        not_malformed = λ e. (let ten : 6 ≡ 10 = refuted_script 6 (bytes 6 (tells_at 6 statuses.of_bytes (at 6 e) refl).0) in omega (arith, ten));
+        not_unfit = λ e. (let ten : 7 ≡ 10 = refuted_script 7 (bytes 7 (tells_at 7 statuses.of_bytes (at 7 e) refl).0) in omega (arith, ten));
+        not_invalid = λ e. (let ten : 8 ≡ 10 = refuted_script 8 (bytes 8 (tells_at 8 statuses.of_bytes (at 8 e) refl).0) in omega (arith, ten));
+        not_foreign = λ e. (let ten : 16 ≡ 10 = refuted_script 16 (bytes 16 (tells_at 16 statuses.of_bytes (at 16 e) refl).0) in omega (arith, ten));
       }
 
 pub only_scripts : OnlyScriptsAreRefused

@@ -1,4 +1,5 @@
 -- A subject, an information and a script that were loaded for reports: they do not link, or they were run.
+use Rattle.app_load.proofs.Going.{made_here}
 use Rattle.std.proofs.Common.{◌≡◌, ℕ, ◌⊎◌, Bool, List, ◌++◌, refl, inl, inr, sym, ap, ap₂, subst, ◌∙◌, Some, Result, Ok, Err, IfOk, IfErr}
 use Rattle.wasm_sem.specs.Types.{Module}
 use Rattle.wasm_sem.specs.declared.Script.{Script}
@@ -9,25 +10,25 @@ use Rattle.run_session.specs.Linking.{TellsRefusal}
 use Rattle.name_map.specs.declared.Names.{Names}
 use Rattle.static_info.specs.declared.Info.{Info}
 use Rattle.analyses.specs.Tools.{ToolState}
-use Rattle.app_plan.specs.declared.kinds.Kinds.{Kinds}
+use Rattle.app_load.specs.declared.kinds.Kinds.{Kinds}
 use Rattle.app_runs.specs.declared.feeding.Tally.{Tally}
-use Rattle.app_plan.specs.declared.told.Printed.{Printed}
-use Rattle.app_plan.specs.declared.told.Refusal.{Refusal}
-use Rattle.app_plan.specs.declared.told.Refusal.TheVariants as refusals
+use Rattle.app_load.specs.declared.printing.Printed.{Printed}
+use Rattle.app_load.specs.declared.printing.Refusal.{Refusal}
+use Rattle.app_load.specs.declared.printing.Refusal.TheVariants as refusals
 use Rattle.app_runs.specs.Reporting.{tools_text, events_told, reports_text}
-use Rattle.app_plan.specs.Feeding.{fed, AreFedPart, fresh_tools}
+use Rattle.app_load.specs.Feeding.{fed, AreFedPart, fresh_tools}
 use Rattle.app_runs.specs.Feeding.{tally_of}
-use Rattle.app_plan.specs.Printing.{ShelfState}
+use Rattle.outside_io.specs.Outside.{ShelfState}
 use Rattle.app_runs.specs.RunTexts.{run_status, run_text}
 use Rattle.app_runs.specs.ToldNames.{functions_told, names_among, original_names, tools_functions, with_kept}
 use Rattle.wasabi_app.specs.Modes.Report.{report_effect, reported_plan}
-use Rattle.app_plan.specs.Ends.{memory_ended}
+use Rattle.app_load.specs.Ends.{memory_ended}
 use Rattle.app_runs.specs.Linking.{IsUnlinked}
-use Rattle.app_plan.specs.Outcomes.{Yields}
-use Rattle.app_plan.specs.Plans.{does, ends}
+use Rattle.app_load.specs.Outcomes.{Yields}
+use Rattle.app_load.specs.Plans.{does, ends}
 use Rattle.wasabi_app.specs.Playing.{ending_of}
-use Rattle.app_plan.proofs.Contents.{unchanged_same}
-use Rattle.app_plan.proofs.Fed.{all_part}
+use Rattle.app_load.proofs.Contents.{none_read}
+use Rattle.app_load.proofs.Fed.{all_part}
 use Rattle.app_runs.proofs.FedReports.{fed_reports, fed_functions}
 use Rattle.wasabi_app.proofs.Linked.{was_unlinked, played_links, finish_statuses}
 
@@ -40,7 +41,7 @@ took_part : (kinds : Kinds) (keeps : Bool) (names : Names) (info : Info) (m : Mo
 took_part kinds keeps names info m s at first now refusal none l part =
     subst (λ r. Yields (Some (reported_plan kinds keeps m names info s)) at at first now (Err r)) (sym none)
     (subst (λ p. Yields (Some p) at at first now (Err refusals.NoMemory)) (sym (played_links m s (ends (does (report_effect kinds keeps m names info s))) l))
-    (memory_ended (unchanged_same at.contents) (inr (report_effect kinds keeps m names info s, refl, part))))
+    (memory_ended 0 tt (none_read at) (inr (report_effect kinds keeps m names info s, refl, part))))
 
 -- ---- the run
 
@@ -74,7 +75,7 @@ pub was_reported : (kinds : Kinds) (keeps : Bool) (m : Module) (names : Names) (
 was_reported kinds keeps m names info s o tally first now at (Ok told) p status text none =
     subst (λ plan. Yields (Some plan) at at first now (Ok told)) (sym (played_links m s (ends (does (report_effect kinds keeps m names info s))) p.links)) (
       report_effect kinds keeps m names info s,
-      record { leads = refl; files = unchanged_same at.contents; taken = p.taken },
+      made_here (report_effect kinds keeps m names info s) at first now refl p.taken,
       status ∙ ap run_status p.ended ∙ sym (finish_statuses (ending_of m s)),
       text ∙ text_of kinds keeps m names info s o tally first now p,
     )

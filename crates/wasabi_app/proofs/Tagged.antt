@@ -4,7 +4,7 @@ use Rattle.std.proofs.lemmas.Bool.Decides.{nat_tests}
 use Rattle.outside_io.specs.Outside.{Contents}
 use Rattle.wasm_sem.specs.Types.{Module, Event, GroupName}
 use Rattle.module_ast.specs.Binary.{Gram, IsWithin}
-use Rattle.module_ast.specs.Validation.{narrow, IsValid}
+use Rattle.module_ast.specs.Validation.{narrow, IsValid, longest_file, longest_narrow_file}
 use Rattle.module_ast.proofs.LeastModules.{module_least}
 use Rattle.module_ast.proofs.ReadFits.{read_fits}
 use Rattle.hook_select.specs.declared.GroupName.TheVariants as groups
@@ -26,11 +26,10 @@ use Rattle.shadow_replay.specs.Opened.{opening_replay}
 use Rattle.shadow_replay.specs.Taint.{Watch}
 use Rattle.shadow_replay.specs.Tainted.{TaintedShadow}
 use Rattle.shadow_replay.proofs.Shadows.{shadows_follow, warnings_follow}
-use Rattle.instrument.specs.Made.{longest_output, narrow_file}
 use Rattle.instrument.specs.Output.{output}
 use Rattle.instrument.specs.Same.{IsPrefix, SameRuns, env_in}
 use Rattle.instrument.proofs.OutputSame.{same}
-use Rattle.app_plan.specs.Plans.{Effect, does, LeadsTo, Plan, prints}
+use Rattle.app_load.specs.Plans.{Effect, does, LeadsTo, Plan, prints}
 use Rattle.shadow_replay.specs.Items.{AreFitFor}
 use Rattle.app_runs.specs.Reporting.{items_told}
 use Rattle.app_runs.specs.Watching.{import_names}
@@ -191,7 +190,7 @@ module _ (m : Module) (is : IsFollowable m) (free : IsFree m) (s : Script) (rang
 
 -- ---- accepted files, and the plan
 
-pub followable : (file : List ℕ) (m : Module) → IsValid m → IsWithin narrow m → length file ≤ narrow_file → Gram file m → IsFollowable m
+pub followable : (file : List ℕ) (m : Module) → IsValid m → IsWithin narrow m → length file ≤ longest_narrow_file → Gram file m → IsFollowable m
 followable file m valid limits short spelled = record {
   valid = valid;
   complete = read_complete file m spelled;
@@ -215,9 +214,9 @@ played_leads held s None plan e k = (refl, k)
 played_leads held s (Some why) plan e k = cc
 
 pub taints_tell : TaintsTell
-taints_tell held line e (m, there, leads) =
-    let plan = warned_plan line.script (watch_of line m) m in
-    let gets = hooked_leads held line.subject m (output_length m all_hooks) longest_output plan e (known_leads held (unknown_in line (import_names m.imports)) _ e leads) in
+taints_tell held g script_name e (m, there, leads) =
+    let plan = warned_plan script_name (watch_of g m) m in
+    let gets = hooked_leads held g.subject m (output_length m all_hooks) longest_file plan e (known_leads held (unknown_in g (import_names m.imports)) _ e leads) in
     let (fit, valid) = there.spelled in
     let is = followable there.bytes m valid fit.within there.read_well.short fit.spelled in
     let (s, script_there, ran) = gets.2 in
@@ -226,7 +225,7 @@ taints_tell held line e (m, there, leads) =
     let o = output m all_hooks in
     let (links, printed) = played_leads held s (link o s) _ e ran in
     let both : Links m s = sym ((same m all_hooks is.valid is.limits (omega (arith, is.short)) is.fits gets.0).links s range) ∙ links in
-    let w = watch_of line m in
+    let w = watch_of g m in
     let effect : prints (taint_text w m s) (ending_finish o s) ≡ e = cc in
     record {
       original = m;

@@ -3,7 +3,7 @@ use Rattle.std.proofs.Common.{◌≡◌, ◌∙◌, ℕ, ◌^◌, ◌<◌, ◌�
 use Rattle.wasm_sem.specs.Types.{Import, Item, Module}
 use Rattle.module_ast.specs.declared.module.Item.TheVariants.{Func, Table, Memory, Global}
 use Rattle.module_ast.specs.declared.module.Which.TheVariants.{Functions}
-use Rattle.module_ast.specs.Validation.{wide}
+use Rattle.module_ast.specs.Validation.{wide, longest_file}
 use Rattle.module_ast.specs.Structure.{imported_funcs}
 use Rattle.wasm_sem.specs.declared.Script.{Script}
 use Rattle.wasm_sem.specs.Execution.{IsFree, IsScriptInRange, Links}
@@ -12,10 +12,10 @@ use Rattle.static_info.specs.Info.{info_of}
 use Rattle.shadow_replay.specs.Opened.{opening_replay}
 use Rattle.shadow_replay.specs.Replayed.{Replay}
 use Rattle.shadow_replay.specs.Taint.{Watch}
-use Rattle.instrument.specs.Made.{IsMade, longest_output}
+use Rattle.instrument.specs.Made.{IsMade}
 use Rattle.instrument.specs.Output.{output}
 use Rattle.instrument.proofs.OutputSame.{same}
-use Rattle.app_plan.specs.Files.{IsFit}
+use Rattle.app_load.specs.Files.{IsFit}
 use Rattle.shadow_replay.specs.Items.{AreFitFor, TakesAll}
 use Rattle.app_runs.specs.Reporting.{items_told}
 use Rattle.app_runs.specs.Watching.{import_names}
@@ -50,7 +50,7 @@ module _ (m : Module) (is : IsFollowable m) (free : IsFree m) where
   triable = record { valid = is.valid; limits = is.limits; fits = is.fits; short = is.short; free = free }
 
   -- what was made of a module is read as its output
-  pub paired : (bytes : List ℕ) (info : Info) (o : Module) → IsMade m all_hooks bytes info → output_length m all_hooks ≤ longest_output → IsFit wide bytes o
+  pub paired : (bytes : List ℕ) (info : Info) (o : Module) → IsMade m all_hooks bytes info → output_length m all_hooks ≤ longest_file → IsFit wide bytes o
       → ArePaired m o info
   paired bytes info o made few fit = record {
     followable = is;

@@ -6,7 +6,7 @@ use Rattle.std.specs.Result.{OkIff, result_ok}
 use Rattle.std.specs.Str.Parse.{AllDigits, IsNumeral, ParsesUnsigned, digits_value, without_leading_plus}
 use Rattle.std.proofs.lemmas.Bool.{ltb-true, lt-ltb, eqb-true}
 use Rattle.clap.proofs.WalkLemmas.{both}
-use Rattle.wasabi_app.specs.Modes.Trial.{number_in}
+use Rattle.wasabi_app.specs.Modes.Trial.{trial_number}
 
 digits_from : (ds : List ℕ) → list_all (λ d. nat_lt (digit_value d) 10) ds ≡ true → AllDigits 10 ds
 digits_from [] e = tt
@@ -33,7 +33,7 @@ tests_suits text e =
     ((ltb-true _ _ num.0, digits_from _ num.1), ltb-true _ _ a.1)
 
 -- what is read of a text without a plus in front
-read_plain : {E : Type 0} (text : List ℕ) (r : Result ℕ E) → OkIff r (Suits text) (digits_value 10 text) → result_ok r ≡ number_in text
+read_plain : {E : Type 0} (text : List ℕ) (r : Result ℕ E) → OkIff r (Suits text) (digits_value 10 text) → result_ok r ≡ trial_number text
 read_plain text (Ok n) h = ap Some h.1 ∙ sym (ap (λ b. cond b (Some (digits_value 10 text)) None) (suits_tests text h.0))
 read_plain text (Err e) never = by (tests text) refl
   where
@@ -41,7 +41,7 @@ read_plain text (Err e) never = by (tests text) refl
     by true is = absurd (never (tests_suits text is))
     by false is = refl
 
-pub number_read : {E : Type 0} (text : List ℕ) (r : Result ℕ E) → ParsesUnsigned 64 10 text r → (slice_index text 0 == 43) ≡ false → result_ok r ≡ number_in text
+pub number_read : {E : Type 0} (text : List ℕ) (r : Result ℕ E) → ParsesUnsigned 64 10 text r → (slice_index text 0 == 43) ≡ false → result_ok r ≡ trial_number text
 number_read text r h plain =
     let whole : without_leading_plus text ≡ text = ap (λ b. drop (cond b 1 0) text) plain in
     read_plain text r (subst (λ w. OkIff r (Suits w) (digits_value 10 w)) whole h)
@@ -51,8 +51,8 @@ none_by : (b c : Bool) (n : ℕ) → None ≡ cond ((b && false) && c) (Some n) 
 none_by true c n = refl
 none_by false c n = refl
 
-pub plus_is_none : (text : List ℕ) → (slice_index text 0 == 43) ≡ true → None ≡ number_in text
+pub plus_is_none : (text : List ℕ) → (slice_index text 0 == 43) ≡ true → None ≡ trial_number text
 plus_is_none [] e = refl
 plus_is_none (c ∷ cs) e =
-    subst (λ d. None ≡ number_in (d ∷ cs)) (sym (eqb-true c 43 e))
+    subst (λ d. None ≡ trial_number (d ∷ cs)) (sym (eqb-true c 43 e))
     (none_by (nat_lt 0 (length (43 ∷ cs))) (nat_lt (digits_value 10 (43 ∷ cs)) (2 ^ 64)) (digits_value 10 (43 ∷ cs)))

@@ -2,14 +2,14 @@
 use Rattle.std.proofs.Common.{◌≡◌, ◌∙◌, ◌⊎◌, inl, inr, ℕ, ◌≤◌, List, length, sym, ap, subst, arith, Result, Ok, Err, IfOk, OnOk}
 use Rattle.wasm_sem.specs.Types.{Module, Event}
 use Rattle.module_ast.specs.Binary.{module_bytes, Gram}
-use Rattle.module_ast.specs.Validation.{wide}
+use Rattle.module_ast.specs.Validation.{wide, longest_file, longest_narrow_file}
 use Rattle.module_ast.specs.Structure.{funcs_of}
 use Rattle.wasm_sem.specs.declared.Script.{Script}
 use Rattle.wasm_sem.specs.Execution.{Summary, summary_of}
 use Rattle.static_info.specs.Belongs.{Belongs}
 use Rattle.static_info.specs.Info.{info_of}
 use Rattle.static_info.specs.declared.Info.{Info}
-use Rattle.instrument.specs.Made.{IsMade, longest_output}
+use Rattle.instrument.specs.Made.{IsMade}
 use Rattle.instrument.specs.Output.{output, output_bytes}
 use Rattle.instrument.proofs.OutputShell.{output_has_shell}
 use Rattle.instrument.proofs.OutputSpelled.{output_is_spelled}
@@ -18,12 +18,12 @@ use Rattle.module_gen.proofs.MadeModules.{made_fits, made_narrow, made_short, ma
 use Rattle.analyses.specs.Tools.{ToolState}
 use Rattle.report.specs.Text.{events_text}
 use Rattle.report.proofs.Pieces.{on_err}
-use Rattle.app_plan.specs.declared.told.Printed.{Printed}
-use Rattle.app_plan.specs.Feeding.{fed, AreFedPart}
-use Rattle.app_plan.specs.Files.{IsFit}
-use Rattle.app_plan.specs.declared.kinds.Kinds.{Kinds}
-use Rattle.app_plan.specs.Kinds.{all_reports}
-use Rattle.app_plan.proofs.Files.{one_module}
+use Rattle.app_load.specs.declared.printing.Printed.{Printed}
+use Rattle.app_load.specs.Feeding.{fed, AreFedPart}
+use Rattle.app_load.specs.Files.{IsFit}
+use Rattle.app_load.specs.declared.kinds.Kinds.{Kinds}
+use Rattle.app_load.specs.Kinds.{all_reports}
+use Rattle.app_load.proofs.Files.{one_module}
 use Rattle.app_runs.specs.declared.feeding.Tally.{Tally}
 use Rattle.app_runs.specs.Feeding.{tally_of}
 use Rattle.app_runs.specs.Reporting.{events_told}
@@ -31,7 +31,7 @@ use Rattle.app_runs.specs.RunTexts.{run_status, run_text}
 use Rattle.wasabi_app.specs.Making.{output_length}
 use Rattle.wasabi_app.specs.Trying.{AreTried, IsRun, IsTold, IsTriable}
 use Rattle.wasabi_app.specs.Modes.Trial.{all_hooks, front_text, pair_front, runs_text, sizes_text, told_of_run, trial_script}
-use Rattle.app_plan.proofs.Fed.{all_part, none_part}
+use Rattle.app_load.proofs.Fed.{all_part, none_part}
 use Rattle.wasabi_app.proofs.Composed.{shell_belongs}
 use Rattle.wasabi_app.proofs.Linked.{finish_statuses}
 use Rattle.wasabi_app.proofs.TrialLinks.{made_free}
@@ -48,18 +48,18 @@ made_triable number = record {
 }
 
 module _ (m : Module) (t : IsTriable m) where
-  spelled : output_length m all_hooks ≤ longest_output → Gram (output_bytes m all_hooks) (output m all_hooks)
+  spelled : output_length m all_hooks ≤ longest_file → Gram (output_bytes m all_hooks) (output m all_hooks)
   spelled few =
-      let short : length (module_bytes m) ≤ 16777216 = t.short in
+      let short : length (module_bytes m) ≤ longest_narrow_file = t.short in
       output_is_spelled m all_hooks t.valid t.limits t.fits (omega (arith, short)) (omega (arith, few))
 
   -- what the bytes of the output are read as
-  pub output_read : (bytes : List ℕ) (info : Info) (o : Module) → IsMade m all_hooks bytes info → output_length m all_hooks ≤ longest_output → IsFit wide bytes o
+  pub output_read : (bytes : List ℕ) (info : Info) (o : Module) → IsMade m all_hooks bytes info → output_length m all_hooks ≤ longest_file → IsFit wide bytes o
       → o ≡ output m all_hooks
   output_read bytes info o made few fit =
       one_module (output_bytes m all_hooks) o (output m all_hooks) (subst (λ (b : List ℕ). IsFit wide b o) made.written fit).spelled (spelled few)
 
-  pub output_belongs : (bytes : List ℕ) (info : Info) (o : Module) → IsMade m all_hooks bytes info → output_length m all_hooks ≤ longest_output → IsFit wide bytes o
+  pub output_belongs : (bytes : List ℕ) (info : Info) (o : Module) → IsMade m all_hooks bytes info → output_length m all_hooks ≤ longest_file → IsFit wide bytes o
       → Belongs info o
   output_belongs bytes info o made few fit =
       let same = output_read bytes info o made few fit in

@@ -2,6 +2,7 @@
 use Rattle.std.proofs.Common.{◌≡◌, ◌∙◌, ℕ, ◌≤◌, List, [], ◌∷◌, length, map, true, refl, sym, ap, ap₂, subst, arith, All, IsTrue, is_some}
 use Rattle.wasm_sem.specs.Types.{Module, Event, Hooks}
 use Rattle.module_ast.specs.Binary.{module_bytes}
+use Rattle.module_ast.specs.Validation.Limits.{longest_narrow_file}
 use Rattle.hook_select.specs.Events.{group_of}
 use Rattle.wasm_sem.specs.declared.Script.{Script}
 use Rattle.wasm_sem.specs.Execution.{summary, summary_of, run_of}
@@ -16,12 +17,12 @@ use Rattle.analyses.specs.declared.Row.{Row}
 use Rattle.analyses.specs.Book.{book}
 use Rattle.analyses.specs.Tools.{ToolState, fresh_tool}
 use Rattle.analyses.proofs.Books.{takes_make_book}
-use Rattle.app_plan.specs.Feeding.{fed, fed_tool}
-use Rattle.app_plan.specs.Kinds.{all_reports, every_kind, has_kind}
+use Rattle.app_load.specs.Feeding.{fed, fed_tool}
+use Rattle.app_load.specs.Kinds.{all_reports, every_kind, has_kind}
 use Rattle.app_runs.specs.RunTexts.{run_text}
 use Rattle.wasabi_app.specs.Composing.{TrialTells, selected_events}
 use Rattle.wasabi_app.specs.Modes.Trial.{all_hooks, first_steps, second_steps, trial_events, trial_output, trial_script}
-use Rattle.app_plan.proofs.Fed.{book_after, fed_takes}
+use Rattle.app_load.proofs.Fed.{book_after, fed_takes}
 use Rattle.wasabi_app.proofs.Alike.{over_alike}
 use Rattle.wasabi_app.proofs.Composed.{same_events}
 use Rattle.wasabi_app.proofs.TrialLinks.{made_free, same_steps, trial_in_range, trial_links}
@@ -56,7 +57,7 @@ books_held es (k ∷ ks) =
 module _ (number : ℕ) where
   pub runs_alike : SameRuns (made number) all_hooks (trial_output number) (trial_script number second_steps)
   runs_alike =
-      let short : length (module_bytes (made number)) ≤ 16777216 = made_short number in
+      let short : length (module_bytes (made number)) ≤ longest_narrow_file = made_short number in
       (same (made number) all_hooks (made_valid number) (made_narrow number) (omega (arith, short)) (made_fits number) (made_free number)).runs
       (trial_script number second_steps) (trial_in_range number second_steps (omega arith) (omega arith)) (trial_links number second_steps)
 

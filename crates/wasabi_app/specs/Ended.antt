@@ -1,21 +1,21 @@
 -- How a command ends that is run with four fresh analyses.
-use Rattle.std.specs.Prelude.{◌≡◌, ℕ, ◌≤◌, ◌⊎◌, List, None}
+use Rattle.std.specs.Prelude.{◌≡◌, ℕ, ◌⊎◌, List, None}
 use Rattle.analyses.specs.Tools.{ToolState}
-use Rattle.app_plan.specs.Ends.{DecidesEffects, DecidesReads, DecidesRefusals, Ends, Tells, class_of}
-use Rattle.app_plan.specs.Feeding.{fresh_tools}
-use Rattle.app_plan.specs.Printing.{ShelfState, PrintState}
-use Rattle.wasabi_app.specs.Making.{Line}
+use Rattle.app_load.specs.Ends.{DecidesEffects, DecidesReads, DecidesRefusals, Ends, Tells}
+use Rattle.app_load.specs.Statuses.{class_of}
+use Rattle.app_load.specs.Feeding.{fresh_tools}
+use Rattle.outside_io.specs.Outside.{ShelfState, PrintState}
 use Rattle.wasabi_app.specs.Modes.{plan_of}
-use Rattle.wasabi_app.specs.Modes.Instrument.{IsDone, IsLine, IsWritten}
+use Rattle.wasabi_app.specs.Modes.Instrument.{IsInstrumentedBy}
 use Rattle.wasabi_app.specs.Promised.{IsRecorded, IsReported, IsTreed, IsTried, IsWarnedOf}
 
--- By the plan of its words, whatever the analyses have taken then. All that `run_app` ensures holds of it: what its status
--- tells, what stands where the work of a mode was done, which status comes, and that counts of faults never fall.
+-- A command ends by the plan of its words, whatever the analyses have taken then. All that `run_app` ensures holds of
+-- this end: what its status tells, what is stored if the work of a mode was done, and which status comes.
 pub record IsEnded (words : List (List ℕ)) (old new : ShelfState) (before after : PrintState) (status : ℕ) : Type 0 where
   pub taken : List ToolState
   pub ends : Ends (plan_of words) old new fresh_tools taken before after status
   pub tells : Tells (plan_of words) old new fresh_tools taken before after status (class_of status)
-  pub written : (line : Line) → IsLine words line → IsDone status → IsWritten line old.contents new.contents
+  pub written : IsInstrumentedBy words old.contents new.contents status
   pub reported : IsReported words old new fresh_tools taken before after status
   pub recorded : IsRecorded words old new fresh_tools taken before after status
   pub treed : IsTreed words old new fresh_tools taken before after status
@@ -25,6 +25,3 @@ pub record IsEnded (words : List (List ℕ)) (old new : ShelfState) (before afte
   pub reads : DecidesReads (plan_of words) old.contents status
   pub refusals : DecidesRefusals (plan_of words) old.contents status
   pub effects : DecidesEffects (plan_of words) old.contents status
-  pub read_count : old.reads ≤ new.reads
-  pub write_count : old.writes ≤ new.writes
-  pub print_count : before.faults ≤ after.faults

@@ -9,7 +9,7 @@ pub mod Tree
 pub mod Trial
 pub mod Taint
 use Rattle.std.specs.Prelude.{ℕ, List, [], ◌∷◌, bytes_eq, find, Option, option_and_then}
-use Rattle.app_plan.specs.Plans.{Plan}
+use Rattle.app_load.specs.Plans.{Plan}
 use Rattle.wasabi_app.specs.Words.{Given, given}
 use Rattle.wasabi_app.specs.Mode.{Mode}
 use Rattle.wasabi_app.specs.Modes.Check.{check_mode}
@@ -25,10 +25,10 @@ use Rattle.wasabi_app.specs.Modes.Taint.{taint_mode}
 abbrev pub modes : List Mode
 modes = check_mode ∷ instrument_mode ∷ run_mode ∷ report_mode ∷ record_mode ∷ replay_mode ∷ tree_mode ∷ trial_mode ∷ taint_mode ∷ []
 
--- that of the mode with this name
+-- the plan of the mode with this name
 abbrev pub plan_in : (mode : List ℕ) → Given → Option Plan
 plan_in mode g = option_and_then (λ (m : Mode). m.plan g) (find (λ (m : Mode). bytes_eq m.name mode) modes)
 
--- that of words: none where they are no command
+-- the plan of the words, or `None` if they are no command
 abbrev pub plan_of : List (List ℕ) → Option Plan
 plan_of words = option_and_then (λ (g : Given). plan_in g.mode g) (given words)

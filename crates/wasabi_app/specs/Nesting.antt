@@ -1,4 +1,4 @@
--- That the nodes of a tree count the paths of calls, which ends are refused, and that none of an output is.
+-- That the nodes of a tree count the paths of calls, which ends are refused, and that no end of an output is refused.
 use Rattle.std.specs.Prelude.{◌≡◌, ℕ, List, [], ◌∷◌, ◌++◌, count_by, Bool, Option, Some, None, IsSome, cond, true}
 use Rattle.std.specs.List.{list_any}
 use Rattle.std.specs.Ordering.{nat_cmp, eq_by_cmp}
@@ -14,22 +14,22 @@ use Rattle.static_info.specs.Info.{info_of}
 use Rattle.static_info.specs.Json.{HoldInfo}
 use Rattle.call_tree.specs.Paths.{paths, HasBadEnd}
 use Rattle.call_tree.specs.State.{path_counts_in}
-use Rattle.app_plan.specs.Files.{IsFit}
+use Rattle.app_load.specs.Files.{IsFit}
 use Rattle.app_runs.specs.Reporting.{items_told}
 use Rattle.call_tree.specs.Unnested.{end_place, first_unnested}
 use Rattle.app_runs.specs.Treeing.{tells_brackets}
 use Rattle.wasabi_app.specs.KeptNames.{IsOutput}
 
--- how often a path is among these, where it is
+-- how often a path is among these paths; `None` if it is not
 abbrev pub times_among : (path : List ℕ) → List (List ℕ) → Option ℕ
 times_among path ps =
     cond (list_any (eq_by_cmp (slice_cmp nat_cmp) path) ps) (Some (count_by (eq_by_cmp (slice_cmp nat_cmp) path) ps)) None
 
--- Each path that came has its node, with the number of begins with this path, and no other has one.
+-- Each path that came has its node, with the number of begins with this path. No other path has a node.
 abbrev pub NodesCountPaths : Type 0
 NodesCountPaths = (is : List TraceItem) (path : List ℕ) → get (path_counts_in (paths is)) path ≡ times_among path (paths is)
 
--- Items are refused exactly where they are bad, at the first end that makes them so.
+-- Items are refused exactly if they are bad, at the first end that makes them bad.
 pub record RefusesFirstEnd (is : List TraceItem) : Type 0 where
   pub bad : HasBadEnd is → IsSome (first_unnested is)
   pub refused : IsSome (first_unnested is) → HasBadEnd is
@@ -38,9 +38,9 @@ pub record RefusesFirstEnd (is : List TraceItem) : Type 0 where
 abbrev pub BadAreRefused : Type 0
 BadAreRefused = (is : List TraceItem) → RefusesFirstEnd is
 
--- Of the output of each accepted file with all groups, with names or without, read as a module, and bytes that hold the
--- information on its original, read as information: this tells of begins and ends, and no end is refused, with each script
--- with which the original links.
+-- For the output of each accepted file with all groups, with names or without, read as a module, and bytes that hold
+-- the information on its original, read as information: the information tells of begins and ends, and no end is
+-- refused, with each script with which the original links.
 abbrev pub OutputsNest : Type 0
 OutputsNest =
     (file : List ℕ) (hooks : Hooks) → ((group : GroupName) → has hooks group ≡ true)

@@ -6,13 +6,14 @@ use Rattle.wasm_sem.specs.Link as linking
 use Rattle.wasm_sem.specs.Execution.{link, Summary, summary_of}
 use Rattle.app_runs.specs.RunTexts.{has_trapped, run_text}
 use Rattle.app_runs.specs.Linking.{link_reason, link_text}
-use Rattle.app_plan.specs.Plans.{Finish, done, trapped, unfinished, Plan, refusing}
+use Rattle.app_load.specs.Plans.{Finish, done, trapped, unfinished, Plan, refusing}
 
+-- this plan, if the link is not refused; if it is, the refusal with its line
 abbrev pub linked : Script → Option linking.Refusal → Plan → Plan
 linked s (Some why) plan = refusing (link_reason why) (link_text s.calls why)
 linked s None plan = plan
 
--- this plan, where they link
+-- this plan, if the module and the script link
 abbrev pub played : Module → Script → Plan → Plan
 played m s plan = linked s (link m s) plan
 
@@ -20,7 +21,7 @@ played m s plan = linked s (link m s) plan
 abbrev pub finish_of : Summary → Finish
 finish_of s = cond s.running unfinished (cond (has_trapped s.start s.calls) trapped done)
 
--- what stands after the script's steps, and its text
+-- how far the run is after the script's steps, and its text and its end
 abbrev pub ending_of : Module → Script → Summary
 ending_of m s = summary_of m s s.steps
 

@@ -15,6 +15,6 @@ abbrev pub warnings_in : Option TaintedShadow → List Warning
 warnings_in None = []
 warnings_in (Some sh) = sh.marks.taint.warnings
 
--- those of the items that a module's output with all hooks tells in the script's steps
+-- the warnings on the items that a module's output with all hooks tells in the script's steps
 abbrev pub warnings_told : Module → Watch → Script → List Warning
 warnings_told m w s = warnings_in (tainted_shadow_after m s w (items_told (info_of m all_hooks) (output m all_hooks) s s.steps))

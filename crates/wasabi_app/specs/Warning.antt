@@ -2,7 +2,7 @@
 use Rattle.std.specs.Prelude.{◌≡◌, ℕ, ◌≤◌, List, length, map, None, Some, Err, string_bytes}
 use Rattle.wasm_sem.specs.Types.{Module}
 use Rattle.module_ast.specs.Binary.{module_bytes, Fits, IsWithin}
-use Rattle.module_ast.specs.Validation.{IsComplete, narrow, IsValid}
+use Rattle.module_ast.specs.Validation.{IsComplete, narrow, IsValid, longest_narrow_file}
 use Rattle.wasm_sem.specs.declared.Script.{Script}
 use Rattle.wasm_sem.specs.Execution.{IsFree}
 use Rattle.static_info.specs.declared.Info.{Info}
@@ -10,21 +10,19 @@ use Rattle.static_info.specs.Belongs.{Belongs}
 use Rattle.static_info.specs.Form.{IsWellFormed}
 use Rattle.static_info.specs.Info.{info_of}
 use Rattle.shadow_replay.specs.Taint.{Watch}
-use Rattle.instrument.specs.Made.{longest_output, narrow_file}
 use Rattle.instrument.specs.Output.{output}
 use Rattle.analyses.specs.Tools.{ToolState}
-use Rattle.app_plan.specs.declared.told.Printed.{Printed}
-use Rattle.app_plan.specs.declared.told.Refusal.{Refusal}
-use Rattle.app_plan.specs.Outcomes.{Yields}
-use Rattle.app_plan.specs.Plans.{Plan, finish_status}
-use Rattle.app_plan.specs.Printing.{ShelfState}
+use Rattle.app_load.specs.declared.printing.Printed.{Printed}
+use Rattle.app_load.specs.declared.printing.Refusal.{Refusal}
+use Rattle.app_load.specs.Outcomes.{Yields}
+use Rattle.app_load.specs.Plans.{Plan, finish_status}
+use Rattle.outside_io.specs.Outside.{ShelfState}
 use Rattle.app_runs.specs.Watching.{import_names, listed, numbers_named}
 use Rattle.wasabi_app.specs.declared.taint_mode.Watched.{Watched}
-use Rattle.wasabi_app.specs.Making.{output_length}
 use Rattle.wasabi_app.specs.Playing.{ending_finish}
-use Rattle.wasabi_app.specs.Modes.Instrument.{hooked}
-use Rattle.wasabi_app.specs.Modes.Taint.{TaintLine, unknown_in, known, taint_text}
+use Rattle.wasabi_app.specs.Modes.Taint.{unknown_in, known, taint_text}
 use Rattle.wasabi_app.specs.Modes.Trial.{all_hooks}
+use Rattle.wasabi_app.specs.Words.{Given}
 
 -- what the mode reads a subject as: a valid module within the limits of modules that get hooks, of its sizes
 pub record IsFollowable (m : Module) : Type 0 where
@@ -32,45 +30,35 @@ pub record IsFollowable (m : Module) : Type 0 where
   pub complete : IsComplete m
   pub limits : IsWithin narrow m
   pub fits : Fits m
-  pub short : length (module_bytes m) ≤ narrow_file
+  pub short : length (module_bytes m) ≤ longest_narrow_file
 
 -- ---- what is watched
 
--- the names are known
-abbrev pub AreKnown : TaintLine → Module → Type 0
-AreKnown line m = unknown_in line (import_names m.imports) ≡ None
+-- each name in the lists is the name of an import
+abbrev pub AreKnown : Given → Module → Type 0
+AreKnown g m = unknown_in g (import_names m.imports) ≡ None
 
--- one is not, whatever was to be done then
-abbrev pub IsUnknown : TaintLine → Module → Refusal → Type 0
-IsUnknown line m refusal =
+-- a name of the lists is not known, and the refusal is that of every plan that follows
+abbrev pub IsUnknown : Given → Module → Refusal → Type 0
+IsUnknown g m refusal =
     (plan : Plan) (at : ShelfState) (tools : List ToolState)
-    → Yields (Some (known (unknown_in line (import_names m.imports)) plan)) at at tools tools (Err refusal)
+    → Yields (Some (known (unknown_in g (import_names m.imports)) plan)) at at tools tools (Err refusal)
 
--- the imports have these names, and those of them that are in the lists are watched
-pub record IsWatchedOf (line : TaintLine) (names : List (List ℕ)) (watched : Watched) : Type 0 where
+-- the imports have these names, and those imports whose names are in the lists are watched
+pub record IsWatchedOf (g : Given) (names : List (List ℕ)) (watched : Watched) : Type 0 where
   pub named : map string_bytes watched.names.items ≡ names
-  pub sources : watched.sources.items ≡ numbers_named (listed line.sources) 0 names
-  pub sinks : watched.sinks.items ≡ numbers_named (listed line.sinks) 0 names
+  pub sources : watched.sources.items ≡ numbers_named (listed g.sources) 0 names
+  pub sinks : watched.sinks.items ≡ numbers_named (listed g.sinks) 0 names
 
-abbrev pub IsWatched : TaintLine → Module → Watched → Type 0
-IsWatched line m watched = IsWatchedOf line (import_names m.imports) watched
+abbrev pub IsWatched : Given → Module → Watched → Type 0
+IsWatched g m watched = IsWatchedOf g (import_names m.imports) watched
 
 abbrev pub watch_in : Watched → Watch
 watch_in watched = record { sources = watched.sources.items; sinks = watched.sinks.items }
 
 -- ---- the output
 
--- the module is given hooks: the plan goes on
-abbrev pub GetsHooks : (subject : List ℕ) → Module → Type 0
-GetsHooks subject m = (plan : Plan) → hooked subject m (output_length m all_hooks) longest_output plan ≡ plan
-
--- it is not, whatever was to be done then
-abbrev pub GetsNone : (subject : List ℕ) → Module → Refusal → Type 0
-GetsNone subject m refusal =
-    (plan : Plan) (at : ShelfState) (tools : List ToolState)
-    → Yields (Some (hooked subject m (output_length m all_hooks) longest_output plan)) at at tools tools (Err refusal)
-
--- a module without hooks, its output with all of them, and the information on it
+-- a module without hooks, its output with all hooks, and the information on it
 pub record ArePaired (m o : Module) (info : Info) : Type 0 where
   pub followable : IsFollowable m
   pub free : IsFree m
@@ -79,7 +67,7 @@ pub record ArePaired (m o : Module) (info : Info) : Type 0 where
   pub formed : IsWellFormed info
   pub belongs : Belongs info o
 
--- what is told of the output's run by the script
+-- what the answer tells of the output's run by the script
 pub record IsWarned (w : Watch) (m : Module) (s : Script) (told : Printed) : Type 0 where
   pub status : told.status ≡ finish_status (ending_finish (output m all_hooks) s)
   pub text : told.text.items ≡ taint_text w m s

@@ -1,8 +1,7 @@
 // A command that is run with four fresh analyses.
 
 ghost use Rattle.std.specs.Prelude.{◌≡◌, IfOk, OnErr, map};
-ghost use Rattle.app_plan.specs.Feeding.{fresh_tools};
-ghost use Rattle.app_plan.specs.Printing.{print_state, shelf_state};
+ghost use Rattle.app_load.specs.Feeding.{fresh_tools};
 ghost use Rattle.command_line.specs.Lines.{texts};
 ghost use Rattle.wasabi_app.specs.Ended.{IsEnded};
 
@@ -12,11 +11,12 @@ use outside_io::{Shelf, Sink};
 use std::alloc::{AllocError, Global};
 use std::thread::Threads;
 
-/// Runs a command with four fresh analyses and answers its status, as [`run_app`] does: `IsEnded` has each of its clauses.
+/// Runs a command with four fresh analyses and answers its status, as [`run_app`] does. `IsEnded` has each clause of
+/// `run_app`.
 ///
 /// # Errors
 ///
-/// An error where there is no memory for the analyses: nothing was done then.
+/// An error comes if there is no memory for the analyses. In this case nothing was done.
 pub fn run_with_analyses<R: Threads + Sync, S: Shelf, K: Sink>(
     rt: &R,
     alloc: Global,
@@ -24,10 +24,7 @@ pub fn run_with_analyses<R: Threads + Sync, S: Shelf, K: Sink>(
     shelf: &mut S,
     out: &mut K,
 ) -> Result<u8, AllocError>
-    ensures ended { IfOk result (IsEnded (texts words.now)
-        (shelf_state (S.contents shelf.old) (S.read_faults shelf.old) (S.write_faults shelf.old))
-        (shelf_state (S.contents shelf.new) (S.read_faults shelf.new) (S.write_faults shelf.new))
-        (print_state (K.written out.old) (K.faults out.old)) (print_state (K.written out.new) (K.faults out.new))) }
+    ensures ended { IfOk result (IsEnded (texts words.now) (S.seen shelf.old) (S.seen shelf.new) (K.seen out.old) (K.seen out.new)) }
     ensures undone { OnErr result ((shelf.new ≡ shelf.old) × (out.new ≡ out.old)) }
 {
     let mut tools: Vec<Box<dyn Analysis>> = Vec::new(alloc);
@@ -38,7 +35,8 @@ pub fn run_with_analyses<R: Threads + Sync, S: Shelf, K: Sink>(
     Ok(run_fresh(rt, alloc, words, shelf, out, &mut tools))
 }
 
-/// Runs a command with four fresh analyses and answers its status, which is 14 where there is no memory for these.
+/// Runs a command with four fresh analyses and answers its status. The status is 14 if there is no memory for the
+/// analyses.
 pub fn run_command<R: Threads + Sync, S: Shelf, K: Sink>(
     rt: &R,
     alloc: Global,
@@ -46,15 +44,11 @@ pub fn run_command<R: Threads + Sync, S: Shelf, K: Sink>(
     shelf: &mut S,
     out: &mut K,
 ) -> u8
-    ensures { IsEnded (texts words.now)
-        (shelf_state (S.contents shelf.old) (S.read_faults shelf.old) (S.write_faults shelf.old))
-        (shelf_state (S.contents shelf.new) (S.read_faults shelf.new) (S.write_faults shelf.new))
-        (print_state (K.written out.old) (K.faults out.old)) (print_state (K.written out.new) (K.faults out.new)) result }
+    ensures { IsEnded (texts words.now) (S.seen shelf.old) (S.seen shelf.new) (K.seen out.old) (K.seen out.new) result }
 {
     run_with_analyses(rt, alloc, words, shelf, out).unwrap_or(14)
 }
 
-// Runs a command with analyses that are fresh.
 fn run_fresh<R: Threads + Sync, S: Shelf, K: Sink>(
     rt: &R,
     alloc: Global,
@@ -64,10 +58,7 @@ fn run_fresh<R: Threads + Sync, S: Shelf, K: Sink>(
     tools: &mut Vec<Box<dyn Analysis>>,
 ) -> u8
     requires fresh { map state tools.old.items ≡ fresh_tools }
-    ensures { IsEnded (texts words.now)
-        (shelf_state (S.contents shelf.old) (S.read_faults shelf.old) (S.write_faults shelf.old))
-        (shelf_state (S.contents shelf.new) (S.read_faults shelf.new) (S.write_faults shelf.new))
-        (print_state (K.written out.old) (K.faults out.old)) (print_state (K.written out.new) (K.faults out.new)) result }
+    ensures { IsEnded (texts words.now) (S.seen shelf.old) (S.seen shelf.new) (K.seen out.old) (K.seen out.new) result }
 {
     run_app(rt, alloc, words, shelf, out, tools)
 }

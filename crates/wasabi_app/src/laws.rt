@@ -10,91 +10,96 @@ ghost use Rattle.wasabi_app.specs.Replaying.{EventsHaveTrace, RecordingsReplay};
 ghost use Rattle.wasabi_app.specs.Tagging.{TaintsTell, WarningsAreTagged};
 ghost use Rattle.wasabi_app.specs.TrialEnds.{TrialsEnd};
 
-/// What holds of some modes alone: which of them write, which give events to the analyses, and which refuse an output. Each
-/// mode stands in the proof with what it does; a new one adds a line.
+/// What holds of some modes alone: which modes write, which give events to the analyses, and which refuse an output.
+/// The proof says for each mode what it does; a new mode adds a line.
 pub fn modes_alone()
     ensures writes { SomeWrite }
     ensures feed { SomeFeed }
     ensures make { SomeMake }
 {}
 
-/// Where a module and one with hooks run alike under a script, the reports on the second, with the information on the
-/// first, are those on the first one's selected events, once its run is over. Before, its events are the first of
-/// these. None is a stray.
+/// If a module and one with hooks run alike under a script, and the run of the second is over, then the reports on the
+/// second, with the information on the first, are those on the first one's selected events. Before its run is over, the
+/// events of the second are the first of these. None of its events is a stray.
 ///
-/// So it is with the output of each accepted file, read as a module, and the information on its original: with each script
-/// with which the original links, the mode `report` prints the reports on the original's selected events.
+/// This holds for the output of each accepted file, read as a module, and the information on its original: with each
+/// script with which the original links, the mode `report` prints the reports on the original's selected events.
 pub fn reports_compose()
     ensures same_runs { SameRunsReport }
     ensures outputs { OutputsReport }
 {}
 
 /// The output of each accepted file prints what the original prints. The output links with each script with which the
-/// original links, whatever its number of steps is. Where the original's run is over in the `n` steps of the script, the
-/// output's is over in `cost * (n + 1)`; whenever it is over, its text is the original's, and it ends in the same way. It is
-/// over in no steps in which the original is not. So the mode `run` has the same effect on both.
+/// original links, whatever its number of steps is. If the original's run is over in the `n` steps of the script, the
+/// output's run is over in `cost * (n + 1)` steps. Whenever the output's run is over, its text is the original's, and
+/// it ends in the same way. The output's run is over in no number of steps in which the original's run is not. So the
+/// mode `run` has the same effect on both.
 pub fn outputs_print_alike()
     ensures alike { OutputsPrintAlike }
     ensures runs { RunsPrintAlike }
 {}
 
-/// What `instrument` wrote is taken by each mode that reads an output: `check` tells its counts, and `run` comes to no bad
-/// read but that of the script. Bytes that hold the information on its original, no more than are read, are taken with it
-/// by `report`, `record` and `tree`, which come to no other bad read either. So these never end in 6, 7, 8 or 16, and in 3 for
-/// the script alone. The information on a module of many wide types and blocks can be longer than what is read.
+/// Each mode that reads an output takes what `instrument` wrote: `check` tells its counts, and `run` meets no bad read
+/// except that of the script. `report`, `record` and `tree` take it with bytes that hold the information on its
+/// original, if there are no more bytes than the program reads. These modes meet no other bad read either. So they
+/// never end in 6, 7, 8 or 16, and they end in 3 because of the script alone. The information on a module of many wide
+/// types and blocks can be longer than what the program reads.
 pub fn outputs_are_read()
     ensures read { OutputsAreRead }
     ensures statuses { OnlyScriptsAreRefused }
 {}
 
-/// What `instrument` writes without names is the output alone. Where it is written with them, a report on it, with the
-/// information on its original, has the names of the original's functions as the original's file carries them.
+/// What `instrument` writes without names is the output alone. If the names are written, a report on the output, with
+/// the information on its original, has the names of the original's functions as the original's file carries them.
 pub fn names_are_kept()
     ensures dropped { DroppedNamesLeaveNothing }
     ensures kept { KeptNamesComeBack }
 {}
 
-/// The module that is made of a number and its output run alike under the trial's script: where the output's run is
-/// over, its events are those of the original, and each analysis holds their book; where both are, the texts of both
-/// runs are equal. None of the events is a stray.
+/// The module that is made of a number and its output run alike under the trial's script. If the output's run is over,
+/// its events are those of the original, and each analysis holds their book. If both runs are over, their texts are
+/// equal. None of the events is a stray.
 pub fn trials_tell()
     ensures tell { TrialsTell }
 {}
 
-/// Both runs of a trial are over in the steps that they are given, for each number. The call of the module returns a value,
-/// and the run of its output ends as done, so nothing traps. So what `trials_tell` says where runs are over holds of every
-/// number.
+/// For each number, both runs of a trial are over in the steps that they are given. The call of the module returns a
+/// value, and the run of its output ends as done, so nothing traps. So what `trials_tell` says of runs that are over
+/// holds for every number.
 pub fn trials_end()
     ensures end { TrialsEnd }
 {}
 
-/// What `record` writes is the trace of the events of its run, since their numbers are of their sizes. A later `replay`
-/// that finds these bytes, under whatever name, takes exactly these events, and prints what `report`, in the place of
-/// `record`, would print behind the text of the run.
+/// What `record` writes is the trace of the events of its run, because the numbers of these events are of their sizes.
+/// A later `replay` that finds these bytes, under whatever name, takes exactly these events. It prints what `report`,
+/// in the place of `record`, would print after the text of the run.
 pub fn recordings_replay()
     ensures trace { EventsHaveTrace }
     ensures replay { RecordingsReplay }
 {}
 
-/// For each accepted file, each script that links with its module, and whatever is watched: the warnings that a shadow
-/// of the module makes of what its output with all hooks tells are exactly those of the module's run with marks that as
-/// many host calls give as the output's run makes. They are the first of all that the run with marks gives in the
-/// script's steps, and all of them where the output's run is over. The mode `taint` prints these.
+/// For each accepted file, each script that links with its module, and whatever is watched: a shadow of the module
+/// takes what its output with all hooks tells, and makes warnings. These warnings are exactly those of the module's run
+/// with marks for as many host calls as the output's run makes. They are the first of all warnings that the run with
+/// marks gives in the script's steps. They are all of them if the output's run is over. The mode `taint` prints these
+/// warnings.
 pub fn warnings_are_tagged()
     ensures tagged { WarningsAreTagged }
     ensures prints { TaintsTell }
 {}
 
 /// What the mode `tree` tells: each path of calls that came in the items of a run has its node, with the number of
-/// begins with this path, and no other has one. Items are refused exactly where they are bad, at the first end that
+/// begins with this path. No other path has a node. Items are refused exactly if they are bad, at the first end that
 /// does not close the latest begin that is open. That never comes for the output of an accepted file with all groups,
-/// read as a module, and the information on its original: its items are the first of the original's, which are well
-/// nested.
+/// read as a module, and the information on its original: the output's items are the first of the original's, which are
+/// well nested.
 pub fn trees_tell()
     ensures counts { NodesCountPaths }
     ensures refusals { BadAreRefused }
     ensures outputs { OutputsNest }
 {
+    // for the proof: no end in the items of a run is bad, if its valid module imports no hook.
     call_tree::laws::nests();
+    // for the proof: if all groups are selected, nothing of a trace is left out.
     wasm_sem::laws::traces_nest();
 }

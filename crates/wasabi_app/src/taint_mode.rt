@@ -1,36 +1,35 @@
 // The mode `taint`.
 
 ghost use Rattle.std.specs.Prelude.{◌≡◌, ◌++◌, ◌<◌, ◌≤◌, ◌^◌, IfErr, IfOk, List, OnOk, Some, length, map, option_map, string_bytes};
+ghost use Rattle.outside_io.specs.Outside.{ShelfState};
+ghost use Rattle.module_ast.specs.Validation.Limits.{longest_file};
 ghost use Rattle.wasm_sem.specs.Execution.{IsFree, IsScriptInRange, Links, link};
 ghost use Rattle.run_session.specs.Linking.{TellsRefusal};
 ghost use Rattle.run_session.specs.Sessions.{told_outcome};
-ghost use Rattle.instrument.specs.Made.{IsMade, longest_output};
+ghost use Rattle.instrument.specs.Made.{IsMade};
 ghost use Rattle.analyses.specs.Tools.{ToolState};
-ghost use Rattle.app_plan.specs.Outcomes.{Yields};
-ghost use Rattle.app_plan.specs.Printing.{ShelfState, shelf_state};
+ghost use Rattle.app_load.specs.Outcomes.{Yields};
 ghost use Rattle.app_runs.specs.RunTexts.{run_status, run_text};
 ghost use Rattle.app_runs.specs.WarningTexts.{warnings_text};
 ghost use Rattle.app_runs.specs.Watching.{import_names};
 ghost use Rattle.wasabi_app.specs.Making.{output_length};
-ghost use Rattle.wasabi_app.specs.Modes.Taint.{followed_plan, ran_plan, taint_line, taint_line_of, taint_mode, taint_plan, unknown_in, warned_plan};
+ghost use Rattle.wasabi_app.specs.Modes.Taint.{followed_plan, ran_plan, taint_mode, taint_plan, unknown_in, warned_plan};
 ghost use Rattle.wasabi_app.specs.Modes.Trial.{all_hooks};
 ghost use Rattle.wasabi_app.specs.Texts.{no_import_text};
-ghost use Rattle.wasabi_app.specs.Warning.{AreKnown, ArePaired, GetsHooks, GetsNone, IsFollowable, IsUnknown, IsWarned, IsWatched, IsWatchedOf, watch_in};
+ghost use Rattle.wasabi_app.specs.Warning.{AreKnown, ArePaired, IsFollowable, IsUnknown, IsWarned, IsWatched, IsWatchedOf, watch_in};
 ghost use Rattle.wasabi_app.specs.Words.{given_of};
 
-use crate::instrument_mode::{taken_line, too_large_line};
-use crate::trial_mode::output;
+use crate::making::{hooked_for_all, read_output};
 use crate::words::Given;
-use app_plan::{Printed, Refusal, bad_words, load, load_script, refused};
+use app_load::{Printed, Refusal, Status, bad_words, load, load_script, refused};
 use app_runs::{
     first_unknown, follow_out, import_names, numbers_named, push_warnings, run_text, status_of,
     unlinked,
 };
-use hook_select::Hooks;
-use instrument::{InstrumentFault, Made, instrument};
-use module_ast::module::Limits;
+use instrument::Made;
+use module_ast::module::{LONGEST_NARROW_FILE, Limits};
 use outside_io::Shelf;
-use rewrite::PlainRewriter;
+use par_phase::Jobs;
 use run_session::{LinkFault, Outcome, Session};
 use shadow_replay::{Shadow, Warning};
 use static_info::Info;
@@ -40,23 +39,8 @@ use wasm_num::NoMemory;
 use wasm_sem::Script;
 use wasm_valid::ValidModule;
 
-// How many bytes a subject may have.
-const LONGEST_SUBJECT: u64 = 16_777_216;
-
-// How many bytes the output may have.
-const LONGEST_OUTPUT: u64 = 268_435_456;
-
-// What a command of the mode `taint` asks for: the subject is to be run by a script, and marks are to be followed from the
-// sources in one list to the sinks in another.
-#[derive(Clone, Copy)]
-struct TaintLine<'w> {
-    subject: &'w str,
-    script: &'w str,
-    sources: Option<&'w str>,
-    sinks: Option<&'w str>,
-}
-
-// The imports of a module that are watched: the names of all, and the numbers of the sources and of the sinks.
+// The function imports of a module that are watched: the names of all imports, and the numbers of the sources and of
+// the sinks.
 #[derive(Drop)]
 struct Watched {
     names: Vec<String>,
@@ -64,120 +48,94 @@ struct Watched {
     sinks: Vec<u32>,
 }
 
-/// Reads the subject, finds the sources and the sinks among its imports, gives it all hooks, reads the script, and runs the
-/// output by it, while a shadow of the subject takes what the run tells; what the start and the calls came to with the
-/// warnings behind it, or why it is not run. No name is changed.
+/// Reads the subject, finds the sources and the sinks among its imports, gives the subject all hooks, reads the script,
+/// and runs the output by the script. During the run a shadow of the subject takes what the run tells. The answer is
+/// what the start and the calls came to, and after that the warnings. No name of the shelf is changed.
+///
+/// An `Err` comes if the words give no script, if the subject or the script is refused, if a name in a list is not the
+/// name of a function import, if the output cannot be made, if the output and the script do not link, or if memory runs
+/// out.
 pub(crate) fn taint<R: Threads + Sync, S: Shelf>(
     rt: &R,
     alloc: Global,
     given: &Given<'_>,
     shelf: &mut S,
 ) -> Result<Printed, Refusal>
-    requires some { 1 ≤ given.now.jobs }
-    requires few { given.now.jobs ≤ 64 }
-    ensures ended { (tools : List ToolState) → Yields (taint_mode.plan (given_of given.now))
-        (shelf_state (S.contents shelf.old) (S.read_faults shelf.old) (S.write_faults shelf.old))
-        (shelf_state (S.contents shelf.new) (S.read_faults shelf.new) (S.write_faults shelf.new)) tools tools result }
-    ensures read_count { S.read_faults shelf.old ≤ S.read_faults shelf.new }
-    ensures write_count { S.write_faults shelf.old ≤ S.write_faults shelf.new }
+    ensures { (tools : List ToolState) → Yields (taint_mode.plan (given_of given.now)) (S.seen shelf.old) (S.seen shelf.new) tools tools result }
 {
-    match line_in(given) {
-        Some(line) => taint_by(rt, alloc, &line, given.jobs, shelf),
+    match given.script {
+        Some(script) => taint_by(rt, alloc, given, script, shelf),
         None => Err(bad_words(alloc)),
     }
 }
 
-// The line of a command; none where the script is missing.
-fn line_in<'w>(given: &Given<'w>) -> Option<TaintLine<'w>>
-    ensures { option_map taint_line_of result ≡ taint_line (given_of given.now) }
-{
-    Some(TaintLine {
-        subject: given.subject,
-        script: given.script?,
-        sources: given.sources,
-        sinks: given.sinks,
-    })
-}
-
-// Reads the subject, and goes on with it.
 fn taint_by<R: Threads + Sync, S: Shelf>(
     rt: &R,
     alloc: Global,
-    line: &TaintLine<'_>,
-    jobs: u32,
+    given: &Given<'_>,
+    script: &str,
     shelf: &mut S,
 ) -> Result<Printed, Refusal>
-    requires some { 1 ≤ jobs }
-    requires few { jobs ≤ 64 }
-    ensures ended { (tools : List ToolState) → Yields (Some (taint_plan (taint_line_of line.now)))
-        (shelf_state (S.contents shelf.old) (S.read_faults shelf.old) (S.write_faults shelf.old))
-        (shelf_state (S.contents shelf.new) (S.read_faults shelf.new) (S.write_faults shelf.new)) tools tools result }
-    ensures read_count { S.read_faults shelf.old ≤ S.read_faults shelf.new }
-    ensures write_count { S.write_faults shelf.old ≤ S.write_faults shelf.new }
+    ensures { (tools : List ToolState) → Yields (Some (taint_plan (given_of given.now) script.now)) (S.seen shelf.old) (S.seen shelf.new) tools tools result }
 {
     match load(
         rt,
         alloc,
-        line.subject,
-        LONGEST_SUBJECT,
+        given.subject,
+        LONGEST_NARROW_FILE,
         &Limits::narrow(),
-        jobs,
+        given.jobs,
         shelf,
     ) {
-        Ok(valid) => taint_module(rt, alloc, line, jobs, &valid, shelf),
+        Ok(valid) => taint_module(rt, alloc, given, script, &valid, shelf),
         Err(refusal) => Err(refusal),
     }
 }
 
-// Finds what is watched of a module, gives it hooks, reads the script, and runs the output.
+// Finds the watched imports of a module, gives the module all hooks, reads the script, and runs the output.
 fn taint_module<R: Threads + Sync, S: Shelf>(
     rt: &R,
     alloc: Global,
-    line: &TaintLine<'_>,
-    jobs: u32,
+    given: &Given<'_>,
+    script: &str,
     m: &ValidModule,
     shelf: &mut S,
 ) -> Result<Printed, Refusal>
-    requires some { 1 ≤ jobs }
-    requires few { jobs ≤ 64 }
     requires followable { IsFollowable m.now }
-    ensures ended { (tools : List ToolState) → Yields (Some (followed_plan (taint_line_of line.now) m.now))
-        (shelf_state (S.contents shelf.old) (S.read_faults shelf.old) (S.write_faults shelf.old))
-        (shelf_state (S.contents shelf.new) (S.read_faults shelf.new) (S.write_faults shelf.new)) tools tools result }
-    ensures read_count { S.read_faults shelf.old ≤ S.read_faults shelf.new }
-    ensures write_count { S.write_faults shelf.old ≤ S.write_faults shelf.new }
+    ensures { (tools : List ToolState) → Yields (Some (followed_plan (given_of given.now) script.now m.now)) (S.seen shelf.old) (S.seen shelf.new) tools tools result }
 {
-    let watched = find_watched(alloc, line, m)?;
-    let hooked = hooked(rt, alloc, line.subject, jobs, m)?;
-    run_script(rt, alloc, line.script, m, &watched, &hooked, shelf)
+    let watched = find_watched(alloc, given, m)?;
+    let hooked = hooked_for_all(rt, alloc, given.subject, m, given.jobs)?;
+    run_script(rt, alloc, given.jobs, script, m, &watched, &hooked, shelf)
 }
 
-// What is watched of a module, or the first name that none of its imports has: of a source, and then of a sink.
-fn find_watched(alloc: Global, line: &TaintLine<'_>, m: &ValidModule) -> Result<Watched, Refusal>
+// The watched imports of a module. If a name is not the name of a function import, the refusal tells the first such
+// name: the names of the sources come before the names of the sinks.
+fn find_watched(alloc: Global, given: &Given<'_>, m: &ValidModule) -> Result<Watched, Refusal>
     requires { IsFollowable m.now }
-    ensures watched { IfOk result (IsWatched (taint_line_of line.now) m.now) }
-    ensures known { OnOk result (AreKnown (taint_line_of line.now) m.now) }
-    ensures refused { IfErr result (IsUnknown (taint_line_of line.now) m.now) }
+    ensures watched { IfOk result (IsWatched (given_of given.now) m.now) }
+    ensures known { OnOk result (AreKnown (given_of given.now) m.now) }
+    ensures refused { IfErr result (IsUnknown (given_of given.now) m.now) }
 {
     let Ok(names) = import_names(alloc, m.module().imports.as_slice()) else {
         return Err(Refusal::NoMemory);
     };
-    if let Some(name) = unknown(names.as_slice(), line) {
-        return Err(refused(20, no_import_line(alloc, name)));
+    if let Some(name) = unknown(names.as_slice(), given) {
+        return Err(refused(Status::NoImport, no_import_line(alloc, name)));
     }
-    match numbers(alloc, names, line) {
+    match numbers(alloc, names, given) {
         Ok(watched) => Ok(watched),
         Err(_) => Err(Refusal::NoMemory),
     }
 }
 
-// The first name of a source that is none of these, or else of a sink.
-fn unknown<'w>(names: &[String], line: &TaintLine<'w>) -> Option<&'w str>
-    ensures { option_map (λ t. t.now) result ≡ unknown_in (taint_line_of line.now) (map string_bytes names.now) }
+// The first source that is not among these names. If all sources are, the first such sink.
+fn unknown<'w>(names: &[String], given: &Given<'w>) -> Option<&'w str>
+    ensures { option_map (λ t. t.now) result ≡ unknown_in (given_of given.now) (map string_bytes names.now) }
 {
-    match first_unknown(names, line.sources) {
+    match first_unknown(names, given.sources) {
         Some(name) => Some(name),
-        None => first_unknown(names, line.sinks),
+        None => first_unknown(names, given.sinks),
     }
 }
 
@@ -187,13 +145,13 @@ fn no_import_line(alloc: Global, name: &str) -> Result<String, AllocError>
     format!(in alloc; "error 20: no imported function {name}\n")
 }
 
-// These names, with the numbers of those that are sources, and of those that are sinks.
-fn numbers(alloc: Global, names: Vec<String>, line: &TaintLine<'_>) -> Result<Watched, NoMemory>
+// These names, with the numbers of the sources and of the sinks among them.
+fn numbers(alloc: Global, names: Vec<String>, given: &Given<'_>) -> Result<Watched, NoMemory>
     requires { length names.items < 2 ^ 32 }
-    ensures { IfOk result (IsWatchedOf (taint_line_of line.now) (map string_bytes names.items)) }
+    ensures { IfOk result (IsWatchedOf (given_of given.now) (map string_bytes names.items)) }
 {
-    let sources = numbers_named(alloc, names.as_slice(), line.sources)?;
-    let sinks = numbers_named(alloc, names.as_slice(), line.sinks)?;
+    let sources = numbers_named(alloc, names.as_slice(), given.sources)?;
+    let sinks = numbers_named(alloc, names.as_slice(), given.sinks)?;
     Ok(Watched {
         names,
         sources,
@@ -201,43 +159,11 @@ fn numbers(alloc: Global, names: Vec<String>, line: &TaintLine<'_>) -> Result<Wa
     })
 }
 
-// The module with all hooks.
-fn hooked<R: Threads + Sync>(
-    rt: &R,
-    alloc: Global,
-    subject: &str,
-    jobs: u32,
-    m: &ValidModule,
-) -> Result<Made, Refusal>
-    requires some { 1 ≤ jobs }
-    requires few { jobs ≤ 64 }
-    requires followable { IsFollowable m.now }
-    ensures made { IfOk result (λ made. IsMade m.now all_hooks made.bytes.items made.info) }
-    ensures few { OnOk result (output_length m.now all_hooks ≤ longest_output) }
-    ensures free { OnOk result (IsFree m.now) }
-    ensures goes_on { OnOk result (GetsHooks subject.now m.now) }
-    ensures refused { IfErr result (GetsNone subject.now m.now) }
-{
-    match instrument(
-        rt,
-        alloc,
-        m,
-        Hooks::all(),
-        jobs,
-        LONGEST_OUTPUT,
-        &PlainRewriter,
-    ) {
-        Ok(made) => Ok(made),
-        Err(InstrumentFault::HookModuleTaken) => Err(refused(9, taken_line(alloc, subject))),
-        Err(InstrumentFault::TooLarge { length }) => Err(refused(9, too_large_line(alloc, length))),
-        Err(InstrumentFault::NoMemory) => Err(Refusal::NoMemory),
-    }
-}
-
-// Reads the script, and runs by it the output that was made of a module.
+// Reads the script, and runs the output of a module by it.
 fn run_script<R: Threads + Sync, S: Shelf>(
     rt: &R,
     alloc: Global,
+    jobs: Jobs,
     script: &str,
     m: &ValidModule,
     watched: &Watched,
@@ -247,22 +173,19 @@ fn run_script<R: Threads + Sync, S: Shelf>(
     requires followable { IsFollowable m.now }
     requires free { IsFree m.now }
     requires made { IsMade m.now all_hooks hooked.now.bytes.items hooked.now.info }
-    requires few { output_length m.now all_hooks ≤ longest_output }
+    requires few { output_length m.now all_hooks ≤ longest_file }
     requires named { map string_bytes watched.now.names.items ≡ import_names m.now.imports }
-    ensures ended { (tools : List ToolState) → Yields (Some (warned_plan script.now (watch_in watched.now) m.now))
-        (shelf_state (S.contents shelf.old) (S.read_faults shelf.old) (S.write_faults shelf.old))
-        (shelf_state (S.contents shelf.new) (S.read_faults shelf.new) (S.write_faults shelf.new)) tools tools result }
-    ensures read_count { S.read_faults shelf.old ≤ S.read_faults shelf.new }
-    ensures write_count { S.write_faults shelf.old ≤ S.write_faults shelf.new }
+    ensures { (tools : List ToolState) → Yields (Some (warned_plan script.now (watch_in watched.now) m.now)) (S.seen shelf.old) (S.seen shelf.new) tools tools result }
 {
     let script = load_script(alloc, script, shelf)?;
-    run_made(rt, alloc, m, watched, hooked, script)
+    run_made(rt, alloc, jobs, m, watched, hooked, script)
 }
 
-// Reads the output that was made of a module, and runs it by a script.
+// Reads the output of a module from its bytes, and runs it by a script.
 fn run_made<R: Threads + Sync>(
     rt: &R,
     alloc: Global,
+    jobs: Jobs,
     m: &ValidModule,
     watched: &Watched,
     hooked: &Made,
@@ -272,18 +195,19 @@ fn run_made<R: Threads + Sync>(
     requires followable { IsFollowable m.now }
     requires free { IsFree m.now }
     requires made { IsMade m.now all_hooks hooked.now.bytes.items hooked.now.info }
-    requires few { output_length m.now all_hooks ≤ longest_output }
+    requires few { output_length m.now all_hooks ≤ longest_file }
     requires named { map string_bytes watched.now.names.items ≡ import_names m.now.imports }
     ensures ended { (at : ShelfState) (tools : List ToolState)
         → Yields (Some (ran_plan (watch_in watched.now) m.now script)) at at tools tools result }
 {
-    let Ok(output) = output(rt, alloc, hooked.bytes.as_slice()) else {
+    let Ok(output) = read_output(rt, alloc, hooked.bytes.as_slice(), jobs) else {
         return Err(Refusal::NoMemory);
     };
     run_output(alloc, m, watched, &hooked.info, &output, script)
 }
 
-// Links the output of a module with a script and runs it; what came of it, with the warnings behind it.
+// Links the output of a module with a script and runs it. The answer is what the run came to, and after that the
+// warnings.
 fn run_output(
     alloc: Global,
     m: &ValidModule,
@@ -304,7 +228,7 @@ fn run_output(
     }
 }
 
-// Links the output of a module with a script, and runs it.
+// Links and runs as `run_output` does; the fault of linking is not yet a line.
 fn linked(
     alloc: Global,
     m: &ValidModule,
@@ -327,7 +251,7 @@ fn linked(
     }
 }
 
-// Runs a session of the output of a module, while a shadow of the module takes what it tells.
+// Runs a session of the output of a module. During the run a shadow of the module takes what the run tells.
 fn followed(
     alloc: Global,
     session: Session<'_>,
@@ -361,7 +285,7 @@ fn followed(
     )
 }
 
-// What is told of a run, with the warnings behind it.
+// The text of a run, and after that the warnings.
 fn told(
     alloc: Global,
     script: &Script,

@@ -1,67 +1,45 @@
 // What a module is run with: the information on its original and a script.
 
-ghost use Rattle.std.specs.Prelude.{◌≡◌, ◌≤◌, IfErr, IfOk, option_map};
+ghost use Rattle.std.specs.Prelude.{IfErr, IfOk};
 ghost use Rattle.wasm_sem.specs.Execution.{IsScriptInRange};
 ghost use Rattle.static_info.specs.Belongs.{Belongs};
 ghost use Rattle.static_info.specs.Form.{IsWellFormed};
-ghost use Rattle.app_plan.specs.Printing.{shelf_state};
-ghost use Rattle.wasabi_app.specs.ToldRuns.{IsNotLed, LeadsOn, names_of, run_names};
-ghost use Rattle.wasabi_app.specs.Words.{given_of};
+ghost use Rattle.wasabi_app.specs.ToldRuns.{IsNotLed, LeadsOn};
 
-use crate::words::Given;
-use app_plan::{Refusal, load_info, load_script};
+use app_load::{Refusal, load_info, load_script};
 use outside_io::Shelf;
 use static_info::Info;
 use std::alloc::Global;
 use wasm_sem::Script;
 use wasm_valid::ValidModule;
 
-/// The names of a subject, of the information on its original and of a script.
-#[derive(Clone, Copy)]
-pub(crate) struct RunNames<'w> {
-    pub(crate) subject: &'w str,
-    pub(crate) info: &'w str,
-    pub(crate) script: &'w str,
-}
-
-/// The information on the original of a subject, and a script to run it by.
+/// The information on the original of a subject, and the script by which the subject is run.
 #[derive(Drop)]
 pub(crate) struct ToldRun {
+    /// The information on the original, which belongs to the subject.
     pub(crate) info: Info,
+    /// The script, with its numbers in range.
     pub(crate) script: Script,
 }
 
-/// The names that a command gives; none where that of the information or of the script is missing.
-pub(crate) fn names_in<'w>(given: &Given<'w>) -> Option<RunNames<'w>>
-    ensures { option_map names_of result ≡ run_names (given_of given.now) }
-{
-    Some(RunNames {
-        subject: given.subject,
-        info: given.info?,
-        script: given.script?,
-    })
-}
-
-/// Reads the information on the original of a module, and then the script. No name is changed.
+/// Reads the information on the original of a module, and then the script. No name of the shelf is changed.
+///
+/// An `Err` comes if one of the two could not be read or is malformed, if the information does not belong to the
+/// module, or if memory runs out.
 pub(crate) fn load_run<S: Shelf>(
     alloc: Global,
-    names: &RunNames<'_>,
+    info_name: &str,
+    script_name: &str,
     m: &ValidModule,
     shelf: &mut S,
 ) -> Result<ToldRun, Refusal>
-    ensures led { IfOk result (λ run. LeadsOn (names_of names.now) m.now
-        (shelf_state (S.contents shelf.old) (S.read_faults shelf.old) (S.write_faults shelf.old))
-        (shelf_state (S.contents shelf.new) (S.read_faults shelf.new) (S.write_faults shelf.new)) run.info run.script) }
+    ensures led { IfOk result (λ run. LeadsOn info_name.now script_name.now m.now (S.seen shelf.old) (S.seen shelf.new) run.info run.script) }
     ensures range { IfOk result (λ run. IsScriptInRange run.script) }
     ensures formed { IfOk result (λ run. IsWellFormed run.info) }
     ensures belongs { IfOk result (λ run. Belongs run.info m.now) }
-    ensures refused { IfErr result (IsNotLed (names_of names.now) m.now
-        (shelf_state (S.contents shelf.old) (S.read_faults shelf.old) (S.write_faults shelf.old))
-        (shelf_state (S.contents shelf.new) (S.read_faults shelf.new) (S.write_faults shelf.new))) }
-    ensures read_count { S.read_faults shelf.old ≤ S.read_faults shelf.new }
-    ensures write_count { S.write_faults shelf.new ≡ S.write_faults shelf.old }
+    ensures refused { IfErr result (IsNotLed info_name.now script_name.now m.now (S.seen shelf.old) (S.seen shelf.new)) }
 {
-    let info = load_info(alloc, names.info, m, shelf)?;
-    let script = load_script(alloc, names.script, shelf)?;
+    let info = load_info(alloc, info_name, m, shelf)?;
+    let script = load_script(alloc, script_name, shelf)?;
     Ok(ToldRun { info, script })
 }

@@ -1,29 +1,25 @@
 // The mode `tree`.
 
-ghost use Rattle.std.specs.Prelude.{◌≡◌, ◌≤◌, ◌++◌, List, IfErr, IfOk, OnOk, Some, flat_map, string_bytes};
+ghost use Rattle.std.specs.Prelude.{◌≡◌, ◌++◌, List, IfErr, IfOk, OnOk, Some, flat_map, string_bytes};
+ghost use Rattle.outside_io.specs.Outside.{ShelfState};
 ghost use Rattle.wasm_sem.specs.Execution.{IsScriptInRange};
 ghost use Rattle.run_session.specs.Sessions.{told_outcome};
 ghost use Rattle.static_info.specs.Belongs.{Belongs};
 ghost use Rattle.static_info.specs.Form.{IsWellFormed};
 ghost use Rattle.analyses.specs.Tools.{ToolState};
-ghost use Rattle.app_plan.specs.Outcomes.{Yields};
-ghost use Rattle.app_plan.specs.Printing.{ShelfState, shelf_state};
-ghost use Rattle.app_plan.specs.Texts.{few_groups_text, not_nested_text};
+ghost use Rattle.app_load.specs.Outcomes.{Yields};
+ghost use Rattle.app_load.specs.Texts.{few_groups_text, not_nested_text};
 ghost use Rattle.app_runs.specs.RunTexts.{run_status, run_text};
 ghost use Rattle.app_runs.specs.Treeing.{node_text, nodes_text, tells_brackets, tree_line};
 ghost use Rattle.wasabi_app.specs.Modes.Tree.{tree_informed, tree_mode, tree_plan, tree_scripted, treed_plan};
-ghost use Rattle.wasabi_app.specs.ToldRuns.{names_of};
 ghost use Rattle.wasabi_app.specs.Words.{given_of};
 
-use crate::told_run::{RunNames, names_in};
 use crate::words::Given;
-use app_plan::{
-    LONGEST_SUBJECT, Printed, Refusal, bad_words, load, load_info, load_script, refused,
-};
+use app_load::{Printed, Refusal, Status, bad_words, load, load_info, load_script, refused};
 use app_runs::{Treed, TreedFault, run_text, status_of, tree_run, unlinked};
 use call_tree::Node;
 use hook_select::GroupName;
-use module_ast::module::{Limits, Loc};
+use module_ast::module::{LONGEST_FILE, Limits, Loc};
 use outside_io::Shelf;
 use static_info::Info;
 use std::alloc::{AllocError, Global};
@@ -31,103 +27,89 @@ use std::thread::Threads;
 use wasm_sem::Script;
 use wasm_valid::ValidModule;
 
-/// Reads the subject and the information on its original, which has to tell of begins and ends, and then the script,
-/// and runs the subject; what the start and the calls came to with the paths of calls behind it, or why it is not run,
-/// or why its events make no paths. No name is changed.
+/// Reads the subject, the information on its original and then the script, and runs the subject. The answer is what the
+/// start and the calls came to, and after that the paths of calls. No name of the shelf is changed.
+///
+/// An `Err` comes if the words give no information or no script, if one of the three files is refused, if the
+/// information does not have both groups `begin` and `end` (status 21), if the subject and the script do not link, if
+/// the events do not nest (status 22), or if memory runs out.
 pub(crate) fn tree<R: Threads + Sync, S: Shelf>(
     rt: &R,
     alloc: Global,
     given: &Given<'_>,
     shelf: &mut S,
 ) -> Result<Printed, Refusal>
-    requires some { 1 ≤ given.now.jobs }
-    requires few { given.now.jobs ≤ 64 }
-    ensures ended { (tools : List ToolState) → Yields (tree_mode.plan (given_of given.now))
-        (shelf_state (S.contents shelf.old) (S.read_faults shelf.old) (S.write_faults shelf.old))
-        (shelf_state (S.contents shelf.new) (S.read_faults shelf.new) (S.write_faults shelf.new)) tools tools result }
-    ensures read_count { S.read_faults shelf.old ≤ S.read_faults shelf.new }
-    ensures write_count { S.write_faults shelf.old ≤ S.write_faults shelf.new }
+    ensures { (tools : List ToolState) → Yields (tree_mode.plan (given_of given.now)) (S.seen shelf.old) (S.seen shelf.new) tools tools result }
 {
-    match names_in(given) {
-        Some(names) => tree_by(rt, alloc, &names, given.jobs, shelf),
-        None => Err(bad_words(alloc)),
-    }
+    let Some(info) = given.info else {
+        return Err(bad_words(alloc));
+    };
+    let Some(script) = given.script else {
+        return Err(bad_words(alloc));
+    };
+    tree_by(rt, alloc, given, info, script, shelf)
 }
 
-// Whether the information is on a module whose begins and ends are told.
+// Whether the information has both groups `begin` and `end`.
 fn tells_brackets(info: &Info) -> bool
     ensures { result ≡ tells_brackets info.now }
 {
     info.groups.has(GroupName::Begin) && info.groups.has(GroupName::End)
 }
 
-// Reads what is run, and runs it.
 fn tree_by<R: Threads + Sync, S: Shelf>(
     rt: &R,
     alloc: Global,
-    names: &RunNames<'_>,
-    jobs: u32,
+    given: &Given<'_>,
+    info: &str,
+    script: &str,
     shelf: &mut S,
 ) -> Result<Printed, Refusal>
-    requires some { 1 ≤ jobs }
-    requires few { jobs ≤ 64 }
-    ensures ended { (tools : List ToolState) → Yields (Some (tree_plan (names_of names.now)))
-        (shelf_state (S.contents shelf.old) (S.read_faults shelf.old) (S.write_faults shelf.old))
-        (shelf_state (S.contents shelf.new) (S.read_faults shelf.new) (S.write_faults shelf.new)) tools tools result }
-    ensures read_count { S.read_faults shelf.old ≤ S.read_faults shelf.new }
-    ensures write_count { S.write_faults shelf.old ≤ S.write_faults shelf.new }
+    ensures { (tools : List ToolState) → Yields (Some (tree_plan given.now.subject.now info.now script.now)) (S.seen shelf.old) (S.seen shelf.new) tools tools result }
 {
     match load(
         rt,
         alloc,
-        names.subject,
-        LONGEST_SUBJECT,
+        given.subject,
+        LONGEST_FILE,
         &Limits::wide(),
-        jobs,
+        given.jobs,
         shelf,
     ) {
-        Ok(module) => tree_module(alloc, &module, names, shelf),
+        Ok(module) => tree_module(alloc, info, script, &module, shelf),
         Err(refusal) => Err(refusal),
     }
 }
 
-// Reads the information on the original of a module, and goes on with it.
 fn tree_module<S: Shelf>(
     alloc: Global,
+    info: &str,
+    script: &str,
     m: &ValidModule,
-    names: &RunNames<'_>,
     shelf: &mut S,
 ) -> Result<Printed, Refusal>
-    ensures ended { (tools : List ToolState) → Yields (Some (tree_informed (names_of names.now) m.now))
-        (shelf_state (S.contents shelf.old) (S.read_faults shelf.old) (S.write_faults shelf.old))
-        (shelf_state (S.contents shelf.new) (S.read_faults shelf.new) (S.write_faults shelf.new)) tools tools result }
-    ensures read_count { S.read_faults shelf.old ≤ S.read_faults shelf.new }
-    ensures write_count { S.write_faults shelf.old ≤ S.write_faults shelf.new }
+    ensures { (tools : List ToolState) → Yields (Some (tree_informed info.now script.now m.now)) (S.seen shelf.old) (S.seen shelf.new) tools tools result }
 {
-    let info = load_info(alloc, names.info, m, shelf)?;
-    tree_told(alloc, m, &info, names, shelf)
+    let info = load_info(alloc, info, m, shelf)?;
+    tree_told(alloc, script, m, &info, shelf)
 }
 
-// Reads the script, where the information tells of begins and ends, and runs a module by it.
+// Checks that the information has both groups, reads the script, and runs a module by it.
 fn tree_told<S: Shelf>(
     alloc: Global,
+    script: &str,
     m: &ValidModule,
     info: &Info,
-    names: &RunNames<'_>,
     shelf: &mut S,
 ) -> Result<Printed, Refusal>
     requires formed { IsWellFormed info.now }
     requires belongs { Belongs info.now m.now }
-    ensures ended { (tools : List ToolState) → Yields (Some (tree_scripted (names_of names.now) m.now info.now))
-        (shelf_state (S.contents shelf.old) (S.read_faults shelf.old) (S.write_faults shelf.old))
-        (shelf_state (S.contents shelf.new) (S.read_faults shelf.new) (S.write_faults shelf.new)) tools tools result }
-    ensures read_count { S.read_faults shelf.old ≤ S.read_faults shelf.new }
-    ensures write_count { S.write_faults shelf.old ≤ S.write_faults shelf.new }
+    ensures { (tools : List ToolState) → Yields (Some (tree_scripted script.now m.now info.now)) (S.seen shelf.old) (S.seen shelf.new) tools tools result }
 {
     if !tells_brackets(info) {
-        return Err(refused(21, few_groups_line(alloc)));
+        return Err(refused(Status::FewGroups, few_groups_line(alloc)));
     }
-    let script = load_script(alloc, names.script, shelf)?;
+    let script = load_script(alloc, script, shelf)?;
     tree_loaded(alloc, m, info, script)
 }
 
@@ -137,7 +119,7 @@ fn few_groups_line(alloc: Global) -> Result<String, AllocError>
     String::from_str(alloc, "error 21: information lacks begin or end\n")
 }
 
-// Runs a module by a script; what is told of it, or why it is not run, or makes no paths.
+// Runs a module by a script. A refusal tells why the two do not link, or where the events do not nest.
 fn tree_loaded(
     alloc: Global,
     m: &ValidModule,
@@ -151,7 +133,10 @@ fn tree_loaded(
 {
     match tree_run(alloc, m, info, &script) {
         Ok(treed) => told(alloc, &script, &treed),
-        Err(TreedFault::NotNested(loc)) => Err(refused(22, not_nested_line(alloc, loc))),
+        Err(TreedFault::NotNested(loc)) => Err(refused(
+            Status::NotNested,
+            not_nested_line(alloc, loc),
+        )),
         Err(TreedFault::Unlinked(fault)) => Err(unlinked(alloc, script, fault)),
     }
 }
@@ -163,7 +148,6 @@ fn not_nested_line(alloc: Global, loc: Loc) -> Result<String, AllocError>
     format!(in alloc; "error 22: events do not nest at {func}:{instr}\n")
 }
 
-// Appends the line of a node.
 fn push_node(text: &mut String, node: &Node) -> Result<(), AllocError>
     ensures { OnOk result (string_bytes text.new ≡ string_bytes text.old ++ node_text node.now) }
 {
@@ -171,7 +155,6 @@ fn push_node(text: &mut String, node: &Node) -> Result<(), AllocError>
     write!(text, "node {depth} {func} {count}\n")
 }
 
-// Appends the line of each node.
 fn push_nodes(text: &mut String, nodes: &[Node]) -> Result<(), AllocError>
     ensures { OnOk result (string_bytes text.new ≡ string_bytes text.old ++ flat_map node_text nodes.now) }
 {
@@ -181,14 +164,13 @@ fn push_nodes(text: &mut String, nodes: &[Node]) -> Result<(), AllocError>
     Ok(())
 }
 
-// Appends the number of nodes.
 fn push_count(text: &mut String, count: usize) -> Result<(), AllocError>
     ensures { OnOk result (string_bytes text.new ≡ string_bytes text.old ++ tree_line count) }
 {
     write!(text, "tree {count}\n")
 }
 
-// The text of a run, with its paths behind it.
+// The text of a run, and after that its paths.
 fn tree_text(alloc: Global, script: &Script, treed: &Treed) -> Result<String, AllocError>
     ensures { IfOk result (λ text. string_bytes text ≡ run_text script.now.calls (told_outcome treed.now.outcome) ++ nodes_text treed.now.nodes.items) }
 {
@@ -198,7 +180,7 @@ fn tree_text(alloc: Global, script: &Script, treed: &Treed) -> Result<String, Al
     Ok(text)
 }
 
-// What is told of a run, with its paths behind it.
+// The answer with `tree_text`, and the status of the run.
 fn told(alloc: Global, script: &Script, treed: &Treed) -> Result<Printed, Refusal>
     ensures status { IfOk result (λ t. t.status ≡ run_status (told_outcome treed.now.outcome)) }
     ensures text { IfOk result (λ t. t.text.items ≡ run_text script.now.calls (told_outcome treed.now.outcome) ++ nodes_text treed.now.nodes.items) }

@@ -1,60 +1,56 @@
 // The mode `trial`.
 
-ghost use Rattle.std.specs.Prelude.{◌≡◌, ◌≤◌, IfErr, IfOk, OnOk, Some, length, map, string_bytes};
+ghost use Rattle.std.specs.Prelude.{◌≡◌, ◌≤◌, IfOk, Some, length, map, string_bytes};
+ghost use Rattle.outside_io.specs.Outside.{ShelfState};
 ghost use Rattle.module_ast.specs.Binary.{module_bytes};
-ghost use Rattle.module_ast.specs.Validation.{wide};
+ghost use Rattle.module_ast.specs.Validation.{longest_file, longest_narrow_file};
 ghost use Rattle.module_ast.specs.Structure.{funcs_of};
 ghost use Rattle.static_info.specs.Belongs.{Belongs};
 ghost use Rattle.static_info.specs.Form.{IsWellFormed};
-ghost use Rattle.instrument.specs.Made.{IsMade, longest_output, narrow_file};
+ghost use Rattle.instrument.specs.Made.{IsMade};
 ghost use Rattle.module_gen.specs.Made.{made};
 ghost use Rattle.report.specs.Text.{events_text};
 ghost use Rattle.run_session.specs.Sessions.{told_outcome};
-ghost use Rattle.app_plan.specs.Feeding.{fresh_tools};
-ghost use Rattle.app_plan.specs.Files.{IsFit};
-ghost use Rattle.app_plan.specs.Outcomes.{Yields};
-ghost use Rattle.app_plan.specs.Printing.{ShelfState};
+ghost use Rattle.app_load.specs.Feeding.{fresh_tools};
+ghost use Rattle.app_load.specs.Outcomes.{Yields};
 ghost use Rattle.app_runs.specs.RunTexts.{run_status, run_text};
 ghost use Rattle.wasabi_app.specs.Making.{output_length};
-ghost use Rattle.wasabi_app.specs.Modes.Trial.{all_hooks, front_text, main_call, number_in, pair_plan, runs_text, sizes_text, told_of_run, trial_mode, trial_plan, trial_script};
-ghost use Rattle.wasabi_app.specs.Trying.{AreTried, IsRun, IsTriable, IsUntried};
+ghost use Rattle.wasabi_app.specs.Modes.Trial.{all_hooks, front_text, main_call, pair_plan, runs_text, sizes_text, told_of_run, trial_mode, trial_number, trial_plan, trial_script};
+ghost use Rattle.wasabi_app.specs.Trying.{AreTried, IsRun, IsTriable};
 ghost use Rattle.wasabi_app.specs.Words.{given_of};
 
-use crate::instrument_mode::too_large_line;
+use crate::making::{hooked_for_all, read_output};
 use crate::words::Given;
 use analyses::Analysis;
-use app_plan::{Kinds, Printed, Refusal, bad_words, refused};
+use app_load::{Kinds, Printed, Refusal, bad_words};
 use app_runs::{Played, Tally, play, run_script, run_text, status_of};
-use hook_select::Hooks;
-use instrument::{InstrumentFault, Made, instrument};
-use module_ast::module::Limits;
+use instrument::Made;
 use module_ast::name::Name;
 use module_ast::seq::Seq;
 use module_ast::spaces::Counts;
 use module_gen::make;
+use par_phase::Jobs;
 use report::events_line;
-use rewrite::PlainRewriter;
 use static_info::Info;
 use std::alloc::{AllocError, Global};
 use std::thread::Threads;
-use wasm_decode::decode;
 use wasm_encode::encoded_length;
 use wasm_num::NoMemory;
 use wasm_sem::{Call, Script};
 use wasm_valid::{ValidModule, validate};
 
-// How many bytes the output may have.
-const LONGEST_OUTPUT: u64 = 268_435_456;
-
-// How many steps the original may make.
+// The most steps of the original's run.
 const FIRST_STEPS: u64 = 10_000_000;
 
-// How many its output may make.
+// The most steps of the output's run.
 const SECOND_STEPS: u64 = 1_000_000_000;
 
-/// Makes a module of the number that the subject is, and its output with all hooks; runs both by one script, and gives
-/// the events of the output's hook calls to all analyses, which are fresh. What both runs came to, or why they are not
-/// made: the output is too large, or memory ends. No file is read or written.
+/// Makes the module of the number that is the subject, and the output of this module with all hooks. Runs both by one
+/// script, and gives the events of the output's hook calls to all analyses, which are fresh. The answer is what both
+/// runs came to. No file is read or written.
+///
+/// An `Err` comes if the subject is not a number of 64 bits in digits alone (status 2), if the output is too large
+/// (status 9), or if memory runs out.
 pub(crate) fn trial<R: Threads + Sync>(
     rt: &R,
     alloc: Global,
@@ -62,18 +58,18 @@ pub(crate) fn trial<R: Threads + Sync>(
     tools: &mut Vec<Box<dyn Analysis>>,
 ) -> Result<Printed, Refusal>
     requires { map state tools.old.items ≡ fresh_tools }
-    ensures { (at : ShelfState) → Yields (trial_mode.plan (given_of given.now)) at at
-        (map state tools.old.items) (map state tools.new.items) result }
+    ensures { (at : ShelfState) → Yields (trial_mode.plan (given_of given.now)) at at (map state tools.old.items) (map state tools.new.items) result }
 {
     match number_in(given.subject) {
-        Some(number) => try_number(rt, alloc, number, tools),
+        Some(number) => try_number(rt, alloc, given.jobs, number, tools),
         None => Err(bad_words(alloc)),
     }
 }
 
-// The number that a text writes in digits alone; none where it is none of 64 bits. `parse` takes a `+`.
+// The number that a text writes in digits alone, or `None` if the text is not a number of 64 bits. `parse` alone would
+// also take a leading `+`.
 fn number_in(text: &str) -> Option<u64>
-    ensures { result ≡ number_in text.now }
+    ensures { result ≡ trial_number text.now }
 {
     if text.starts_with('+') {
         return None;
@@ -81,22 +77,22 @@ fn number_in(text: &str) -> Option<u64>
     text.parse::<u64>().ok()
 }
 
-// Makes the module of a number, which is valid, and tries it.
 fn try_number<R: Threads + Sync>(
     rt: &R,
     alloc: Global,
+    jobs: Jobs,
     number: u64,
     tools: &mut Vec<Box<dyn Analysis>>,
 ) -> Result<Printed, Refusal>
     requires { map state tools.old.items ≡ fresh_tools }
-    ensures { (at : ShelfState) → Yields (Some (trial_plan number)) at at
-        (map state tools.old.items) (map state tools.new.items) result }
+    ensures { (at : ShelfState) → Yields (Some (trial_plan number)) at at (map state tools.old.items) (map state tools.new.items) result }
 {
-    match original(rt, alloc, number) {
+    match original(rt, alloc, jobs, number) {
         Ok(original) => {
             try_module(
                 rt,
                 alloc,
+                jobs,
                 number,
                 FIRST_STEPS,
                 SECOND_STEPS,
@@ -108,21 +104,27 @@ fn try_number<R: Threads + Sync>(
     }
 }
 
-// The made module. It is valid, so that an error is want of memory.
-fn original<R: Threads + Sync>(rt: &R, alloc: Global, number: u64) -> Result<ValidModule, NoMemory>
+// The module of a number. The module is valid, so that an `Err` is want of memory.
+fn original<R: Threads + Sync>(
+    rt: &R,
+    alloc: Global,
+    jobs: Jobs,
+    number: u64,
+) -> Result<ValidModule, NoMemory>
     ensures { IfOk result (λ v. v ≡ made number) }
 {
     let module = make(alloc, number)?;
-    match validate(rt, alloc, module, 1) {
+    match validate(rt, alloc, module, jobs.count()) {
         Ok(valid) => Ok(valid),
         Err(_) => Err(AllocError),
     }
 }
 
-// Runs a module and its output with all hooks, for so many steps.
+// Runs a module for `first` steps, and its output with all hooks for `second` steps.
 fn try_module<R: Threads + Sync>(
     rt: &R,
     alloc: Global,
+    jobs: Jobs,
     number: u64,
     first: u64,
     second: u64,
@@ -136,39 +138,17 @@ fn try_module<R: Threads + Sync>(
     ensures { (at : ShelfState) → Yields (Some (pair_plan number first second m.now)) at at
         (map state tools.old.items) (map state tools.new.items) result }
 {
-    let hooked = hooked(rt, alloc, m)?;
-    match run_both(rt, alloc, number, first, second, m, &hooked, tools) {
+    let hooked = hooked_for_all(rt, alloc, "", m, jobs)?;
+    match run_both(rt, alloc, jobs, number, first, second, m, &hooked, tools) {
         Ok(told) => Ok(told),
         Err(_) => Err(Refusal::NoMemory),
     }
 }
 
-// The output of a module, with all hooks.
-fn hooked<R: Threads + Sync>(rt: &R, alloc: Global, m: &ValidModule) -> Result<Made, Refusal>
-    requires { IsTriable m.now }
-    ensures made { IfOk result (λ made. IsMade m.now all_hooks made.bytes.items made.info) }
-    ensures few { OnOk result (output_length m.now all_hooks ≤ longest_output) }
-    ensures refused { IfErr result (IsUntried m.now) }
-{
-    match instrument(
-        rt,
-        alloc,
-        m,
-        Hooks::all(),
-        1,
-        LONGEST_OUTPUT,
-        &PlainRewriter,
-    ) {
-        Ok(made) => Ok(made),
-        Err(InstrumentFault::TooLarge { length }) => Err(refused(9, too_large_line(alloc, length))),
-        Err(_) => Err(Refusal::NoMemory),
-    }
-}
-
-// Runs a module, and its output that was made.
 fn run_both<R: Threads + Sync>(
     rt: &R,
     alloc: Global,
+    jobs: Jobs,
     number: u64,
     first: u64,
     second: u64,
@@ -180,12 +160,12 @@ fn run_both<R: Threads + Sync>(
     requires firsts { (1 ≤ first) × (first ≤ 1000000000000) }
     requires seconds { (1 ≤ second) × (second ≤ 1000000000000) }
     requires made { IsMade m.now all_hooks hooked.now.bytes.items hooked.now.info }
-    requires few { output_length m.now all_hooks ≤ longest_output }
+    requires few { output_length m.now all_hooks ≤ longest_file }
     requires fresh { map state tools.old.items ≡ fresh_tools }
     ensures { AreTried number first second m.now (map state tools.old.items) (map state tools.new.items) result }
 {
     let front = front(alloc, number, first, m, hooked)?;
-    let output = output(rt, alloc, hooked.bytes.as_slice())?;
+    let output = read_output(rt, alloc, hooked.bytes.as_slice(), jobs)?;
     run_output(
         alloc,
         number,
@@ -197,7 +177,7 @@ fn run_both<R: Threads + Sync>(
     )
 }
 
-// What is told of the module and of its run.
+// The sizes of the module and of its output, and the text of the module's run.
 fn front(
     alloc: Global,
     number: u64,
@@ -205,7 +185,7 @@ fn front(
     m: &ValidModule,
     hooked: &Made,
 ) -> Result<String, NoMemory>
-    requires sizes { length (module_bytes m.now) ≤ narrow_file }
+    requires sizes { length (module_bytes m.now) ≤ longest_narrow_file }
     requires steps { (1 ≤ steps) × (steps ≤ 1000000000000) }
     ensures { IfOk result (λ text. string_bytes text ≡ front_text
         (sizes_text number (length (module_bytes m.now)) (length (funcs_of m.now)) (length hooked.now.bytes.items) (length hooked.now.info.hooks))
@@ -216,7 +196,7 @@ fn front(
     format!(in alloc; "{sizes}original:\n{original}")
 }
 
-// Runs the output; what is told of it behind the front. It links with the script, so that an error is want of memory.
+// Runs the output. Its text follows `front`. The output links with the script, so that an `Err` is want of memory.
 fn run_output(
     alloc: Global,
     number: u64,
@@ -239,25 +219,7 @@ fn run_output(
     }
 }
 
-/// The output with these bytes, which is a valid module.
-pub(crate) fn output<R: Threads + Sync>(
-    rt: &R,
-    alloc: Global,
-    bytes: &[u8],
-) -> Result<ValidModule, NoMemory>
-    requires short { length bytes.now ≤ longest_output }
-    ensures { IfOk result (λ v. IsFit wide bytes.now v) }
-{
-    let Ok(module) = decode(alloc, bytes, &Limits::wide()) else {
-        return Err(AllocError);
-    };
-    match validate(rt, alloc, module, 1) {
-        Ok(valid) => Ok(valid),
-        Err(_) => Err(AllocError),
-    }
-}
-
-// The script that both run by, for so many steps.
+// The script of both runs, with its number of steps.
 fn script(alloc: Global, number: u64, steps: u64) -> Result<Script, NoMemory>
     ensures { IfOk result (λ s. s ≡ trial_script number steps) }
 {
@@ -271,7 +233,7 @@ fn script(alloc: Global, number: u64, steps: u64) -> Result<Script, NoMemory>
     })
 }
 
-// Its one call, with the number modulo 2^32.
+// The one call of the script. Its argument is the number modulo 2^32.
 fn main_call(alloc: Global, number: u64) -> Result<Call, NoMemory>
     ensures { IfOk result (λ c. c ≡ main_call number) }
 {
@@ -282,7 +244,6 @@ fn main_call(alloc: Global, number: u64) -> Result<Call, NoMemory>
     })
 }
 
-// The text of the original's run.
 fn original_text(
     alloc: Global,
     m: &ValidModule,
@@ -299,9 +260,9 @@ fn original_text(
     }
 }
 
-// How large a module and its output are.
+// The lines with the sizes of a module and of its output.
 fn sizes(alloc: Global, number: u64, m: &ValidModule, hooked: &Made) -> Result<String, NoMemory>
-    requires { length (module_bytes m.now) ≤ narrow_file }
+    requires { length (module_bytes m.now) ≤ longest_narrow_file }
     ensures { IfOk result (λ text. string_bytes text ≡ sizes_text number (length (module_bytes m.now)) (length (funcs_of m.now))
         (length hooked.now.bytes.items) (length hooked.now.info.hooks)) }
 {
@@ -328,7 +289,7 @@ fn sizes_text(
     )
 }
 
-// What is told of both runs, with the status of the second.
+// The text of both runs. The status is that of the second run.
 fn told(alloc: Global, front: &str, script: &Script, played: &Played) -> Result<Printed, NoMemory>
     ensures status { IfOk result (λ t. t.status ≡ run_status (told_outcome played.now.outcome)) }
     ensures text { IfOk result (λ t. t.text.items ≡ runs_text front.now

@@ -1,4 +1,5 @@
-// The command line program `wasabi`: the files of the machine, its standard output, and the words it was started with.
+// The command line program `wasabi`. It works on the files of the machine and its standard output, by the words with
+// which it was started.
 #![tactic(auto)]
 
 ghost use Rattle.std.specs.Prelude.{◌≡◌, ◌≢◌};
@@ -26,7 +27,8 @@ fn main(rt: HostRuntime) -> ExitCode {
     command(&rt, rt.alloc(), &words)
 }
 
-// Runs the command of these words on the files of the machine and its standard output. The exit code is its status.
+// Runs the command of these words on the files of the machine and its standard output. The exit code is the status of
+// the command.
 fn command<R: Files + AllocGlobal + Print + Threads + Sync>(
     rt: &R,
     alloc: Global,
@@ -40,7 +42,7 @@ fn command<R: Files + AllocGlobal + Print + Threads + Sync>(
     ExitCode::from(status)
 }
 
-// The status where the words can't be read: 14 for want of memory, else 2.
+// The status if the words cannot be read: 14 for want of memory, otherwise 2.
 fn status_of(kind: ErrorKind) -> u8
     ensures memory { kind ≡ ErrorKind.OutOfMemory → result ≡ 14 }
     ensures other { kind ≢ ErrorKind.OutOfMemory → result ≡ 2 }

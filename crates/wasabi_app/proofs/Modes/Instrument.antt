@@ -1,37 +1,39 @@
 -- What is promised of the mode `instrument`.
-use Rattle.std.proofs.Common.{◌≡◌, ◌≢◌, ℕ, ◌≤◌, inl, inr, List, [], ◌∷◌, refl, ap, subst, ◌∙◌, arith, cond, Bool, true, false, nat_le, ◌||◌, IfSome, All, Option, Some, None, option_map, option_and_then}
+use Rattle.std.proofs.Common.{◌≡◌, ◌≢◌, ℕ, ◌≤◌, inl, inr, List, [], ◌∷◌, refl, codes, ap, subst, ◌∙◌, arith, Bool, true, false, nat_le, ◌||◌, IfSome, All, Option, Some, option_map, option_and_then}
 use Rattle.std.proofs.lemmas.List.Elements.{All-nil, All-cons}
 use Rattle.std.proofs.lemmas.Slice.Eq.{bytes_eq-Decides}
 use Rattle.std.proofs.lemmas.Bool.Decides.{nat_tests}
 use Rattle.std.specs.List.{list_any}
+use Rattle.module_ast.specs.Validation.Limits.{longest_file}
 use Rattle.outside_io.specs.Outside.{Contents}
 use Rattle.wasm_sem.specs.Types.{Import, Module}
 use Rattle.wasm_sem.specs.Execution.{IsFree, is_hook, hook_module}
 use Rattle.instrument.specs.Accepted.{IsAccepted}
-use Rattle.instrument.specs.Made.{longest_output}
 use Rattle.name_map.specs.declared.Names.{Names}
 use Rattle.analyses.specs.Tools.{ToolState}
 use Rattle.wasabi_app.specs.KeptNames.{named_output}
-use Rattle.wasabi_app.specs.Making.{Line, named_length, information_text}
+use Rattle.wasabi_app.specs.Making.{named_length, information_text}
 use Rattle.wasabi_app.specs.Texts.{taken_text, too_large_text}
-use Rattle.app_plan.specs.Printing.{ShelfState, PrintState}
-use Rattle.app_plan.proofs.Files.{one_module}
-use Rattle.app_plan.specs.Wants.{Gives}
-use Rattle.app_plan.specs.Plans.{no_output, file, Effect, refuses, does, Plan, ends, refusing, LeadsTo, Ending}
-use Rattle.app_plan.specs.Writing.{WroteAll}
-use Rattle.app_plan.specs.Ends.{of_effects, of_prints, IsMade, Ends}
-use Rattle.wasabi_app.specs.Words.{Given}
+use Rattle.outside_io.specs.Outside.{ShelfState, PrintState}
+use Rattle.app_load.proofs.Files.{one_module}
+use Rattle.app_load.specs.Wants.{Gives}
+use Rattle.app_load.specs.Plans.{no_output, file, Effect, refuses, does, Plan, ends, refusing, LeadsTo, Ending}
+use Rattle.app_load.specs.Writing.{WroteAll}
+use Rattle.app_load.specs.Ends.{Ends}
+use Rattle.app_load.specs.Statuses.{of_effects, of_prints}
+use Rattle.wasabi_app.specs.Words.{Asks, Given}
 use Rattle.wasabi_app.proofs.KeptNames.{written_output}
 use Rattle.wasabi_app.proofs.WordLines.{given_bound}
 use Rattle.wasabi_app.specs.Modes.{plan_of, plan_in}
-use Rattle.wasabi_app.specs.Modes.Instrument.{names_hooks, info_files, output_effect, bounded, untaken, hooked, subject_read, instrument_plan, is_name, line_to, instrument_line, IsLine, IsWritten, IsDone, instrument_mode}
-use Rattle.app_plan.proofs.Telling.{tells_at}
-use Rattle.app_plan.proofs.Within.{Within, FeedsNone, mapped_within}
+use Rattle.wasabi_app.specs.Modes.Instrument.{names_hooks, info_files, output_effect, bounded, untaken, hooked, subject_read, instrument_plan, target_of, IsWritten, IsInstrumentedBy, IsDone, instrument_mode}
+use Rattle.app_load.proofs.Telling.{tells_at}
+use Rattle.app_load.proofs.Within.{Within, FeedsNone, mapped_within}
 
--- the words' plan is that of the line
-line_is : (words : List (List ℕ)) (line : Line) → IsLine words line → plan_of words ≡ Some (instrument_plan line)
-line_is words line (g, e, n, l) =
-    ap (option_and_then (λ (h : Given). plan_in h.mode h)) e ∙ ap (λ mode. plan_in mode g) n ∙ ap (option_map instrument_plan) l
+-- the words' plan is that of the target
+plan_is : (words : List (List ℕ)) (g : Given) (target : List ℕ) → Asks words (codes "instrument") g → target_of g ≡ Some target
+    → plan_of words ≡ Some (instrument_plan g target)
+plan_is words g target (read, named) is =
+    ap (option_and_then (λ (h : Given). plan_in h.mode h)) read ∙ ap (λ mode. plan_in mode g) named ∙ ap (option_map (instrument_plan g)) is
 
 -- ---- when a module is given hooks
 
@@ -87,67 +89,47 @@ hooked_well subject m long bound plan e f =
 le_of : (a b : ℕ) → nat_le a b ≡ true → a ≤ b
 le_of a b e = grind (arith, nat_tests)
 
--- the bound of a line is no more than the most that is written
-line_bound : (words : List (List ℕ)) (line : Line) → IsLine words line → line.bound ≤ longest_output
-line_bound words line (g, e, n, l) = by g.target l
-  where
-    pick : (target : List ℕ) (b : Bool) → cond b None (Some (line_to g target)) ≡ Some line → line.bound ≤ longest_output
-    pick target true k = cc
-    pick target false k =
-        let same : line_to g target ≡ line = cc in
-        subst (λ (x : Line). x.bound ≤ longest_output) same (given_bound words g e)
+module _ (g : Given) (target : List ℕ) (most : g.bound ≤ longest_file) (old new : Option Contents) where
+  output_written : (m : Module) (names : Names) (given : Gives old (subject_read g) (m, names)) → IsFree m
+      → named_length m g.hooks names ≤ g.bound → WroteAll (output_effect g target m names).files old new → IsWritten g target old new
+  output_written m names given free within w =
+      let short : named_length m g.hooks names ≤ longest_file = omega (arith, within, most) in
+      let accepted : IsAccepted given.bytes m =
+      record { spelled = given.spelled.0.spelled; limits = given.spelled.0.within; valid = given.spelled.1; free = free } in
+      let is = written_output given.bytes m g.hooks g.keeps names accepted given.read_well.short given.spelled.2 short in
+      let same : m ≡ is.original = one_module given.bytes m is.original given.spelled.0.spelled is.accepted.spelled in (
+        given.bytes,
+        named_output m g.hooks names,
+        is,
+        given.read_well,
+        within,
+        subst (λ x. WroteAll (file target (named_output m g.hooks names) ∷ info_files g.info (information_text x g.hooks)) old new) same w,
+      )
 
-    by : (t : Option (List ℕ)) → option_and_then (λ target. cond (is_name g.info target) None (Some (line_to g target))) t ≡ Some line
-        → line.bound ≤ longest_output
-    by None k = cc
-    by (Some target) k = pick target (is_name g.info target) k
-
-output_written : (line : Line) (m : Module) (names : Names) (old new : Option Contents) (g : Gives old (subject_read line) (m, names)) → IsFree m
-    → named_length m line.hooks names ≤ line.bound → line.bound ≤ longest_output → WroteAll (output_effect line m names).files old new
-    → IsWritten line old new
-output_written line m names old new g free within most w =
-    let short : named_length m line.hooks names ≤ longest_output = omega (arith, within, most) in
-    let accepted : IsAccepted g.bytes m = record { spelled = g.spelled.0.spelled; limits = g.spelled.0.within; valid = g.spelled.1; free = free } in
-    let is = written_output g.bytes m line.hooks line.keeps names accepted g.read_well.short g.spelled.2 short in
-    let same : m ≡ is.original = one_module g.bytes m is.original g.spelled.0.spelled is.accepted.spelled in (
-      g.bytes,
-      named_output m line.hooks names,
-      is,
-      g.read_well,
-      within,
-      subst (λ x. WroteAll (file line.target (named_output m line.hooks names) ∷ info_files line.info (information_text x line.hooks)) old new) same w,
-    )
-
-effect_written : (line : Line) (old new : Option Contents) (e : Effect) → line.bound ≤ longest_output
-    → LeadsTo old (instrument_plan line) (does e) → WroteAll e.files old new → IsWritten line old new
-effect_written line old new e most ((m, names), g, k) w =
-    let h = hooked_leads old line.subject m (named_length m line.hooks names) line.bound (ends (does (output_effect line m names))) e k in
-    let short : named_length m line.hooks names ≤ line.bound = le_of (named_length m line.hooks names) line.bound h.1 in
-    let is = h.2 in
-    let same : e ≡ output_effect line m names = cc in
-    output_written line m names old new g h.0 short most (subst (λ (x : Effect). WroteAll x.files old new) same w)
-
-line_ends : (words : List (List ℕ)) {old new : ShelfState} {was is : List ToolState} {before after : PrintState} (status : ℕ)
-    → Ends (plan_of words) old new was is before after status → (line : Line) → IsLine words line
-    → Ends (Some (instrument_plan line)) old new was is before after status
-line_ends words {old} {new} {was} {is} {before} {after} status x line l =
-    subst (λ p. Ends p old new was is before after status) (line_is words line l) x
-
-made_written : (words : List (List ℕ)) (line : Line) (old new : Option Contents) (was is : List ToolState) (e : Effect) → IsLine words line
-    → IsMade (Some (instrument_plan line)) old new was is e → IsWritten line old new
-made_written words line old new was is e l made = effect_written line old new e (line_bound words line l) made.leads made.files
+  effect_written : (e : Effect) → LeadsTo old (instrument_plan g target) (does e) → WroteAll e.files old new → IsWritten g target old new
+  effect_written e ((m, names), given, k) w =
+      let h = hooked_leads old g.subject m (named_length m g.hooks names) g.bound (ends (does (output_effect g target m names))) e k in
+      let short : named_length m g.hooks names ≤ g.bound = le_of (named_length m g.hooks names) g.bound h.1 in
+      let is = h.2 in
+      let same : e ≡ output_effect g target m names = cc in
+      output_written m names given h.0 short (subst (λ (x : Effect). WroteAll x.files old new) same w)
 
 pub written : (words : List (List ℕ)) {old new : ShelfState} {was is : List ToolState} {before after : PrintState} (status : ℕ)
-    → Ends (plan_of words) old new was is before after status → (line : Line) → IsLine words line → IsDone status
-    → IsWritten line old.contents new.contents
-written words {old} {new} {was} {is} {before} {after} status x line l (inl whole) =
-    let y = subst (Ends (Some (instrument_plan line)) old new was is before after) whole (line_ends words status x line l) in
-    let t = tells_at 0 of_effects y refl in
-    made_written words line old.contents new.contents was is t.0 l t.1
-written words {old} {new} {was} {is} {before} {after} status x line l (inr broken) =
-    let y = subst (Ends (Some (instrument_plan line)) old new was is before after) broken (line_ends words status x line l) in
-    let t = tells_at 15 of_prints y refl in
-    made_written words line old.contents new.contents was is t.1.0 l t.1.1
+    → Ends (plan_of words) old new was is before after status → IsInstrumentedBy words old.contents new.contents status
+written words {old} {new} {was} {is} {before} {after} status x g target asks found done = by done
+  where
+    ended : (n : ℕ) → status ≡ n → Ends (Some (instrument_plan g target)) old new was is before after n
+    ended n e =
+        subst (Ends (Some (instrument_plan g target)) old new was is before after) e
+        (subst (λ p. Ends p old new was is before after status) (plan_is words g target asks found) x)
+
+    by : IsDone status → IsWritten g target old.contents new.contents
+    by (inl whole) =
+        let t = tells_at 0 of_effects (ended 0 whole) refl in
+        effect_written g target (given_bound words g asks.0) old.contents new.contents t.0 t.1.leads t.1.files
+    by (inr broken) =
+        let t = tells_at 15 of_prints (ended 15 broken) refl in
+        effect_written g target (given_bound words g asks.0) old.contents new.contents t.1.0 t.1.1.leads t.1.1.files
 
 -- ---- the analyses take nothing
 
@@ -162,6 +144,6 @@ hooked_within P subject m long bound plan refused within = by (names_hooks m) (n
 
 pub instrument_feeds_none : (g : Given) → IfSome (instrument_mode.plan g) (Within FeedsNone)
 instrument_feeds_none g =
-    mapped_within FeedsNone instrument_plan (instrument_line g)
-    (λ line named. hooked_within FeedsNone line.subject named.0 (named_length named.0 line.hooks named.1) line.bound
-    (ends (does (output_effect line named.0 named.1))) (λ text. tt) refl)
+    mapped_within FeedsNone (instrument_plan g) (target_of g)
+    (λ target named. hooked_within FeedsNone g.subject named.0 (named_length named.0 g.hooks named.1) g.bound
+    (ends (does (output_effect g target named.0 named.1))) (λ text. tt) refl)

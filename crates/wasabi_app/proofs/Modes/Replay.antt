@@ -1,6 +1,6 @@
 -- What comes of the plan of the mode `replay`.
 use Rattle.std.proofs.Common.{refl, IfSome}
-use Rattle.app_plan.proofs.Within.{Within, WritesNone, MakesNone}
+use Rattle.app_load.proofs.Within.{Within, WritesNone, MakesNone}
 use Rattle.wasabi_app.specs.Words.{Given}
 use Rattle.wasabi_app.specs.Modes.Replay.{replay_mode}
 

@@ -1,27 +1,25 @@
 -- What comes of the plan of the mode `taint`.
-use Rattle.std.proofs.Common.{◌≡◌, ◌∙◌, ℕ, ◌<◌, ◌≤◌, ◌++◌, List, refl, sym, ap, ap₂, subst, IfOk, IfSome, Option, Some, None, Result, Ok, Err}
-use Rattle.outside_io.specs.Outside.{Unchanged}
-use Rattle.wasm_sem.specs.Types.{Module, Hooks}
+use Rattle.std.proofs.Common.{◌≡◌, ◌∙◌, ℕ, ◌≤◌, ◌++◌, List, sym, ap, ap₂, subst, IfOk, IfSome, Option, Some, None, Result, Ok, Err}
+use Rattle.outside_io.specs.Outside.{OnlyRead}
+use Rattle.wasm_sem.specs.Types.{Module}
 use Rattle.wasm_sem.specs.declared.Script.{Script}
 use Rattle.wasm_sem.specs.Execution.{Summary, IsFree, Links, link}
 use Rattle.run_session.specs.declared.link.LinkFault.{LinkFault}
 use Rattle.run_session.specs.Linking.{TellsRefusal}
 use Rattle.shadow_replay.specs.declared.Warning.{Warning}
 use Rattle.shadow_replay.specs.Taint.{Watch}
-use Rattle.instrument.specs.Made.{longest_output, narrow_file}
 use Rattle.instrument.specs.Output.{output}
-use Rattle.module_ast.specs.Validation.{narrow}
+use Rattle.module_ast.specs.Validation.{longest_file}
 use Rattle.analyses.specs.Tools.{ToolState}
-use Rattle.app_plan.specs.declared.told.Printed.{Printed}
-use Rattle.app_plan.specs.declared.told.Refusal.{Refusal}
-use Rattle.app_plan.specs.declared.told.Refusal.TheVariants.{NoMemory}
-use Rattle.app_plan.specs.Outcomes.{IsRefusal, RefusedBy, Yields}
-use Rattle.app_plan.specs.Plans.{no_import, no_output, Ending, refuses, Plan, printing}
-use Rattle.app_plan.specs.Printing.{ShelfState}
-use Rattle.app_plan.specs.Wants.{Gives, script_read, module_read}
-use Rattle.app_plan.proofs.Contents.{unchanged_same}
-use Rattle.app_plan.proofs.Going.{leads_by, no_memory, stopped, took_text, was_refused, went_on}
-use Rattle.app_plan.proofs.Within.{Within, WritesNone, FeedsNone, mapped_within}
+use Rattle.app_load.specs.declared.printing.Printed.{Printed}
+use Rattle.app_load.specs.declared.printing.Refusal.{Refusal}
+use Rattle.app_load.specs.declared.printing.Refusal.TheVariants.{NoMemory}
+use Rattle.app_load.specs.Outcomes.{IsRefusal, RefusedBy, Yields}
+use Rattle.app_load.specs.Plans.{no_import, no_output, Ending, refuses, Plan, printing}
+use Rattle.outside_io.specs.Outside.{ShelfState}
+use Rattle.app_load.specs.Wants.{Gives, script_read}
+use Rattle.app_load.proofs.Going.{no_memory, stopped, took_text, was_refused, went_on}
+use Rattle.app_load.proofs.Within.{Within, WritesNone, FeedsNone, mapped_within}
 use Rattle.app_runs.specs.Linking.{IsUnlinked}
 use Rattle.app_runs.specs.RunTexts.{run_status, run_text}
 use Rattle.app_runs.specs.WarningTexts.{warnings_text}
@@ -30,75 +28,52 @@ use Rattle.wasabi_app.specs.declared.taint_mode.Watched.{Watched}
 use Rattle.wasabi_app.specs.Making.{output_length}
 use Rattle.wasabi_app.specs.Playing.{ending_of, ending_finish, ending_text}
 use Rattle.wasabi_app.specs.Tainting.{warnings_told}
-use Rattle.wasabi_app.specs.Texts.{no_import_text, taken_text, too_large_text}
-use Rattle.wasabi_app.specs.Warning.{AreKnown, GetsHooks, GetsNone, IsUnknown, IsWarned, IsWatched, watch_in}
+use Rattle.wasabi_app.specs.Texts.{no_import_text}
+use Rattle.wasabi_app.specs.Warning.{AreKnown, IsUnknown, IsWarned, IsWatched, watch_in}
 use Rattle.wasabi_app.specs.Words.{Given}
 use Rattle.wasabi_app.specs.Modes.Instrument.{hooked}
-use Rattle.wasabi_app.specs.Modes.Taint.{TaintLine, unknown_in, known, taint_text, taint_line, taint_plan, taint_mode, followed_plan, ran_plan, warned_plan, watch_of}
+use Rattle.wasabi_app.specs.Modes.Taint.{unknown_in, known, taint_text, taint_plan, taint_mode, followed_plan, ran_plan, warned_plan, watch_of}
 use Rattle.wasabi_app.specs.Modes.Trial.{all_hooks}
-use Rattle.wasabi_app.proofs.Hooking.{free_names, taken_names, test_above, test_of}
+use Rattle.wasabi_app.specs.Hooking.{GetsNone}
+use Rattle.wasabi_app.proofs.Hooking.{hooked_goes}
 use Rattle.wasabi_app.proofs.Linked.{Plain, writes_plain, feeds_plain, played_links, played_within, was_unlinked, finish_statuses}
-use Rattle.wasabi_app.proofs.Modes.Instrument.{hooked_large, hooked_taken, hooked_well, hooked_within}
+use Rattle.wasabi_app.proofs.Modes.Instrument.{hooked_within}
 
 -- ---- what is watched
 
-module _ (line : TaintLine) (m : Module) where
+module _ (g : Given) (m : Module) where
   abbrev unknown : Option (List ℕ)
-  unknown = unknown_in line (import_names m.imports)
+  unknown = unknown_in g (import_names m.imports)
 
   -- a name is that of no import
-  pub unknown_name : (name : List ℕ) (refusal : Refusal) → unknown ≡ Some name → IsRefusal 20 (no_import_text name) refusal → IsUnknown line m refusal
+  pub unknown_name : (name : List ℕ) (refusal : Refusal) → unknown ≡ Some name → IsRefusal 20 (no_import_text name) refusal → IsUnknown g m refusal
   unknown_name name refusal e is = λ plan at tools.
       was_refused (known unknown plan) no_import (no_import_text name) at tools refusal
-      (leads_by at.contents (refuses no_import (no_import_text name)) (ap (λ u. known u plan) e) refl) is
+      (ap (λ u. known u plan) e) is
 
-  pub unknown_no_memory : IsUnknown line m NoMemory
-  unknown_no_memory = λ plan at tools. no_memory (Some (known unknown plan)) at at tools (unchanged_same at.contents)
+  pub unknown_no_memory : IsUnknown g m NoMemory
+  unknown_no_memory = λ plan at tools. no_memory (Some (known unknown plan)) at tools
 
-  watched_is : (watched : Watched) → IsWatched line m watched → watch_in watched ≡ watch_of line m
+  watched_is : (watched : Watched) → IsWatched g m watched → watch_in watched ≡ watch_of g m
   watched_is watched is = ap₂ (λ (a b : List ℕ). let w : Watch = record { sources = a; sinks = b } in w) is.sources is.sinks
 
   -- all are known, and the module is given hooks or not
-  pub followed : (watched : Watched) (old new : ShelfState) (tools : List ToolState) (result : Result Printed Refusal) → IsWatched line m watched
-      → AreKnown line m → GetsHooks line.subject m → Yields (Some (warned_plan line.script (watch_in watched) m)) old new tools tools result
-      → Yields (Some (followed_plan line m)) old new tools tools result
-  followed watched old new tools result is all gets y =
-      let goes : followed_plan line m ≡ warned_plan line.script (watch_of line m) m =
-      ap (λ u. known u (hooked line.subject m (output_length m all_hooks) longest_output (warned_plan line.script (watch_of line m) m))) all
-      ∙ gets (warned_plan line.script (watch_of line m) m) in
-      subst (λ p. Yields (Some p) old new tools tools result) (ap (λ w. warned_plan line.script w m) (watched_is watched is) ∙ sym goes) y
+  pub followed : (script : List ℕ) (watched : Watched) (old new : ShelfState) (tools : List ToolState) (result : Result Printed Refusal) → IsWatched g m watched
+      → AreKnown g m → IsFree m → output_length m all_hooks ≤ longest_file → Yields (Some (warned_plan script (watch_in watched) m)) old new tools tools result
+      → Yields (Some (followed_plan g script m)) old new tools tools result
+  followed script watched old new tools result is all free few y =
+      let plan = warned_plan script (watch_of g m) m in
+      let goes : followed_plan g script m ≡ plan =
+      ap (λ u. known u (hooked g.subject m (output_length m all_hooks) longest_file plan)) all
+      ∙ hooked_goes g.subject m (output_length m all_hooks) longest_file plan free few in
+      subst (λ p. Yields (Some p) old new tools tools result) (ap (λ w. warned_plan script w m) (watched_is watched is) ∙ sym goes) y
 
-  pub unhooked : (refusal : Refusal) (at : ShelfState) (tools : List ToolState) → AreKnown line m → GetsNone line.subject m refusal
-      → Yields (Some (followed_plan line m)) at at tools tools (Err refusal)
-  unhooked refusal at tools all none =
-      let plan = warned_plan line.script (watch_of line m) m in
+  pub unhooked : (script : List ℕ) (refusal : Refusal) (at : ShelfState) (tools : List ToolState) → AreKnown g m
+      → GetsNone g.subject m (output_length m all_hooks) longest_file refusal → Yields (Some (followed_plan g script m)) at at tools tools (Err refusal)
+  unhooked script refusal at tools all none =
+      let plan = warned_plan script (watch_of g m) m in
       subst (λ p. Yields (Some p) at at tools tools (Err refusal))
-      (sym (ap (λ u. known u (hooked line.subject m (output_length m all_hooks) longest_output plan)) all)) (none plan at tools)
-
--- ---- the output
-
-module _ (subject : List ℕ) (m : Module) where
-  abbrev long : ℕ
-  long = output_length m all_hooks
-
-  pub gets_hooks : IsFree m → long ≤ longest_output → GetsHooks subject m
-  gets_hooks free few = λ plan. hooked_well subject m long longest_output plan (free_names m free) (test_of long longest_output few)
-
-  -- an import names the hooks' module
-  pub gets_none : (refusal : Refusal) → ¬ IsFree m → IsRefusal 9 (taken_text subject) refusal → GetsNone subject m refusal
-  gets_none refusal taken is = λ plan at tools.
-      was_refused (hooked subject m long longest_output plan) no_output (taken_text subject) at tools refusal
-      (leads_by at.contents (refuses no_output (taken_text subject)) (hooked_taken subject m long longest_output plan (taken_names m taken)) refl) is
-
-  -- or the output is too long
-  pub gets_large : (refusal : Refusal) → IsFree m → longest_output < long → IsRefusal 9 (too_large_text long) refusal → GetsNone subject m refusal
-  gets_large refusal free over is = λ plan at tools.
-      was_refused (hooked subject m long longest_output plan) no_output (too_large_text long) at tools refusal
-      (leads_by at.contents (refuses no_output (too_large_text long))
-      (hooked_large subject m long longest_output plan (free_names m free) (test_above long longest_output over)) refl) is
-
-  pub gets_no_memory : GetsNone subject m NoMemory
-  gets_no_memory = λ plan at tools. no_memory (Some (hooked subject m long longest_output plan)) at at tools (unchanged_same at.contents)
+      (sym (ap (λ u. known u (hooked g.subject m (output_length m all_hooks) longest_file plan)) all)) (none plan at tools)
 
 -- ---- the run
 
@@ -136,10 +111,10 @@ known_holds P (Some name) plan refused within = refused (no_import_text name)
 taint_within : (P : Ending → Type 0) → Plain P → ((text : List ℕ) → P (refuses no_import text)) → ((text : List ℕ) → P (refuses no_output text))
     → (g : Given) → IfSome (taint_mode.plan g) (Within P)
 taint_within P plain unknown refused g =
-    mapped_within P taint_plan (taint_line g)
-    (λ line m. known_holds P (unknown_in line (import_names m.imports)) _ unknown
-    (hooked_within P line.subject m (output_length m all_hooks) longest_output (warned_plan line.script (watch_of line m) m) refused
-    (λ s. played_within P (output m all_hooks) s _ plain (plain.prints_well (taint_text (watch_of line m) m s) (ending_finish (output m all_hooks) s)))))
+    mapped_within P (taint_plan g) g.script
+    (λ script m. known_holds P (unknown_in g (import_names m.imports)) _ unknown
+    (hooked_within P g.subject m (output_length m all_hooks) longest_file (warned_plan script (watch_of g m) m) refused
+    (λ s. played_within P (output m all_hooks) s _ plain (plain.prints_well (taint_text (watch_of g m) m s) (ending_finish (output m all_hooks) s)))))
 
 pub taint_writes_none : (g : Given) → IfSome (taint_mode.plan g) (Within WritesNone)
 taint_writes_none g = taint_within WritesNone writes_plain (λ text. tt) (λ text. tt) g
@@ -149,35 +124,15 @@ taint_feeds_none g = taint_within FeedsNone feeds_plain (λ text. tt) (λ text. 
 
 -- ---- what is read
 
--- the subject is not read
-pub unloaded : (line : TaintLine) (a b : ShelfState) (tools : List ToolState) (refusal : Refusal)
-    → RefusedBy (module_read line.subject narrow_file narrow) a b refusal → Unchanged a.contents b.contents
-    → Yields (Some (taint_plan line)) a b tools tools (Err refusal)
-unloaded line a b tools refusal r u = stopped (module_read line.subject narrow_file narrow) (followed_plan line) a b tools refusal r u
-
--- it is, and this came of it
-pub loaded : (line : TaintLine) (m : Module) (a b c : ShelfState) (tools : List ToolState) (result : Result Printed Refusal)
-    → Gives a.contents (module_read line.subject narrow_file narrow) m → Unchanged a.contents b.contents → a.reads ≤ b.reads → b.writes ≡ a.writes
-    → Yields (Some (followed_plan line m)) b c tools tools result → Yields (Some (taint_plan line)) a c tools tools result
-loaded line m a b c tools result g u few same y =
-    went_on (module_read line.subject narrow_file narrow) (followed_plan line) m a b c tools tools result g u few same y
-
--- so of the script
+-- the script is not
 pub unscripted : (script : List ℕ) (w : Watch) (m : Module) (a b : ShelfState) (tools : List ToolState) (refusal : Refusal)
-    → RefusedBy (script_read script) a b refusal → Unchanged a.contents b.contents → Yields (Some (warned_plan script w m)) a b tools tools (Err refusal)
-unscripted script w m a b tools refusal r u = stopped (script_read script) (ran_plan w m) a b tools refusal r u
+    → RefusedBy (script_read script) a b refusal → OnlyRead 1 a b → Yields (Some (warned_plan script w m)) a b tools tools (Err refusal)
+unscripted script w m a b tools refusal r once = stopped (script_read script) (ran_plan w m) a b tools refusal r once
 
 pub scripted : (script : List ℕ) (w : Watch) (m : Module) (s : Script) (a b : ShelfState) (tools : List ToolState) (result : Result Printed Refusal)
-    → Gives a.contents (script_read script) s → Unchanged a.contents b.contents → a.reads ≤ b.reads → b.writes ≡ a.writes
+    → Gives a.contents (script_read script) s → OnlyRead 1 a b
     → Yields (Some (ran_plan w m s)) b b tools tools result → Yields (Some (warned_plan script w m)) a b tools tools result
-scripted script w m s a b tools result g u few same y = went_on (script_read script) (ran_plan w m) s a b b tools tools result g u few same y
-
--- the output is longer than the bound, which was counted with these hooks
-pub gets_large_of : (subject : List ℕ) (m : Module) (hooks : Hooks) (n : ℕ) (refusal : Refusal) → hooks ≡ all_hooks → IsFree m → n ≡ output_length m hooks
-    → longest_output < n → IsRefusal 9 (too_large_text n) refusal → GetsNone subject m refusal
-gets_large_of subject m hooks n refusal all free is over refused =
-    let whole : n ≡ output_length m all_hooks = is ∙ ap (output_length m) all in
-    gets_large subject m refusal free (subst (λ k. longest_output < k) whole over) (subst (λ k. IsRefusal 9 (too_large_text k) refusal) whole refused)
+scripted script w m s a b tools result g once y = went_on (script_read script) (ran_plan w m) s a b b tools tools result g once y
 
 -- what is told of the output's run
 pub told_warned : {E : Type 0} (w : Watch) (m : Module) (s : Script) (ended : Summary) (names : List (List ℕ)) (warnings : List Warning) (result : Result Printed E)

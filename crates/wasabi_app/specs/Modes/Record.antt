@@ -1,27 +1,16 @@
 -- The mode `record`.
-use Rattle.std.specs.Prelude.{ℕ, List, [], ◌∷◌, length, codes, Bool, true, false, nat_le, Option, option_map, option_and_then}
+use Rattle.std.specs.Prelude.{ℕ, List, [], ◌∷◌, length, codes, Bool, true, false, nat_le, option_and_then}
 use Rattle.wasm_sem.specs.Types.{Module}
 use Rattle.wasm_sem.specs.declared.Script.{Script}
 use Rattle.static_info.specs.declared.Info.{Info}
-use Rattle.app_plan.specs.Kinds.{no_kinds}
-use Rattle.app_plan.specs.Plans.{long_trace, file, Effect, does, Plan, ends, refusing}
-use Rattle.app_plan.specs.Texts.{long_trace_text}
+use Rattle.app_load.specs.Kinds.{no_kinds}
+use Rattle.app_load.specs.Plans.{long_trace, file, Effect, does, Plan, ends, refusing}
+use Rattle.app_load.specs.Texts.{long_trace_text}
 use Rattle.app_runs.specs.Recording.{recorded_bytes}
-use Rattle.wasabi_app.specs.declared.record_mode.RecordLine.{RecordLine as ReadRecordLine}
 use Rattle.wasabi_app.specs.Playing.{played, ending_text, ending_finish}
-use Rattle.wasabi_app.specs.ToldRuns.{RunNames, names_of, run_names, told_run}
+use Rattle.wasabi_app.specs.ToldRuns.{told_run, with_both}
 use Rattle.wasabi_app.specs.Words.{Given}
 use Rattle.wasabi_app.specs.Mode.{Mode}
-
--- the trace of a run is to be written under the target's name, where it has no more bytes than the bound
-pub record RecordLine : Type 0 where
-  pub names : RunNames
-  pub target : List ℕ
-  pub bound : ℕ
-
--- that was read, as its texts
-abbrev pub record_line_of : ReadRecordLine → RecordLine
-record_line_of line = record { names = names_of line.names; target = line.target.now; bound = line.bound }
 
 -- the trace is written, and the text of the run is printed
 abbrev pub record_effect : (target : List ℕ) → Module → Info → Script → Effect
@@ -33,7 +22,7 @@ record_effect target m info s = record {
   finish = ending_finish m s;
 }
 
--- this plan, where the trace is no longer than the bound
+-- this plan, if the trace is no longer than the bound; otherwise the refusal of status 18
 abbrev pub kept_within : (is_within : Bool) → (bound : ℕ) → Plan → Plan
 kept_within true bound plan = plan
 kept_within false bound plan = refusing long_trace (long_trace_text bound)
@@ -43,13 +32,12 @@ abbrev pub recorded_plan : (target : List ℕ) → (bound : ℕ) → Module → 
 recorded_plan target bound m info s =
     played m s (kept_within (nat_le (length (recorded_bytes info m s)) bound) bound (ends (does (record_effect target m info s))))
 
-abbrev pub record_plan : RecordLine → Plan
-record_plan line = told_run line.names (recorded_plan line.target line.bound)
+abbrev pub record_plan : (subject target info script : List ℕ) → (bound : ℕ) → Plan
+record_plan subject target info script bound = told_run subject info script (recorded_plan target bound)
 
--- The target is needed too.
-abbrev pub record_line : Given → Option RecordLine
-record_line g =
-    option_and_then (λ names. option_map (λ target. record { names = names; target = target; bound = g.bound }) g.target) (run_names g)
-
+-- the mode also needs the target
 abbrev pub record_mode : Mode
-record_mode = record { name = codes "record"; plan = λ (g : Given). option_map record_plan (record_line g) }
+record_mode = record {
+  name = codes "record";
+  plan = λ (g : Given). option_and_then (λ target. with_both (λ info script. record_plan g.subject target info script g.bound) g.info g.script) g.target;
+}

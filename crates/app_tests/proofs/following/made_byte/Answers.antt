@@ -1,8 +1,8 @@
 -- The output is that of the module.
 use Rattle.std.proofs.Common.{◌∙◌, ◌≤◌, List, ℕ, ap, length, subst, sym}
+use Rattle.module_ast.specs.Validation.Limits.{longest_file}
 use Rattle.wasm_sem.specs.Types.{Module}
 use Rattle.static_info.specs.Info.{info_of}
-use Rattle.instrument.specs.Made.{longest_output}
 use Rattle.instrument.specs.Output.{output}
 use Rattle.wasabi_app.specs.Modes.Trial.{all_hooks}
 use Rattle.wasabi_app.proofs.TrialPairs.{output_belongs, output_read}
@@ -10,7 +10,7 @@ use Rattle.app_tests.proofs.Stored.{two_triable}
 use Rattle.app_tests.proofs.following.made_byte.Goals as goal
 
 pub read-requires-clause-short : goal.read-requires-clause-short
-read-requires-clause-short g c = λ _ _. subst (λ (b : List ℕ). length b ≤ longest_output) (sym (c.as_slice.ensures.value ∙ c.requires.made.written)) c.requires.few
+read-requires-clause-short g c = λ _ _. subst (λ (b : List ℕ). length b ≤ longest_file) (sym (c.as_slice.ensures.value ∙ c.requires.made.written)) c.requires.few
 
 pub called_byte-requires-clause-output : goal.called_byte-requires-clause-output
 called_byte-requires-clause-output g c =

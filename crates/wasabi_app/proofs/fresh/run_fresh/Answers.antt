@@ -5,5 +5,4 @@ use Rattle.wasabi_app.proofs.fresh.run_fresh.Goals as goal
 
 pub returns : goal.returns
 returns g c =
-    ended (texts c.args.words.now) _ _ _ _ _ _ _ c.requires.fresh c.run_app.ensures.ended c.run_app.ensures.read_count c.run_app.ensures.write_count
-    c.run_app.ensures.print_count
+    ended (texts c.args.words.now) _ _ _ _ _ _ _ c.requires.fresh c.run_app.ensures.ended

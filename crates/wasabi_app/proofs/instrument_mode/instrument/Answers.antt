@@ -1,15 +1,15 @@
--- Words that have no line, or what came of it.
-use Rattle.app_plan.proofs.Going.{planned, unplanned}
-use Rattle.wasabi_app.specs.Making.{line_of}
-use Rattle.wasabi_app.specs.Modes.Instrument.{instrument_line, instrument_plan}
+-- Words without a target, or what came of it.
+use Rattle.std.proofs.Common.{ap, option_map, sym, Err}
+use Rattle.app_load.proofs.Going.{planned, was_no_command}
+use Rattle.wasabi_app.specs.Modes.Instrument.{instrument_plan}
 use Rattle.wasabi_app.specs.Words.{given_of}
 use Rattle.wasabi_app.proofs.instrument_mode.instrument.Goals as goal
 
-pub returns-in-Some-clause-ended : goal.returns-in-Some-clause-ended
-returns-in-Some-clause-ended g c = λ tools.
-    planned instrument_plan (instrument_line (given_of c.args.given.now)) (line_of c.in-Some.line) _ _ tools tools c.instrument_by.result
-    c.in-Some.ensures.line (c.instrument_by.ensures.ended tools)
+pub returns-in-Some : goal.returns-in-Some
+returns-in-Some g c = λ tools.
+    planned _ _ _ _ c.instrument_by.result (ap (option_map (instrument_plan (given_of c.args.given.now))) (sym c.in-Some.ensures)) (c.instrument_by.ensures tools)
 
-pub returns-in-None-clause-ended : goal.returns-in-None-clause-ended
-returns-in-None-clause-ended g c = λ tools.
-    unplanned instrument_plan (instrument_line (given_of c.args.given.now)) _ tools c.bad_words.result c.in-None.ensures.line c.bad_words.ensures
+pub returns-in-None : goal.returns-in-None
+returns-in-None g c = λ tools.
+    planned _ _ _ _ (Err c.bad_words.result) (ap (option_map (instrument_plan (given_of c.args.given.now))) (sym c.in-None.ensures))
+    (was_no_command _ tools c.bad_words.result c.bad_words.ensures)

@@ -1,15 +1,19 @@
 -- A subject that is not loaded, or what came of it.
 use Rattle.std.proofs.lemmas.Result.{err_from_is_err_and}
-use Rattle.wasabi_app.specs.Making.{line_of}
-use Rattle.wasabi_app.proofs.Hooking.{canonical_short, loaded, unloaded}
+use Rattle.app_load.proofs.Going.{stopped, went_on}
+use Rattle.wasabi_app.specs.Modes.Instrument.{output_plan, subject_read}
+use Rattle.wasabi_app.specs.Words.{given_of}
+use Rattle.wasabi_app.proofs.Hooking.{canonical_short}
 use Rattle.wasabi_app.proofs.KeptNames.{kept_proper}
 use Rattle.wasabi_app.proofs.instrument_mode.instrument_by.Goals as goal
 
-pub returns-in_err-module-clause-ended : goal.returns-in_err-module-clause-ended
-returns-in_err-module-clause-ended g c = λ tools.
+pub returns-in_err-module : goal.returns-in_err-module
+returns-in_err-module g c = λ tools.
+    let given = given_of c.args.given.now in
     let p = err_from_is_err_and c.from_residual.result c.from_residual.ensures.1 in
     rw (p.1, p.2)
-    (unloaded (line_of c.args.line.now) _ _ tools c.in_err-module.field-0.0 (rw c.narrow.ensures at c.in_err-module.ensures.refused) c.in_err-module.ensures.kept)
+    (stopped (subject_read given) (λ named. output_plan given c.args.target.now named.0 named.1) _ _ tools c.in_err-module.field-0.0
+    (rw c.narrow.ensures at c.in_err-module.ensures.refused) c.in_err-module.ensures.once)
 
 pub instrument_module-requires-clause-limits : goal.instrument_module-requires-clause-limits
 instrument_module-requires-clause-limits g c = λ _ _. (rw c.narrow.ensures at c.in_ok-module.ensures.ok).spelled.0.within
@@ -22,10 +26,10 @@ instrument_module-requires-clause-short g c =
 pub instrument_module-requires-clause-proper : goal.instrument_module-requires-clause-proper
 instrument_module-requires-clause-proper g c =
     let is = rw c.narrow.ensures at c.in_ok-module.ensures.ok in
-    λ _ _. kept_proper c.args.line.now.keeps is.bytes c.in_ok-module.module c.in_ok-module.names is.spelled.2
+    λ _ _. kept_proper c.args.given.now.keeps is.bytes c.in_ok-module.module c.in_ok-module.names is.spelled.2
 
-pub returns-clause-ended : goal.returns-clause-ended
-returns-clause-ended g c = λ tools.
-    loaded (line_of c.args.line.now) c.in_ok-module.module c.in_ok-module.names _ _ _ tools c.instrument_module.result
-    (rw c.narrow.ensures at c.in_ok-module.ensures.ok) c.load_named.ensures.kept c.load_named.ensures.read_count c.load_named.ensures.write_count
-    (c.instrument_module.ensures.ended tools)
+pub returns : goal.returns
+returns g c = λ tools.
+    let given = given_of c.args.given.now in
+    went_on (subject_read given) (λ named. output_plan given c.args.target.now named.0 named.1) (c.in_ok-module.module, c.in_ok-module.names) _ _ _ tools tools
+    c.instrument_module.result (rw c.narrow.ensures at c.in_ok-module.ensures.ok) c.load_named.ensures.once (c.instrument_module.ensures tools)

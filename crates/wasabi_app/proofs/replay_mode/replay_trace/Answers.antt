@@ -1,6 +1,7 @@
 -- What the events of a trace tell, or want of memory.
 use Rattle.std.proofs.Common.{refl, Err}
 use Rattle.std.proofs.lemmas.Result.{err_from_is_err_and}
+use Rattle.app_load.specs.declared.status.Status.TheVariants.{Done}
 use Rattle.app_runs.proofs.FedReports.{whole_tagged}
 use Rattle.wasabi_app.proofs.Replayed.{replay_no_memory, replayed_as, untold_replay, was_replayed}
 use Rattle.wasabi_app.proofs.replay_mode.replay_trace.Goals as goal
@@ -26,7 +27,7 @@ returns-in_ok-text-in-Ok g c =
     let (es, is, counted, taken) = c.in-Ok.ensures.fed in
     record {
       ended = λ fs at u.
-          was_replayed c.args.bytes.now es fs at.contents c.args.kinds _ _ c.in-Ok.tally 0 c.in_ok-text-in-Ok.text.items is u c.requires.fresh taken
+          was_replayed c.args.bytes.now es fs at c.args.kinds _ _ c.in-Ok.tally Done c.in_ok-text-in-Ok.text.items is u c.requires.fresh taken
           counted refl c.in_ok-text-in-Ok.ensures.whole;
     }
 

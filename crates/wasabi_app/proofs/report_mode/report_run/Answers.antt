@@ -7,7 +7,7 @@ use Rattle.wasabi_app.proofs.report_mode.report_run.Goals as goal
 
 pub told_with-requires : goal.told_with-requires
 told_with-requires g c = record {
-  tags = whole_tagged c.args.line.now.kinds (events_told c.args.info.now c.args.m.now c.args.script c.args.script.steps) _ _ c.requires.fresh c.in-Ok.ensures.fed;
+  tags = whole_tagged c.args.given.now.kinds (events_told c.args.info.now c.args.m.now c.args.script c.args.script.steps) _ _ c.requires.fresh c.in-Ok.ensures.fed;
 }
 
 pub unlinked-requires : goal.unlinked-requires
@@ -16,7 +16,7 @@ unlinked-requires g c = λ call e. fault_within c.args.m.now c.args.script _ cal
 pub returns-in-Ok : goal.returns-in-Ok
 returns-in-Ok g c = record {
   ended = λ at.
-      was_reported c.args.line.now.kinds c.args.line.now.keeps c.args.m.now c.args.names.now c.args.info.now c.args.script _ c.in-Ok.played.tally _ _ at c.told_with.result
+      was_reported c.args.given.now.kinds c.args.given.now.keeps c.args.m.now c.args.names.now c.args.info.now c.args.script _ c.in-Ok.played.tally _ _ at c.told_with.result
       (record {
         links = c.in-Ok.ensures.links;
         ended = c.in-Ok.ensures.ended;
@@ -30,6 +30,6 @@ returns-in-Ok g c = record {
 pub returns-in-Err : goal.returns-in-Err
 returns-in-Err g c = record {
   ended = λ at.
-      not_reported c.args.line.now.kinds c.args.line.now.keeps c.args.m.now c.args.names.now c.args.info.now c.args.script c.in-Err.fault _ _ at c.unlinked.result c.in-Err.ensures.refused
+      not_reported c.args.given.now.kinds c.args.given.now.keeps c.args.m.now c.args.names.now c.args.info.now c.args.script c.in-Err.fault _ _ at c.unlinked.result c.in-Err.ensures.refused
       c.unlinked.ensures c.in-Err.ensures.stands;
 }

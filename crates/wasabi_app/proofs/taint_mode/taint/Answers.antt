@@ -1,14 +1,18 @@
--- Words that have no line, or what came of it.
-use Rattle.app_plan.proofs.Going.{planned, unplanned}
-use Rattle.wasabi_app.specs.Modes.Taint.{taint_line, taint_line_of, taint_plan}
+-- A script that is not given, or what came of the run.
+use Rattle.std.proofs.Common.{Bor, List, ℕ, ap, option_map, Option, Err}
+use Rattle.app_load.proofs.Going.{planned, was_no_command}
+use Rattle.wasabi_app.specs.Modes.Taint.{taint_plan}
 use Rattle.wasabi_app.specs.Words.{given_of}
 use Rattle.wasabi_app.proofs.taint_mode.taint.Goals as goal
 
-pub returns-in-Some-clause-ended : goal.returns-in-Some-clause-ended
-returns-in-Some-clause-ended g c = λ tools.
-    planned taint_plan (taint_line (given_of c.args.given.now)) (taint_line_of c.in-Some.line) _ _ tools tools c.taint_by.result
-    c.in-Some.ensures (c.taint_by.ensures.ended tools)
+pub returns-in-Some : goal.returns-in-Some
+returns-in-Some g c = λ tools.
+    planned _ _ _ _ c.taint_by.result
+    (ap (λ (o : Option (Bor (List ℕ))). option_map (taint_plan (given_of c.args.given.now)) (option_map (λ t. t.now) o)) c.in-Some.is)
+    (c.taint_by.ensures tools)
 
-pub returns-in-None-clause-ended : goal.returns-in-None-clause-ended
-returns-in-None-clause-ended g c = λ tools.
-    unplanned taint_plan (taint_line (given_of c.args.given.now)) _ tools c.bad_words.result c.in-None.ensures c.bad_words.ensures
+pub returns-in-None : goal.returns-in-None
+returns-in-None g c = λ tools.
+    planned _ _ _ _ (Err c.bad_words.result)
+    (ap (λ (o : Option (Bor (List ℕ))). option_map (taint_plan (given_of c.args.given.now)) (option_map (λ t. t.now) o)) c.in-None.is)
+    (was_no_command _ tools c.bad_words.result c.bad_words.ensures)

@@ -1,7 +1,7 @@
 -- The output is that of the module.
 use Rattle.std.proofs.Common.{◌∙◌, ◌≤◌, List, ℕ, length, subst, sym}
 use Rattle.std.proofs.lemmas.Result.{err_from_is_err_and}
-use Rattle.instrument.specs.Made.{longest_output}
+use Rattle.module_ast.specs.Validation.Limits.{longest_file}
 use Rattle.instrument.specs.Output.{output}
 use Rattle.static_info.specs.Info.{info_of}
 use Rattle.wasabi_app.specs.Modes.Trial.{all_hooks, pair_front}
@@ -14,8 +14,8 @@ front-requires-clause-sizes g c = c.requires.triable.short
 pub front-requires-clause-steps : goal.front-requires-clause-steps
 front-requires-clause-steps g c = c.requires.firsts
 
-pub output-requires-clause-short : goal.output-requires-clause-short
-output-requires-clause-short g c = λ _ _. subst (λ (b : List ℕ). length b ≤ longest_output) (sym (c.as_slice.ensures.value ∙ c.requires.made.written)) c.requires.few
+pub read_output-requires-clause-short : goal.read_output-requires-clause-short
+read_output-requires-clause-short g c = λ _ _. subst (λ (b : List ℕ). length b ≤ longest_file) (sym (c.as_slice.ensures.value ∙ c.requires.made.written)) c.requires.few
 
 pub run_output-requires-clause-steps : goal.run_output-requires-clause-steps
 run_output-requires-clause-steps g c = c.requires.seconds

@@ -1,7 +1,6 @@
 -- A made module can be tried.
 use Rattle.std.proofs.Common.{Some, arith, subst, sym}
-use Rattle.app_plan.proofs.Contents.{unchanged_same}
-use Rattle.app_plan.proofs.Going.{no_memory}
+use Rattle.app_load.proofs.Going.{no_memory}
 use Rattle.wasabi_app.specs.Trying.{IsTriable}
 use Rattle.wasabi_app.specs.Modes.Trial.{trial_plan}
 use Rattle.wasabi_app.proofs.Modes.Trial.{of_number}
@@ -21,4 +20,4 @@ pub returns-in-Ok : goal.returns-in-Ok
 returns-in-Ok g c = λ at. of_number c.args.number _ at _ _ c.try_module.result c.in-Ok.ensures (c.try_module.ensures at)
 
 pub returns-in-Err : goal.returns-in-Err
-returns-in-Err g c = λ at. no_memory (Some (trial_plan c.args.number)) at at _ (unchanged_same at.contents)
+returns-in-Err g c = λ at. no_memory (Some (trial_plan c.args.number)) at _

@@ -1,0 +1,16 @@
+pub mod KindLists
+pub mod Fed
+pub mod Files
+pub mod Scripts
+pub mod Infos
+pub mod Contents
+pub mod WantLaws
+pub mod Leading
+pub mod Shelves
+pub mod Before
+pub mod Telling
+pub mod Deciding
+pub mod Going
+pub mod Printings
+pub mod Loaded
+pub mod Within

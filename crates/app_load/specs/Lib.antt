@@ -1,0 +1,12 @@
+pub mod Statuses
+pub mod Kinds
+pub mod Feeding
+pub mod Texts
+pub mod Printing
+pub mod Files
+pub mod Wants
+pub mod Plans
+pub mod Writing
+pub mod Ends
+pub mod Outcomes
+pub mod Laws

@@ -1,4 +1,0 @@
-use Rattle.app_plan.proofs.loading.refused_info.Goals as goal
-
-pub returns : goal.returns
-returns c = c.refused.ensures c.args.line.now c.from_str.ensures.ok

@@ -1,5 +1,0 @@
-use Rattle.app_plan.specs.Texts.{bad_words_text}
-use Rattle.app_plan.proofs.told.bad_words.Goals as goal
-
-pub returns : goal.returns
-returns c = c.refused.ensures bad_words_text c.from_str.ensures.ok
