@@ -1,9 +1,9 @@
 #!/usr/bin/env python3
 """Writes the list of crates in docs/ARCHITECTURE.md again from crates.txt: its headings, its order, and what each crate stands on.
-What is said of a crate stays as it is; of a new one it is the first sentence of its root file.
+What the list says of a crate stays as it is; of a new crate it says the first sentence of the root file.
 
     docs/crates.py            writes the list
-    docs/crates.py --check    ends with 1 where the list is another, or docs/PROVED.md has other crates or another order
+    docs/crates.py --check    ends with 1 if the list is another one, or docs/PROVED.md has other crates or another order
 """
 import os
 import re

@@ -1,8 +1,12 @@
 #!/usr/bin/env python3
-"""Writes the lists of docs/DEFINITIONS.md again: which definitions stand in which file, those first that the clause `written`
+"""Writes the lists of docs/DEFINITIONS.md again: which definitions are in which file. First come those that the clause `written`
 of `run_app` reaches, then what each mode adds, and then the others. The texts, the groups, the order of files and the sections
-of the standard stay as they are; a new file is put behind the last one of its crate, with the first comment of the file as
-what it has."""
+of the standard stay as they are. A new file goes after the last one of its crate, and the first comment of the file says what
+the file has.
+
+    docs/definitions.py            writes the lists
+    docs/definitions.py --check    ends with 1 if the page is not what it would write
+"""
 import os, re, sys, textwrap
 
 top = os.path.dirname(os.path.dirname(os.path.abspath(__file__)))
@@ -62,7 +66,7 @@ for crate, file, text in specs():
             private.add((crate, file, name))
 
 def defined(key):
-    """Where a name is defined that a file has, or passes on."""
+    """The place of the definition of a name that a file has, or passes on."""
     while key not in definitions and key[2] in scopes.get(key[:2], ({},))[0]:
         key = scopes[key[:2]][0][key[2]]
     return key
@@ -108,16 +112,16 @@ def parts():
     add("How a command ends, whatever its mode", all_of_them)
     return found
 
-def main():
+def written(page):
+    """The page with its lists written again, and how many definitions are of which kind."""
     groups = parts()
     reached = set().union(*(keys for _, keys in groups))
     shown = [key for key in definitions if key not in private]
-    path = f"{top}/docs/DEFINITIONS.md"
     texts = {}
     def only_key(m):
         texts.setdefault((m[1], m[2]), (" ".join(m[4].split()), m[3] or ""))
         return f"- `{m[1]}` `{m[2]}`"
-    lines = ENTRY.sub(only_key, open(path, encoding="utf-8").read()).split("\n")
+    lines = ENTRY.sub(only_key, page).split("\n")
     def entry(crate, file, keys):
         kept = [n for (c, f, n) in shown if (c, f) == (crate, file) and (c, f, n) in keys]
         what, section = texts.get((crate, file)) or (head_of(crate, file), "")
@@ -155,7 +159,16 @@ def main():
     text = "\n".join(out)
     for before, after, keys in (("The ", " definitions that the headline", groups[0][1]), ("`run_app` reach\n", " definitions", reached), ("The ", " others, which", set(shown) - reached)):
         text = re.sub(rf"{before}\d+{after}", f"{before}{len(keys)}{after}", text)
-    open(path, "w", encoding="utf-8").write(text)
-    print(len(groups[0][1]), "by the headline,", len(reached), "reached,", len(set(shown) - reached), "others")
+    return text, f"{len(groups[0][1])} by the headline, {len(reached)} reached, {len(set(shown) - reached)} others"
+
+def main():
+    path = f"{top}/docs/DEFINITIONS.md"
+    page = open(path, encoding="utf-8").read()
+    text, counts = written(page)
+    if sys.argv[1:] == ["--check"]:
+        sys.exit(text != page and "docs/DEFINITIONS.md: the lists are not those of the sources; docs/definitions.py writes them")
+    # where an entry of a renamed crate goes depends on the entries before it, so it may take a second time
+    open(path, "w", encoding="utf-8").write(written(text)[0])
+    print(counts)
 
 main()

@@ -37,7 +37,7 @@ def cells(page):
 
 
 def wrong_names():
-    """Where a document names other modes, options, groups or statuses, or in another order."""
+    """The documents that name other modes, options, groups or statuses, or name them in another order."""
     usage = subprocess.run([os.path.join(TOP, "wasabi"), "--help"], capture_output=True, check=True, encoding="utf-8").stdout
     formats, hooks, readme = read("docs/FORMATS.md"), read("docs/HOOKS.md"), read("README.md")
     options = under("## Options", formats)
@@ -49,6 +49,8 @@ def wrong_names():
         ("Groups", "docs/HOOKS.md"): list(dict.fromkeys(re.findall(r"^\| `(\w+)` \|", under("## The hooks", hooks), re.M))),
         ("Groups", "README.md"): re.findall(r"`(\w+)`", groups),
         ("Statuses", "docs/FORMATS.md"): list(dict.fromkeys(re.findall(r"^\| (\d+) \|", under("## Statuses", formats), re.M))),
+        # (the script alone gives 70)
+        ("Statuses", "crates/app_load/src/status.rt"): re.findall(r"=> (\d+),", read("crates/app_load/src/status.rt")) + ["70"],
     }
     for (heading, document), names in told.items():
         stated = of_help(usage, heading)

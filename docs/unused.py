@@ -1,10 +1,10 @@
 #!/usr/bin/env python3
 """Lists the lemmas and definitions of proofs/ that nothing names, each with its file and line: python3 docs/unused.py [CRATE ..]
 
-A name counts as used where its file has it outside its own definition, and one that is `pub` also where another file has it in
-a list of imports, or beside the name of its file. Worked examples are left out: the files that are named Examples, and those
-that export nothing. What a record or a data type lists is no definition here. It reads text and proves nothing: a check says
-whether a proof can do without.
+A name counts as used if its file has it outside its own definition. A name that is `pub` also counts as used if another file has it
+in a list of imports, or beside the name of its file. Worked examples are left out: the files that are named Examples, and those
+that export nothing. What a record or a data type lists is not a definition here. This script reads text and proves nothing: a check
+says whether a proof can do without a name.
 """
 import collections
 import pathlib

@@ -1,7 +1,7 @@
-"""The tree of a run's calls, of what wasabi tree prints, or of a trace, which tells of the instructions too.
+"""The tree of a run's calls, made from what wasabi tree prints, or from a trace, which also has the instructions.
 
-A node is a path of calls. It knows its function, from where it was called, how often it came, what it cost by lines, and the nodes
-that go on from it.
+A node is a path of calls. It knows its function, the place of the call, how often the path occurred, what it cost by lines, and the
+nodes that go on from it.
 """
 import argparse
 import collections

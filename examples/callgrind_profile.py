@@ -1,12 +1,12 @@
 #!/usr/bin/env python3
 """Prints the tree of a run's calls as a profile of callgrind, which callgrind_annotate and KCachegrind read:
 
-    wasabi tree OUTPUT .. | callgrind_profile.py [MODULE]   weighed by calls
-    callgrind_profile.py MODULE --trace TRACE               weighed by instructions, by lines where MODULE has them
+    wasabi tree OUTPUT .. | callgrind_profile.py [MODULE]   weighted by calls
+    callgrind_profile.py MODULE --trace TRACE               weighted by instructions, by lines if MODULE has lines
 
-The cost of a call is what ran until it was over, callee and all that this one called. Where functions call themselves, an
-instruction counts once for each pair of caller and callee. With the group call in the trace calls stand at their lines, else at
-the first line of the caller.
+The cost of a call is what ran until the call was over: the callee and all that the callee called. If functions call themselves, an
+instruction counts once for each pair of caller and callee. If the trace has the group call, calls are at their lines; otherwise
+they are at the first line of the caller.
 """
 import collections
 
@@ -33,7 +33,7 @@ class Profile:
 
 
 def places_in(module):
-    """A function that tells the file and the line of a position, or of the first instruction where none is given."""
+    """A function that gives the file and the line of a position, or of the first instruction if no position is given."""
     bodies = {it.index: it.body for it in wasm_code.functions(module)} if module else {}
 
     def place(func, position):
@@ -43,7 +43,7 @@ def places_in(module):
 
 
 def unique(funcs, names):
-    """The name of each function; where two are called the same, with the number."""
+    """The name of each function, with the number of the function if two functions have the same name."""
     named = {func: name_of(func, names).replace("\n", " ") for func in funcs}
     times = collections.Counter(named.values())
     return {func: name if times[name] == 1 else "%s [%d]" % (name, func) for func, name in named.items()}

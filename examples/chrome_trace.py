@@ -1,11 +1,11 @@
 #!/usr/bin/env python3
-"""Prints the calls of a trace as Chrome's trace events, which chrome://tracing, Perfetto and speedscope show on a line of time:
+"""Prints the calls of a trace as Chrome's trace events, which chrome://tracing, Perfetto and speedscope show on a timeline:
 
     chrome_trace.py TRACE [MODULE]
 
-TRACE is what wasabi record wrote, with the groups begin and end; MODULE, the original or an output, has the names. An event counts
-as a microsecond, so the more groups are told, the nearer a width comes to the number of instructions. What is open when a call
-traps ends there; the group call is needed to see that another one begins then.
+TRACE is what wasabi record wrote, with the groups begin and end. MODULE, the original or an output, has the names. An event counts
+as a microsecond, so with more groups, a width comes nearer to the number of instructions. What is open when a call traps ends
+there. Only the group call shows that another call begins then.
 """
 import argparse
 import json

@@ -3,10 +3,10 @@
 
     wasabi report OUTPUT .. --reports blocks,branches | coverage_page.py MODULE INFORMATION SOURCE > PAGE
 
-What wasabi replay prints will do too. MODULE is the original, made by clang with -gdwarf-4 or -gdwarf-5, and INFORMATION that of
-its output, which has at least the groups begin, if, br, br_if and br_table. How often parts began and branches were taken tells how
-often each instruction ran, also behind a branch that leaves a part. A line shows the greatest number of its instructions. A call
-that traps, or is out of steps, counts as if it went on to the next branch.
+The text of wasabi replay works too. MODULE is the original, made by clang with -gdwarf-4 or -gdwarf-5. INFORMATION is that of its
+output, which has at least the groups begin, if, br, br_if and br_table. How often parts began and branches were taken determines
+how often each instruction ran, including instructions after a branch that leaves a part. A line shows the greatest count of its
+instructions. A call that traps, or runs out of steps, counts as if it went on to the next branch.
 """
 import collections
 import html
@@ -39,7 +39,7 @@ i { display: block; height: 8px; background: #3a8f3a }
 
 
 def runs(body, times):
-    """How often each instruction of a body ran, where times(position) says how often a part began, and times(position, choice)
+    """How often each instruction of a body ran; times(position) says how often a part began, and times(position, choice)
     how often a branch was taken so."""
     reached = times(-1)
     labels = [[BLOCK, 0]]  # of each part around: its opcode, and how often its end is reached by a branch
@@ -65,7 +65,7 @@ def runs(body, times):
 
 
 def check_module(told, known):
-    """Ends the script where the information is not of the module, whose bodies are known by their functions."""
+    """Ends the script if the information is not that of the module, whose bodies are known by their functions."""
     functions = told["functions"]
     opcodes = [None, *PARTS.values()]
     is_there = len(functions) == told["imports"] + len(known) and all(
@@ -76,12 +76,12 @@ def check_module(told, known):
 
 
 def check_report(report, known):
-    """Ends the script where a row of the report is of a place that the module does not have."""
+    """Ends the script if a row of the report has a place that the module does not have."""
     for word, func, at, what in re.findall(r"^(block|branch) (\d+):(-?\d+) (\w+)", report, re.M):
         body, at = known.get(int(func), []), int(at)
         wanted = (PARTS if word == "block" else BRANCHES).get(what)
         if not (body and at == -1 and what == "function" or 0 <= at < len(body) and body[at].opcode == wanted):
-            arguments.stop("the report is of another module: it tells of %s at %s:%d, where this one has none" % (what, func, at))
+            arguments.stop("the report is of another module: it has %s at %s:%d, but this module has none there" % (what, func, at))
 
 
 def counts_of_lines(known, source, report):
@@ -128,7 +128,7 @@ def main():
     path, told, source = arguments.words(__doc__, "MODULE", "INFORMATION", "SOURCE")
     module, told = arguments.read(path, "module"), information(told)
     if not module.startswith(b"\0asm"):
-        arguments.stop("%s, the module, is no WebAssembly" % path)
+        arguments.stop("%s, the module, is not WebAssembly" % path)
     lines, name = arguments.text(source, "source").splitlines(), os.path.basename(source)
     report = arguments.printed("wasabi report")
     if not {"blocks", "branches"} <= set(re.findall(r"^report (\w+) ", report, re.M)):

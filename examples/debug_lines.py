@@ -52,7 +52,7 @@ def listed_files(reader):
 
 
 def formed_files(reader, parts):
-    """The names of files in version 5, where a list says of what form each entry of the next list is. Folders come first."""
+    """The names of files in version 5, in which a list says what form each entry of the next list has. Folders come first."""
     entries = []
     for _ in range(2):
         forms = [(reader.number(), reader.number()) for _ in range(reader.fixed(1))]

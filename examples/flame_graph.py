@@ -3,9 +3,10 @@
 
     wasabi tree OUTPUT .. | flame_graph.py [NAMES] > PICTURE
 
-A box is a path of calls with the name of its last function, and stands on its path without that one. Its width is how often that
-function was entered on the path, and the same of all boxes above it: calls are counted, not time. NAMES is a file with lines as
-name 3 "product", which wasabi report prints with --names keep. A function without a name is shown by its number.
+A box is a path of calls with the name of its last function, and stands on the box of the path without that function. The width of
+a box is how often its function was entered on the path, plus the same numbers of all boxes above it. Calls are counted, not time.
+NAMES is a file with lines such as name 3 "product", which wasabi report prints with --names keep. A function without a name is
+shown by its number.
 """
 import collections
 import html
@@ -51,12 +52,12 @@ def boxes_of(rows):
 
 
 def printed(name):
-    """A name as it may stand in SVG, where control characters may not."""
+    """A name as it may be in SVG, which allows no control characters."""
     return html.escape(re.sub("[^\t -\ud7ff\ue000-\ufffd\U00010000-\U0010ffff]", "\ufffd", name))
 
 
 def shape(box, name, scale, top):
-    """A box with its name as far as there is room, and all that is known of it where the mouse points."""
+    """A box with its name as far as there is room, and with all that is known of the box, shown when the mouse points at it."""
     left, width = MARGIN + scale * box.left, scale * box.calls
     room = int((width - 6) / LETTER)
     label = name if len(name) <= room else name[:room - 2] + ".." if room > 3 else ""

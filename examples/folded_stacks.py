@@ -1,10 +1,10 @@
 #!/usr/bin/env python3
 """Prints the tree of a run's calls as folded stacks, which flamegraph.pl, inferno and speedscope read:
 
-    wasabi tree OUTPUT .. | folded_stacks.py [MODULE]       weighed by calls
-    folded_stacks.py MODULE --trace TRACE                   weighed by instructions
+    wasabi tree OUTPUT .. | folded_stacks.py [MODULE]       weighted by calls
+    folded_stacks.py MODULE --trace TRACE                   weighted by instructions
 
-A line is the names of a path, the outermost first, and the weight of its last function on this path. A function without a name is
+A line has the names of a path, the outermost first, and the weight of the last function on this path. A function without a name is
 shown by its number.
 """
 import collections
@@ -13,7 +13,7 @@ from call_paths import given_words, name_of, tree_of
 
 
 def folded(name):
-    """A name as it may stand in a stack, where a semicolon is between two names."""
+    """A name as it may be in a stack, in which a semicolon separates two names."""
     return name.replace(";", ":").replace("\n", " ")
 
 

@@ -3,10 +3,10 @@
 
     wasabi report OUTPUT .. --reports blocks,branches | lcov_tracefile.py MODULE INFORMATION SOURCE .. > TRACEFILE
 
-MODULE is the original, made with -gdwarf-4 or -gdwarf-5, and INFORMATION that of its output, which has at least the groups begin,
-if, br, br_if and br_table. A line has the greatest number of its instructions, as in coverage_page.py: where a compiler made several
-copies of a line, these are not added up. A branch has the number of its choice: of an if and a br_if 0 is not taken and 1 is taken,
-of a br_table it is the label.
+MODULE is the original, made with -gdwarf-4 or -gdwarf-5. INFORMATION is that of its output, which has at least the groups begin,
+if, br, br_if and br_table. A line has the greatest count of its instructions, as in coverage_page.py: if a compiler made several
+copies of a line, their counts are not added. A branch has the number of its choice: for an if and a br_if, 0 is not taken and 1 is
+taken; for a br_table, the number is the label.
 """
 import argparse
 import collections

@@ -24,7 +24,7 @@ function tell(run, state, over = false) {
   postMessage({blocks, calls: named, current: run.stack.at(-1), state: `${state}, ${events} events`, over});
 }
 
-// Waits until as many events a second came as are asked for, and tells what is so far where it is time.
+// Waits until no more events a second came than are asked for, and sends the counts so far when it is time.
 function pace(run) {
   events++;
   let now = performance.now();

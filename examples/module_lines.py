@@ -1,10 +1,10 @@
-"""Tells of each instruction of a module on which line of which source it stands, where clang made the module with -gdwarf-4 or
+"""Says which line of which source each instruction of a module comes from, if clang made the module with -gdwarf-4 or
 -gdwarf-5:
 
     for body in module_lines.bodies(module):
         for position, (opcode, numbers, file, line) in enumerate(body): ..
 
-It is no program: other scripts use it. The lines stand in the custom section .debug_line, which debug_lines.py reads.
+It is not a program: other scripts use it. The lines are in the custom section .debug_line, which debug_lines.py reads.
 """
 import bisect
 import collections

@@ -1,13 +1,13 @@
 #!/usr/bin/env python3
-"""Says what stands at the positions of a module: the byte offset, the function, the line of the source, and the instruction.
+"""Says what is at the positions of a module: the byte offset, the function, the line of the source, and the instruction.
 
-    positions.py MODULE [PLACE ..]            all instructions, or those at places as 2:17; 2:-1 is the entry of function 2
+    positions.py MODULE [PLACE ..]            all instructions, or those at places such as 2:17; 2:-1 is the entry of function 2
     positions.py MODULE --json                all of them as JSON
-    wasabi report .. | positions.py MODULE --report        the report, where each place is followed by what stands there
-    positions.py MODULE --trace TRACE         the events of a trace, a line each, followed so too
+    wasabi report .. | positions.py MODULE --report        the report, in which each place is followed by what is there
+    positions.py MODULE --trace TRACE         the events of a trace, a line for each, in which each place is followed in this way too
 
-MODULE is the original. A line is as 2:17 0xd3 ways queens.c:14 br_if 0, with a - for what is not known: names stand in the section
-of names, or are those of exports, and lines in version 4 or 5 of DWARF.
+MODULE is the original. A line has the form 2:17 0xd3 ways queens.c:14 br_if 0, with a - for what is not known. Names come from the
+section of names or from exports, and lines from version 4 or 5 of DWARF.
 """
 import argparse
 import json

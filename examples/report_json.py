@@ -1,8 +1,8 @@
 #!/usr/bin/env python3
 """Prints what wasabi report, replay or tree prints as JSON: wasabi report .. | report_json.py
 
-A call has its number, its export and its answer; a row of a report has its numbers by their names. Names of functions stand under
-"names" where the report has them.
+A call has its number, its export and its answer. A row of a report has its numbers by their names. The names of functions are under
+"names" if the report has them.
 """
 import argparse
 import json

@@ -25,7 +25,7 @@ const access = ({location: {func, position}, op, offset, address}) =>
   count("memory", [func, position], `memory ${func}:${position} ${op}`, offset + address);
 const called = (func, callee) => count("calls", [func, callee ?? -1], `call ${func} ${callee ?? "none"}`);
 
-// Where the table is not exported, the function that begins next is the one that was called through it.
+// If the table is not exported, the function that begins next is the one that was called through it.
 let waiting = null;
 function begun(callee) {
   if (waiting !== null) called(waiting, callee);

@@ -81,8 +81,8 @@ def events(data):
 
 
 def with_entries(data):
-    """The events, each with whether it is the begin of a function that the host calls. Where the trace has the group call, a begin
-    that no call stands before is one. Where it has not, the begin of a function is one if nothing is open."""
+    """The events, each with whether it is the begin of a function that the host calls. If the trace has the group call, a begin
+    without a call before it is one. If it has not, the begin of a function is one if nothing is open."""
     told = list(events(data))
     if not {"begin", "end"} <= {event.name for event in told if event.fields.get("kind") == "function"}:
         sys.exit("where functions begin or end is not told: the trace needs the groups begin and end")

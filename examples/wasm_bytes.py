@@ -52,7 +52,7 @@ def read(path, least=b"\0asm\1\0\0\0"):
 
 
 def placed_sections(module):
-    """The content of each section by its number, or by its name where it is custom, and where the content begins in the module."""
+    """The content of each section by its number, or by its name if the section is custom, and the place of the content in the module."""
     reader, found = Reader(module, 8), {}
     while reader.at < len(module):
         kind, length = reader.fixed(1), reader.number()

@@ -57,7 +57,7 @@ def text_of(instruction):
 
 
 def instruction_at(reader, base, place):
-    """The next instruction of the code, where place tells the file and the line of an offset in the code section."""
+    """The next instruction of the code; place gives the file and the line of an offset in the code section."""
     offset = reader.at
     opcode = reader.fixed(1)
     if opcode not in OPCODES:

@@ -14,7 +14,7 @@ export function filesAt(names) {
   return Promise.all(names.map(name => readFile(name).catch(missing(name))));
 }
 
-// The words behind the script's name, at least so many as it needs; the usage for --help, and where there are fewer.
+// The words after the script's name, which must be at least `least`. If there are fewer, or for --help, prints the usage and ends.
 export function wordsOf(usage, least, words = process.argv.slice(2)) {
   if (words.includes("--help") || words.includes("-h")) {
     process.stdout.write(`${usage}\n`);
@@ -24,7 +24,7 @@ export function wordsOf(usage, least, words = process.argv.slice(2)) {
   return words;
 }
 
-// A run of the output with these callbacks; where there is none, the reason.
+// A run of the output with these callbacks. If there is none, prints the reason and ends the script.
 export async function started(output, information, callbacks, imports) {
   const [bytes, text] = await filesAt([output, information]);
   return start(bytes, text.toString(), callbacks, imports).catch(error => stop(1, `${output} can't be run: ${error.message}`));

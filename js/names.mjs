@@ -32,10 +32,10 @@ function* namesIn(section) {
   }
 }
 
-// In the output a function that the original defines stands behind the hooks.
+// In the output, a function that the original defines comes after the hooks.
 export const originalIndex = (index, {imports, hooks}) => (index < imports ? index : index - hooks.length);
 
-// Where a function has several names, the first one of these stands: the module's own, an export's, an import's.
+// If a function has several names, the first one of these counts: the module's own, an export's, an import's.
 export function namesOf(module, exported, information) {
   const names = new Map();
   const name = (func, text) => { if (!names.has(func)) names.set(func, text); };

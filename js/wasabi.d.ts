@@ -57,7 +57,7 @@ export interface Events {
   memory_size: Event & {pages: number};
   memory_grow: Event & {pages: number; answer: number};
   call_pre: Event & {callee: number; args: Value[]};
-  /** The callee is null where the slot has no function of the original, and undefined where the table is not exported. */
+  /** The callee is null if the slot has no function of the original, and undefined if the table is neither exported nor imported. */
   call_indirect_pre: Event & {type: number; slot: number; callee: number | null | undefined; args: Value[]};
   call_post: Event & {results: Value[]};
   return: Event & {results: Value[]};
@@ -87,20 +87,20 @@ export class Run {
   constructor(module: WebAssembly.Module, information: Information, callbacks?: Callbacks, imports?: WebAssembly.Imports);
   readonly module: WebAssembly.Module;
   readonly information: Information;
-  /** All that the output imports: those given, zeros for functions that were not, and the hooks. */
+  /** All that the output imports: the imports that were given, functions that return zeros for the others, and the hooks. */
   readonly imports: WebAssembly.Imports;
   /** Undefined while the start function runs. */
   instance: WebAssembly.Instance | undefined;
-  /** The exports of the instance. Call these, so that the stack is right behind a trap. */
+  /** The exports of the instance. Call functions through these, so that the stack is right after a trap. */
   exports: Record<string, any>;
-  /** The functions that are open, the outermost first. The groups begin and end keep it. */
+  /** The functions that are open, the outermost first. Needs the groups begin and end. */
   stack: number[];
   /** The parts that are open, functions among them, the innermost last. */
   parts: (Part & {func: number})[];
-  /** The names of functions that have one, by the index in the original. */
+  /** The names of functions that have names, by their indices in the original. */
   names: Map<number, string>;
   nameOf(func: number): string;
-  /** Calls an export as it is written in JavaScript, as "f(1, 2)". */
+  /** Calls an export as it is written in JavaScript, such as "f(1, 2)". */
   call(text: string): any;
   attach(instance: WebAssembly.Instance): this;
 }

@@ -50,12 +50,12 @@ export class Run {
     return this;
   }
 
-  // What is printed of a function: its name, or else its number.
+  // What is printed for a function: its name, or its number if it has no name.
   nameOf(func) {
     return this.names.get(func) ?? `function ${func}`;
   }
 
-  // Calls an export as it is written in JavaScript, as "f(1, 2)". Numbers are made what the function takes.
+  // Calls an export as it is written in JavaScript, such as "f(1, 2)". Each number becomes the i32 or i64 that the function takes.
   call(text) {
     const [, name, list] = /^\s*([^(]*?)\s*\((.*)\)\s*$/s.exec(text) ?? [];
     const called = this.instance.exports[name];
@@ -131,7 +131,7 @@ export class Run {
     };
   }
 
-  // What the br_table at a position does by its index: the label, and the parts that are left, the innermost first.
+  // What the br_table at a position does, by its index: the label, and the parts that it leaves, the innermost first.
   #labelsAt(func, position) {
     const key = `${func}:${position}`;
     if (!this.#labels.has(key)) {
@@ -154,7 +154,7 @@ export class Run {
     for (const {kind, begin, end} of left) this.#tell("end", {location: {func, position: end}, kind, begin});
   }
 
-  // The function of the original in a slot of the table: null where there is none, undefined where the table is not known.
+  // The function of the original in a slot of the table: null if there is none, undefined if the table is not known.
   #callee(slot) {
     if (!this.#table) return undefined;
     const found = slot < this.#table.length ? this.#table.get(slot) : null;

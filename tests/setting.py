@@ -6,7 +6,7 @@ import resource
 import shutil
 import tempfile
 
-# Where another file system is mounted nearly everywhere.
+# The folder at which another file system is mounted nearly everywhere.
 ELSEWHERE = "/dev/shm"
 KEYS = set("links permissions limit left stderr stderr_contains".split())
 

@@ -1,8 +1,8 @@
 """Says on standard output why a command of wasabi was refused, a sentence a line: tools/why TOP STATUS START WORD..
 
-The script wasabi runs it behind a status other than 0, with the time when the command began and its words, and lets it print on
-standard error. It reads the files that the command names, where they are ordinary ones, and changes none. Where it finds no cause
-it prints nothing: that a command is refused, and with which status, is the program's alone.
+The script wasabi runs it after a status other than 0, with the time when the command began and its words, and lets it print on
+standard error. It reads the files that the command names, if they are ordinary ones, and changes none. If it finds no cause, it
+prints nothing: only the program decides that a command is refused, and with which status.
 """
 import os
 import sys

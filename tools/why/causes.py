@@ -45,7 +45,7 @@ def section(text):
     if number < len(SECTIONS):
         yield "the section %d has %s" % (number, SECTIONS[number])
     elif number == 257:
-        yield "there are not as many bodies as functions"
+        yield "the numbers of bodies and of functions differ"
 
 
 def malformed(program, line):
@@ -73,7 +73,7 @@ def refused(program, line):
     if found:
         module = Module(data)
         yield "%s: %s" % (module.place(found), found.what)
-        yield "wasabi takes integers alone; a compiler makes floats of float and double, and of functions that print or compute with them"
+        yield "wasabi accepts only integers; a compiler makes floats from float and double, and from functions that print or compute with them"
     elif data is not None:
         wide = 0 if line.mode in ("instrument", "taint") else 1
         yield "the limits of %s are %s" % (line.mode, ", ".join("%s %d" % (it, limits[wide]) for it, limits in LIMITS.items()))
@@ -89,14 +89,14 @@ def invalid(program, line):
     elif body:
         module = Module(data)
         at = module.bodies.get(int(body[1]))
-        yield "the body of %s%s is not typed as the standard asks" % (module.named(int(body[1])), "" if at is None else ", at byte %#x of the file," % at)
+        yield "the body of %s%s is not typed as the standard requires" % (module.named(int(body[1])), "" if at is None else ", at byte %#x of the file," % at)
         yield "wasm-validate of wabt says at which instruction"
 
 
 def taken(program, line):
     data = files.read(line.subject)
     if data is not None and any(it[0] == HOOKS for it in Module(data).imports):
-        yield "%s has hooks already: %s takes the module that it was made of" % (line.subject, line.mode)
+        yield "%s already has hooks: %s takes the module that it was made from" % (line.subject, line.mode)
     elif data is not None:
         most = line.value("--max-output") or str(LARGEST)
         yield "the output may have %s bytes%s; fewer groups of --hooks make it shorter" % (most, "" if int(most) >= LARGEST else ", which --max-output raises")
@@ -121,7 +121,7 @@ def information(program, line):
         if not hooks and value["hooks"]:
             yield "%s has no hooks: %s takes the output of instrument, and %s is of another" % (line.subject, line.mode, name)
         elif hooks != value["hooks"]:
-            yield "%s has %d hooks, and %s tells of %d: they were not written by one command" % (line.subject, len(hooks), name, len(value["hooks"]))
+            yield "%s has %d hooks, and %s lists %d: they were not written by one command" % (line.subject, len(hooks), name, len(value["hooks"]))
         else:
             yield "%s is not of the form that instrument writes, or of another module" % name
 
@@ -137,7 +137,7 @@ def no_trace(program, line):
         return
     kind = "a module" if data.startswith(b"\0asm") else files.kind_of(data)
     if data.startswith(b"WTR1"):
-        yield "%s begins as a trace, and goes on otherwise: it was cut off or changed" % line.subject
+        yield "%s begins like a trace, but was cut off or changed" % line.subject
     else:
         yield "%s is %s" % (line.subject, kind)
         yield "replay takes what record wrote"
@@ -161,7 +161,7 @@ def other(name, known):
     """Returns words on an import that may be meant by a name that no import has."""
     same = [it for it in known if it.split(".", 1)[-1] == name]
     if same:
-        return "; there is %s, since a name is MODULE.NAME" % same[0]
+        return "; there is %s, because a name is MODULE.NAME" % same[0]
     return command.nearest(name, known) if known else "; the module imports none"
 
 
@@ -172,7 +172,7 @@ def no_ends(program, line):
 
 
 def no_nest(program, line):
-    yield "the information tells of another output than %s: instrument writes both by one command" % line.subject
+    yield "the information belongs to another output than %s: instrument writes both in one command" % line.subject
 
 
 def unprinted(program, line):

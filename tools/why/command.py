@@ -61,7 +61,7 @@ def nearest(word, known, what=""):
 
 
 def misspelt(option, value, item, known):
-    """Returns what is wrong with how a list is written, where an item of it is not known: one sentence, or none."""
+    """Returns what is wrong with how a list is written, if an item of the list is not known: one sentence, or none."""
     if not value:
         return ["the list of %s is empty" % option]
     if not item:
@@ -77,7 +77,7 @@ def wrong_items(option, value, known, what):
         if item not in known:
             yield from misspelt(option, value, item, known) or ["there is no %s %s%s" % (what, item, nearest(item, known))]
         elif item in ("all", "none") and "," in value:
-            yield "%s stands alone in a list" % item
+            yield "%s must be alone in a list" % item
 
 
 def wrong_value(option, value, usage):
@@ -96,25 +96,25 @@ def wrong_options(usage, line):
     """Yields what is wrong with the options."""
     for word in line.short:
         if word in ("-h", "-V"):
-            yield "%s stands alone, or -h behind a mode" % word
+            yield "%s must be alone, or -h after a mode" % word
         elif "-" + word.partition("=")[0] in usage.options:
             yield "options begin with two hyphens: -%s" % word
         else:
             near = [it for it in usage.options if it.startswith("-" + word)]
-            yield "there are no short options, as %s; %s" % (
-                word, "there is " + " and ".join(near) if near else "a name that begins with a hyphen stands behind --")
+            yield "there are no short options such as %s; %s" % (
+                word, "there is " + " and ".join(near) if near else "write -- before a name that begins with a hyphen")
     seen = set()
     for option, value in line.options:
         if option in ("--build", "--version", "--help"):
-            yield "%s stands alone" % option
+            yield "%s must be alone" % option
         elif option not in usage.options:
             yield "there is no option %s%s" % (option, nearest(option, usage.options))
         elif option in seen:
-            yield "%s is there twice" % option
+            yield "%s is given twice" % option
         elif usage.options[option] is None and value is not None:
             yield "%s takes no value" % option
         elif usage.options[option] and value is None:
-            yield "%s lacks its value%s" % (option, "; one that begins with a hyphen is written %s=VALUE" % option)
+            yield "%s has no value%s" % (option, "; write a value that begins with a hyphen as %s=VALUE" % option)
         elif value is not None:
             yield from wrong_value(option, value, usage)
         seen.add(option)
@@ -144,4 +144,4 @@ def wrong_words(usage, line):
         yield "%s needs %s" % (line.mode, " and ".join(missing))
     out, info = line.value("--out"), line.value("--info")
     if line.mode == "instrument" and out is not None and out == info:
-        yield "--out and --info are one name, %s" % out
+        yield "--out and --info have the same name, %s" % out

@@ -23,7 +23,7 @@ def read(name):
 
 
 def text_of(data):
-    """Returns the text that the bytes are, or None where they are none."""
+    """Returns the text that the bytes are, or None if they are no text."""
     try:
         text = data.decode("utf-8-sig")
     except UnicodeDecodeError:
@@ -32,7 +32,7 @@ def text_of(data):
 
 
 def kind_of(data):
-    """Returns what bytes are that begin no module, in words, or None where they begin one."""
+    """Returns in words what bytes are that begin no module, or None if they begin one."""
     if not data:
         return "empty"
     for beginning, kind in BEGINNINGS:
@@ -43,16 +43,16 @@ def kind_of(data):
         if version == b"\1\0\0\0":
             return None
         if len(version) == 4 and version[2:] != b"\0\0":
-            return "a component and no module; wasm-tools component unbundle takes the modules out of it"
+            return "a component, not a module; wasm-tools component unbundle takes the modules out of it"
         return "a module of another version, or cut off in its first eight bytes"
     text = text_of(data)
     if text is None:
-        return "no WebAssembly: a module begins with the bytes 00 61 73 6D"
+        return "not WebAssembly: a module begins with the bytes 00 61 73 6D"
     if text.lstrip().startswith("(") or text.lstrip().startswith(";;"):
-        return "the text of a module: wat2wasm of wabt makes the module of it"
+        return "the text of a module: wat2wasm of wabt makes the module from it"
     if text.lstrip().startswith(("{", "[")):
         return "text, perhaps JSON: is it the information or the script?"
-    return "text, as a source is: a compiler makes a module of it"
+    return "text, perhaps a source: a compiler makes a module from it"
 
 
 def folder_of(name):
@@ -60,7 +60,7 @@ def folder_of(name):
 
 
 def no_folder(name):
-    return "%s is no folder" % name if os.path.exists(name) else "there is no folder %s" % name
+    return "%s is not a folder" % name if os.path.exists(name) else "there is no folder %s" % name
 
 
 def why_missing(name):
@@ -75,7 +75,7 @@ def why_missing(name):
     elif not os.access(folder, os.R_OK | os.X_OK):
         yield "you may not look into the folder %s" % folder
     elif name == "-":
-        yield "- is a name as others are; /dev/stdin is standard input"
+        yield "- is an ordinary name; /dev/stdin is standard input"
     else:
         others = [it for it in os.listdir(folder) if os.path.isfile(os.path.join(folder, it))]
         near = difflib.get_close_matches(last, others, 3, 0.6)
@@ -108,7 +108,7 @@ def why_unwritten(name):
     elif os.path.exists(real) and not os.access(real, os.W_OK):
         yield "%s is protected: you may not write it" % name
     elif os.path.exists(real) and not stat.S_ISREG(os.stat(real).st_mode):
-        yield "%s is no ordinary file, and takes no more bytes" % name
+        yield "%s is not an ordinary file, and takes no more bytes" % name
     elif not os.access(folder, os.W_OK | os.X_OK):
         yield "no file can be made in %s%s" % (
             folder_of(name), ", and a new one takes the place of the one that is there when it is whole" if os.path.exists(real) else "")
@@ -143,7 +143,7 @@ def wrong_writes(line, start):
     out, info = line.value("--out"), line.value("--info") if line.mode == "instrument" else None
     if info is not None and is_newer(out, start):
         yield from why_unwritten(info)
-        yield "%s was written, and stands without its information" % out
+        yield "%s was written, but its information was not" % out
     else:
         yield from why_unwritten(out)
 

@@ -209,7 +209,7 @@ class Module:
             self.segments.append(("memory", offset, len(self.take(self.number()))))
 
     def expression(self):
-        """Reads a constant expression, and returns its number where it is one constant."""
+        """Reads a constant expression, and returns its number if it is one constant."""
         constant = None
         if self.data[self.at] in (0x41, 0x42):
             self.at += 1
@@ -235,7 +235,7 @@ class Module:
                 depth += self.instruction()
                 self.position += 1
             if self.at != self.end:
-                self.stop("a body has bytes behind its end")
+                self.stop("a body has bytes after its end")
             self.end = whole
 
     def instructions(self, func):
@@ -297,7 +297,7 @@ class Module:
         return self.types[kinds[func]]
 
     def named(self, func):
-        """Returns a function in words: its number, and its name where it has one."""
+        """Returns a function in words: its number, and its name if it has one."""
         name = self.names.get(func) or next((it for it, index in self.exports.items() if index == func), None)
         return "function %d%s" % (func, " %s" % name if name else "")
 

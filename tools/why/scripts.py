@@ -106,7 +106,7 @@ def wrong_call(what, call):
 
 def wrong_write(what, write):
     if not (isinstance(write, list) and len(write) == 2 and isinstance(write[1], str)):
-        yield '%s is %s; it must be as [1024, "00FF"]' % (what, shown(write))
+        yield '%s is %s; it must be like [1024, "00FF"]' % (what, shown(write))
         return
     yield from wrong_number(what + "[0]", write[0], 0, (1 << 32) - 1)
     if len(write[1]) % 2 or set(write[1]) - set("0123456789abcdefABCDEF"):
@@ -177,7 +177,7 @@ def wrong_room(module, script):
     for what, offset, length in module.segments:
         room, unit = (pages * 65536, "bytes") if what == "memory" else (slots, "slots")
         if offset is not None and (offset & 0xFFFFFFFF) + length > room:
-            yield "a segment of %d %s at %d ends behind its %s, which has %d %s" % (length, unit, offset & 0xFFFFFFFF, what, room, unit)
+            yield "a segment of %d %s at %d ends beyond its %s, which has %d %s" % (length, unit, offset & 0xFFFFFFFF, what, room, unit)
             return
 
 

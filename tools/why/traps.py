@@ -64,7 +64,7 @@ class Trace:
         return None
 
     def last(self):
-        """Returns the last event: its tag, function, position and fields; None where there is none, or a stray."""
+        """Returns the last event: its tag, function, position and fields; None if there is none, or a stray."""
         event = None
         while self.data[self.at]:
             tag = self.data[self.at]
@@ -97,7 +97,7 @@ class Runs:
 
 
 def first_trap(text):
-    """Returns the number of the first call that trapped, -1 for the start, and the cause; None where none did."""
+    """Returns the number of the first call that trapped, -1 for the start, and the cause; None if none did."""
     found = re.search(r"^(?:start|call (\d+) .*): trap ([a-z ]+)$", text, re.M)
     return found and (int(found[1] or -1), found[2])
 
@@ -131,9 +131,9 @@ def trap_of(runs, data, script):
 
 
 def trapped(program, line):
-    """Yields where a run trapped first, if that is found in a few seconds."""
+    """Yields the place at which a run trapped first, if that is found in a few seconds."""
     if line.mode in ("report", "record", "tree"):
-        yield "run looks for the instruction that trapped, if it is given the module that %s was made of" % line.subject
+        yield "run looks for the instruction that trapped, if it is given the module that %s was made from" % line.subject
     data, text = files.read(line.subject), files.read(line.value("--script"))
     if line.mode not in ("run", "taint") or data is None or text is None or len(data) > LARGEST_MODULE:
         return
