@@ -1,4 +1,4 @@
--- What events count as under each kind, and the book of a list of events.
+-- What events are counted under in each kind of book, and the book of a list of events.
 use Rattle.std.specs.Prelude.{◌≡◌, ℕ, zero, suc, ◌+◌, ◌≤◌, ◌⊎◌, min, max, ℤ, negsuc, List, [], ◌∷◌, length, map, filter, filter_map, fold, Bool, false, Option, Some, None, All}
 use Rattle.std.specs.Ordering.{nat_cmp, int_cmp, is_eq, ordering_then, match_ordering}
 use Rattle.std.specs.declared.cmp.Ordering.{Ordering}
@@ -23,12 +23,12 @@ pub record Key : Type 0 where
 abbrev pub key_at : Loc → (tag other : ℕ) → Key
 key_at loc tag other = record { func = loc.func; instr = loc.instr; tag = tag; other = other }
 
--- 1 where the condition is not zero
+-- 1 if the condition is not zero, and 0 if it is
 abbrev pub taken_number : ℕ → ℕ
 taken_number zero = 0
 taken_number (suc n) = 1
 
--- one more than the callee, or 0 for none
+-- one more than the called function, or 0 if there is none
 abbrev pub callee_number : Option ℕ → ℕ
 callee_number None = 0
 callee_number (Some f) = f + 1
@@ -57,14 +57,14 @@ memory_key (Load loc op offset address value) = Some (key_at loc (load_opcode op
 memory_key (Store loc op offset address value) = Some (key_at loc (store_opcode op) 0)
 memory_key _ = None
 
--- none where the event is not counted
+-- the key of an event in a book of this kind; `None` if the event is not counted
 abbrev pub counted_key : Kind → Event → Option Key
 counted_key Blocks e = block_key e
 counted_key Branches e = branch_key e
 counted_key Calls e = call_graph_key e
 counted_key Memory e = memory_key e
 
--- the effective address of a load or store
+-- the effective address of a load or a store; 0 for other events
 abbrev pub address_of : Event → ℕ
 address_of (Load loc op offset address value) = address + offset
 address_of (Store loc op offset address value) = address + offset
@@ -99,7 +99,7 @@ least_of (n ∷ ns) = fold min n ns
 abbrev pub greatest_of : List ℕ → ℕ
 greatest_of ns = fold max 0 ns
 
--- the addresses of a row's events, for the kind that has them
+-- the effective addresses of events, if the kind has them
 abbrev pub addresses : Kind → List Event → List ℕ
 addresses Memory es = map address_of es
 addresses Blocks es = []
@@ -124,7 +124,7 @@ row_in kind es k = let found = events_with kind k es in row_of k (addresses kind
 abbrev pub book : Kind → List Event → List Row
 book kind es = map (row_in kind es) (sorted_keys (filter_map (counted_key kind) es))
 
--- The same, as an analysis makes it: one event more.
+-- The book as an analysis makes it, event by event.
 abbrev pub key_of_row : Row → Key
 key_of_row r = record { func = r.func; instr = r.instr; tag = r.tag; other = r.other }
 
@@ -156,7 +156,7 @@ rows_after kind rs e = with_counted kind (address_of e) rs (counted_key kind e)
 abbrev pub TakesMakeBook : Type 0
 TakesMakeBook = (kind : Kind) (es : List Event) → fold (rows_after kind) [] es ≡ book kind es
 
--- the tags that rows of a kind have: a kind of block, which instruction branches, none, the opcode of a load or store
+-- the tags that rows of a kind have: the kind of a block, which instruction branches, always 0, the opcode of a load or a store
 abbrev pub IsTagOf : Kind → (tag : ℕ) → Type 0
 IsTagOf Blocks tag = tag ≤ 4
 IsTagOf Branches tag = tag ≤ 3
@@ -166,6 +166,6 @@ IsTagOf Memory tag = ((op : LoadOp) × (tag ≡ load_opcode op)) ⊎ ((op : Stor
 abbrev pub HaveTags : Kind → List Row → Type 0
 HaveTags kind rows = All (λ (r : Row). IsTagOf kind r.tag) rows
 
--- the rows of a book have them
+-- the rows of a book have the tags of its kind
 abbrev pub BooksHaveTags : Type 0
 BooksHaveTags = (kind : Kind) (es : List Event) → HaveTags kind (book kind es)

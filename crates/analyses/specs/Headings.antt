@@ -1,4 +1,4 @@
--- Entries of an ordered map as rows of a book: what a row is about, and what it tells.
+-- The entries of an ordered map as the rows of a book: what a row counts, and its totals.
 use Rattle.std.specs.Prelude.{ℕ, ◌+◌, ◌≤◌, min, max, List, map, All}
 use Rattle.std.specs.Map.{values_of}
 use Rattle.analyses.specs.declared.Kind.{Kind}
@@ -25,14 +25,14 @@ row_of_entry e = record {
 abbrev pub book_of_entries : List (Heading × Totals) → List Row
 book_of_entries es = map row_of_entry es
 
--- of the first event under a heading
+-- the totals of the first event under a heading
 abbrev pub first_tally : Kind → (address : ℕ) → Totals
 first_tally Memory a = record { count = 1; least = a; greatest = a }
 first_tally Blocks a = record { count = 1; least = 0; greatest = 0 }
 first_tally Branches a = record { count = 1; least = 0; greatest = 0 }
 first_tally Calls a = record { count = 1; least = 0; greatest = 0 }
 
--- with an event more
+-- the totals with one more event
 abbrev pub counted_tally : Kind → (address : ℕ) → Totals → Totals
 counted_tally Memory a t = record { count = t.count + 1; least = min t.least a; greatest = max t.greatest a }
 counted_tally Blocks a t = record t { count = t.count + 1 }

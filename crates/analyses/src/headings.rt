@@ -1,4 +1,4 @@
-// What events are counted under.
+// The headings under which events are counted.
 
 ghost use Rattle.std.specs.Prelude.{◌≡◌, ◌^◌, ◌<◌, option_map};
 ghost use Rattle.analyses.specs.Book.{taken_number, callee_number, block_key, branch_key, call_graph_key, memory_key, counted_key, address_of, key_at, call_key};
@@ -9,7 +9,7 @@ use crate::ledger::Heading;
 use hook_select::Event;
 use module_ast::module::Loc;
 
-// None where an event is not counted.
+/// The heading under which a book of this kind counts an event; `None` if it does not count the event.
 pub fn heading_of(kind: Kind, event: &Event) -> Option<Heading>
     ensures { option_map key_of_heading result ≡ counted_key kind event.now }
 {
@@ -21,7 +21,7 @@ pub fn heading_of(kind: Kind, event: &Event) -> Option<Heading>
     }
 }
 
-// The effective address of a load or store, which is below 2^33, and 0 of other events. (Standard, 4.4.4)
+/// The effective address of a load or a store, which is below 2^33; 0 for any other event. (Standard, 4.4.4)
 pub fn address_of(event: &Event) -> u64
     ensures { result ≡ address_of event.now }
 {
@@ -52,7 +52,7 @@ fn heading_at(loc: Loc, tag: u8, other: u64) -> Heading
     }
 }
 
-// A begin, by the kind of block.
+// The heading of a begin: its location, and the kind of block as the tag.
 fn block_heading(event: &Event) -> Option<Heading>
     ensures { option_map key_of_heading result ≡ block_key event.now }
 {
@@ -62,7 +62,7 @@ fn block_heading(event: &Event) -> Option<Heading>
     }
 }
 
-// A branch, by its instruction and its choice.
+// The heading of a branch: its location, its instruction as the tag, and its choice.
 fn branch_heading(event: &Event) -> Option<Heading>
     ensures { option_map key_of_heading result ≡ branch_key event.now }
 {
@@ -75,7 +75,7 @@ fn branch_heading(event: &Event) -> Option<Heading>
     }
 }
 
-// A call, by the function that calls, wherever it stands there, and the callee.
+// The heading of a call: the function that calls, whatever the position of the call, and the function that is called.
 fn call_heading(event: &Event) -> Option<Heading>
     ensures { option_map key_of_heading result ≡ call_graph_key event.now }
 {
@@ -86,7 +86,7 @@ fn call_heading(event: &Event) -> Option<Heading>
     }
 }
 
-// A load or store, by its opcode.
+// The heading of a load or a store: its location, and its opcode as the tag.
 fn memory_heading(event: &Event) -> Option<Heading>
     ensures { option_map key_of_heading result ≡ memory_key event.now }
 {
@@ -97,7 +97,7 @@ fn memory_heading(event: &Event) -> Option<Heading>
     }
 }
 
-// The heading of a call; no callee where the table has none.
+// The heading of a call. There is no callee if the table has no function for the call.
 fn heading_of_call(loc: Loc, callee: Option<u32>) -> Heading
     ensures { key_of_heading result ≡ call_key loc callee }
 {
@@ -109,7 +109,7 @@ fn heading_of_call(loc: Loc, callee: Option<u32>) -> Heading
     }
 }
 
-// 1 where the condition is not zero.
+// 1 if the condition is not zero, and 0 if it is.
 fn taken_number(cond: u32) -> u64
     ensures { result ≡ taken_number cond }
 {

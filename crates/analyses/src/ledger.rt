@@ -13,7 +13,7 @@ use std::collections::BTreeMap;
 use std::marker::Model;
 use wasm_num::NoMemory;
 
-// What a row is about.
+/// What a row counts: the function, the position, and a tag and another number that say what it is there.
 #[derive(Clone, Copy, PartialEq, Eq, PartialOrd, Ord)]
 pub struct Heading {
     pub func: u32,
@@ -22,7 +22,7 @@ pub struct Heading {
     pub other: u64,
 }
 
-// How often it came, and for memory the least and the greatest address.
+/// How many events a row counts, and for memory the least and the greatest address. Other kinds have 0 for the addresses.
 #[derive(Clone, Copy)]
 pub struct Totals {
     pub count: u64,
@@ -31,7 +31,7 @@ pub struct Totals {
 }
 
 impl Totals {
-    // Of the first event under a heading.
+    // The totals of the first event under a heading.
     fn first(kind: Kind, address: u64) -> Totals
         ensures { result ≡ first_tally kind address }
     {
@@ -43,7 +43,7 @@ impl Totals {
         }
     }
 
-    // With an event more.
+    // The totals with one more event.
     fn counted(&self, kind: Kind, address: u64) -> Totals
         requires { self.now.count + 1 < 2 ^ 64 }
         ensures { result ≡ counted_tally kind address self.now }
@@ -60,7 +60,7 @@ impl Totals {
     }
 }
 
-// The row of an entry.
+// The row of a heading and its totals.
 fn row(heading: &Heading, tally: &Totals) -> Row
     ensures { result ≡ row_of_entry (heading.now, tally.now) }
 {
@@ -75,7 +75,7 @@ fn row(heading: &Heading, tally: &Totals) -> Row
     }
 }
 
-// Counts an event under a heading. `Err` comes where there is no memory for a new row, and changes nothing.
+// Counts an event under a heading. `NoMemory` if there is no memory for a new row; the rows are then as they were.
 fn count_under(
     rows: &mut BTreeMap<Heading, Totals>,
     kind: Kind,
@@ -96,7 +96,7 @@ fn count_under(
     Ok(())
 }
 
-// The book of one kind of events, with a row for each heading.
+/// The book of one kind of events, with a row for each heading. Contracts see the state of an analysis.
 #[derive(Drop)]
 pub struct Ledger {
     alloc: Global,
@@ -117,7 +117,7 @@ impl Model for Ledger {
 }
 
 impl Ledger {
-    // That of a kind, with no row.
+    /// A book of this kind without rows.
     pub fn new(alloc: Global, kind: Kind) -> Self
         ensures { result ≡ fresh_tool kind }
     {
@@ -129,21 +129,23 @@ impl Ledger {
         }
     }
 
-    // Its kind.
+    /// The kind of the book.
     pub fn kind(&self) -> Kind
         ensures { result ≡ self.now.counts }
     {
         self.kind
     }
 
-    // How many events it has taken.
+    /// How many events the book has taken.
     pub fn taken(&self) -> u64
         ensures { result ≡ self.now.event_count }
     {
         self.taken
     }
 
-    // Takes an event more; where memory ends, all is as before.
+    /// Takes one more event.
+    ///
+    /// `NoMemory` if memory runs out; the book is then as it was.
     pub fn take(&mut self, event: &Event) -> Result<(), NoMemory>
         requires { self.old.event_count + 1 < 2 ^ 64 }
         ensures taken { OnOk result (self.new ≡ state_after self.old event.now) }
@@ -156,7 +158,9 @@ impl Ledger {
         Ok(())
     }
 
-    // Its rows in order.
+    /// The rows, in order.
+    ///
+    /// `NoMemory` if memory runs out.
     pub fn rows(&self) -> Result<Vec<Row>, NoMemory>
         ensures { IfOk result (λ rows. rows.items ≡ self.now.book) }
     {

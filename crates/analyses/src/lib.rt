@@ -1,4 +1,4 @@
-// Books of events: how often blocks, branches, calls and accesses of memory came.
+// Books of events: how often blocks, branches, calls, and loads and stores occurred.
 #![tactic(auto)]
 
 mod analysis;
@@ -13,7 +13,7 @@ pub use crate::tools::{Blocks, Branches, CallGraph, MemoryUse};
 /// What an analysis counts.
 #[derive(Clone, Copy, PartialEq, Eq)]
 pub enum Kind {
-    /// Begins of blocks.
+    /// Begins of blocks; the body of a function is one too.
     Blocks,
     /// `if`, `br`, `br_if` and `br_table`, by their choice.
     Branches,
@@ -23,15 +23,21 @@ pub enum Kind {
     Memory,
 }
 
-/// A row of a book: the function and the position of what it counts, a tag and a number beside it that say which, how often it
-/// came, and of memory the least and the greatest effective address, which are 0 else.
+/// A row of a book: what it counts, and how often that occurred.
 #[derive(Clone, Copy, PartialEq, Eq)]
 pub struct Row {
+    /// The index of the function, with imports counted.
     pub func: u32,
+    /// The position in the function; -1 at its entry, and for calls.
     pub instr: i32,
+    /// What is counted at the position. `Blocks`, `Branches`, `CallGraph` and `MemoryUse` say which tags they have.
     pub tag: u8,
+    /// What a branch chose, or which function a call called; 0 for the other kinds.
     pub other: u64,
+    /// How many events the row counts.
     pub count: u64,
+    /// For memory, the least effective address of these events, below 2^33; 0 for the other kinds.
     pub least: u64,
+    /// For memory, the greatest effective address of these events, below 2^33; 0 for the other kinds.
     pub greatest: u64,
 }

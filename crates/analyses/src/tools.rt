@@ -1,4 +1,4 @@
-// The four analyses: one type, with a kind for each. Each value of a type is of that type's kind.
+// The four analyses: one type with a kind for each. Each value of a type has the kind of the type.
 
 ghost use Rattle.std.specs.Prelude.{◌≡◌};
 ghost use Rattle.analyses.specs.Tools.{fresh_tool};
@@ -61,25 +61,26 @@ impl OfKind for OfMemory {
     const KIND: Kind = Kind::Memory;
 }
 
-/// An analysis of one kind.
+/// An analysis of one kind. Contracts see its state.
 #[derive(Drop)]
 pub struct Tool<K: OfKind> {
     ledger: Ledger,
     kind: PhantomData<K>,
 }
 
-/// How often each block began. A row has its location, and as its tag its kind, 0 to 4.
+/// How often each block began. A row has the location of the begin, and the kind of block, 0 to 4, as its tag.
 pub type Blocks = Tool<OfBlocks>;
 
-/// How often each `if`, `br`, `br_if` and `br_table`, whose tags are 0 to 3, chose each way. Beside the tag stands 1 if the
-/// condition was not zero and 0 else, or the label that was chosen.
+/// How often each `if`, `br`, `br_if` and `br_table` chose each way. Their tags are 0 to 3. The other number of a row is 1 if
+/// the condition of an `if` or a `br_if` was not zero and 0 if it was, and the label that was chosen by a `br` or a `br_table`.
 pub type Branches = Tool<OfBranches>;
 
-/// How often each function called each. The position is -1, and beside it stands one more than the callee, or 0 if the call
-/// found none.
+/// How often each function called each function. The position of a row is -1, and its tag is 0. The other number is the index
+/// of the called function plus 1, or 0 if the call found no function.
 pub type CallGraph = Tool<OfCalls>;
 
-/// How often each load and store came, whose tag is its opcode, with the least and the greatest effective address.
+/// How often each load and each store occurred, with the least and the greatest effective address. The tag of a row is the
+/// opcode.
 pub type MemoryUse = Tool<OfMemory>;
 
 impl<K: OfKind> Model for Tool<K> {
@@ -94,7 +95,7 @@ impl<K: OfKind> Model for Tool<K> {
 }
 
 impl<K: OfKind> Tool<K> {
-    /// One that has taken no event. It keeps the allocator for its rows.
+    /// An analysis that has taken no event. It keeps the allocator for its rows.
     pub fn new(alloc: Global) -> Self
         ensures { result ≡ fresh_tool K.KIND }
     {

@@ -1,4 +1,4 @@
--- The words of a command: which are taken, and what they ask for.
+-- The words of a command: which are accepted, and what they ask for.
 use Rattle.std.specs.Prelude.{◌≡◌, ◌&&◌, ℕ, Bool, true, List, [], ◌∷◌, map, codes, cond, find, Option, Some, None, is_some, option_map, unwrap_or, String, string_bytes}
 use Rattle.std.specs.List.{list_all}
 use Rattle.std.specs.Str.{bytes_eq}
@@ -60,7 +60,7 @@ abbrev pub parser_of : Kind → Option ValueParser
 parser_of (number_to most default) = Some (parser.Unsigned 1 most)
 parser_of _ = None
 
--- a word that stands by itself, and has to be there
+-- a word that belongs to no option and must be given
 abbrev pub wanted : (id : Text) → Rule
 wanted id = record (new_rule id) { required = true }
 
@@ -96,17 +96,17 @@ abbrev pub number_in : (most : ℕ) → Option Text → Option ℕ
 number_in most None = None
 number_in most (Some text) = cond (is_unsigned_in 1 most text) (Some (digits_value 10 (without_leading_plus text))) None
 
--- an option of this kind may have this text, or none
+-- whether an option of this kind may have this text, or may have no text
 abbrev pub may_have : Kind → Option Text → Bool
 may_have any_text value = true
 may_have (text_or default) value = is_some value
 may_have (number_to most default) value = is_some (number_in most value)
 
--- the texts under the names of arguments are what these may have
+-- whether there are a mode and a subject, and each option has what it may have
 abbrev pub is_complete : (value : Text → Option Text) → Bool
 is_complete value = is_some (value (codes "mode")) && (is_some (value (codes "subject")) && list_all (λ o. may_have o.1 (value o.0)) options)
 
--- the line of such texts
+-- the line of the texts under the names of arguments, if these are complete
 abbrev pub line_at : (value : Text → Option Text) → Line
 line_at value = record {
   mode = unwrap_or (value (codes "mode")) [];
@@ -126,24 +126,24 @@ line_at value = record {
 abbrev pub line_by : (value : Text → Option Text) → Option Line
 line_by value = cond (is_complete value) (Some (line_at value)) None
 
--- where there is no fault
+-- the line if there is no fault
 abbrev pub unless : Kinds → Option Line → Option Line
 unless [] line = line
 unless (fault ∷ faults) line = None
 
--- the line of words: none where the parser refuses them
+-- the line of words; none if the parser refuses them
 abbrev pub line_of_words : List Text → Option Line
 line_of_words words = unless (fault_of wasabi words) (line_by (λ id. first_of id (matches_of wasabi words)))
 
--- the words ask for this
+-- the words ask for this line
 abbrev pub IsLine : List Text → Line → Type 0
 IsLine words line = line_of_words words ≡ Some line
 
--- they ask for nothing
+-- the words ask for nothing
 abbrev pub AsksForNothing : List Text → Type 0
 AsksForNothing words = line_of_words words ≡ None
 
--- the line that was read, as its texts
+-- the line that the code has read, as texts and numbers
 abbrev pub line_of : ReadLine → Line
 line_of line = record {
   mode = line.mode.now;

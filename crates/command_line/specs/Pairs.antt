@@ -28,16 +28,16 @@ abbrev pub IsOption : Option (Text × Kind) → (value : Text) → Type 0
 IsOption None value = ⊥
 IsOption (Some o) value = Takes o.1 value
 
--- a value for the option of this name, or for a word that stands by itself
+-- a value for the option of this name, or for a word that belongs to no option
 pub record Use : Type 0 where
   pub id : Text
   pub value : Text
 
--- the option's name is among these
+-- whether the option is among these
 abbrev pub has_option : List Use → (id : Text) → Bool
 has_option uses id = list_any (λ u. bytes_eq u.id id) uses
 
--- each option comes with a value that it takes, and none that was there before
+-- each option has a value that it takes, and was not there before
 abbrev pub AreUses : (before uses : List Use) → Type 0
 AreUses before [] = ⊤
 AreUses before (u ∷ us) = IsOption (option_named u.id) u.value × IsValue u.value × (has_option before u.id ≡ false) × AreUses (before ++ u ∷ []) us
@@ -46,7 +46,7 @@ abbrev pub words_with : List Use → List Text
 words_with [] = []
 words_with (u ∷ us) = (45 ∷ 45 ∷ u.id) ∷ u.value ∷ words_with us
 
--- the value of an option
+-- the value of an option, if it is among these
 abbrev pub value_given : List Use → (id : Text) → Option Text
 value_given uses id = option_map (λ u. u.value) (find (λ u. bytes_eq u.id id) uses)
 
@@ -54,10 +54,10 @@ value_given uses id = option_map (λ u. u.value) (find (λ u. bytes_eq u.id id) 
 abbrev pub all_of : (mode subject : Text) → List Use → List Use
 all_of mode subject uses = record { id = codes "mode"; value = mode } ∷ record { id = codes "subject"; value = subject } ∷ uses
 
--- an option that is not given has its default
+-- the default of an option, as a use of it
 abbrev pub default_uses : Text × Kind → List Use
 default_uses o = map (λ text. record { id = o.0; value = text }) (defaults_of o.1)
 
--- the line has the values that are given, and the defaults of options that are not
+-- the line has the values that are given, and the defaults of the options that are not given
 abbrev pub Says : (mode subject : Text) → List Use → Line → Type 0
 Says mode subject uses line = line_by (value_given (all_of mode subject uses ++ flat_map default_uses options)) ≡ Some line

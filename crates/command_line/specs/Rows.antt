@@ -1,4 +1,4 @@
--- The rows of the code's table of options, as the definitions have them.
+-- The rows of the table of options in the code, in the form that the definitions use.
 use Rattle.std.specs.Borrow.{Bor}
 use Rattle.clap.specs.Words.{Text}
 use Rattle.command_line.specs.declared.command.Takes.{Takes}

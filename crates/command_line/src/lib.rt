@@ -1,4 +1,4 @@
-// The words of a command.
+// Reads the words of a command.
 #![tactic(auto)]
 
 mod command;

@@ -1,4 +1,4 @@
-// The words of a command.
+// Reads the words of a command.
 
 ghost use Rattle.std.specs.Prelude.{◌≡◌, ◌≢◌, ◌≤◌, IfOk, IsErrOf, option_map};
 ghost use Rattle.clap.specs.Words.{first_of, found_of, kind_of, rows_of};
@@ -14,38 +14,38 @@ use std::alloc::{AllocError, Global};
 /// What the words of a command ask for.
 #[derive(Clone, Copy)]
 pub struct Line<'w> {
-    /// The first word behind the program's name that is no option.
+    /// The first word after the program's name that belongs to no option.
     pub mode: &'w str,
     /// The second such word.
     pub subject: &'w str,
-    /// `--out`, the name that the output gets.
+    /// `--out`: the name that the output gets.
     pub out: Option<&'w str>,
-    /// `--info`, the name of the information.
+    /// `--info`: the name of the information.
     pub info: Option<&'w str>,
-    /// `--script`, the name of the script.
+    /// `--script`: the name of the script.
     pub script: Option<&'w str>,
-    /// `--sources`, a list of names of imports, separated by commas.
+    /// `--sources`: a list of names of imports, separated by commas.
     pub sources: Option<&'w str>,
-    /// `--sinks`, a list of names of imports, separated by commas.
+    /// `--sinks`: a list of names of imports, separated by commas.
     pub sinks: Option<&'w str>,
-    /// `--hooks`, a list of groups, `all` if it is not given.
+    /// `--hooks`: a list of groups; `all` if the option is not given.
     pub hooks: &'w str,
-    /// `--reports`, a list of kinds of reports, `all` if it is not given.
+    /// `--reports`: a list of kinds of reports; `all` if the option is not given.
     pub reports: &'w str,
-    /// `--names`, what becomes of names, `drop` if it is not given.
+    /// `--names`: what becomes of names; `drop` if the option is not given.
     pub names: &'w str,
-    /// `--jobs`, how many threads may work, 1 to 64, 1 if it is not given.
+    /// `--jobs`: how many threads may work, 1 to 64; 1 if the option is not given.
     pub jobs: u32,
-    /// `--max-output`, how many bytes the output may have, 1 to 268,435,456, which it is if it is not given.
+    /// `--max-output`: how many bytes the output may have, 1 to 268,435,456; 268,435,456 if the option is not given.
     pub max_output: u64,
 }
 
-/// Why no line could be read.
+/// Why no line is read from words.
 #[derive(Clone, Copy, Debug, PartialEq, Eq)]
 pub enum LineFault {
-    /// The words are not taken; a request for help is not either.
+    /// The words are not accepted. A request for help is refused too.
     Refused,
-    /// There was no memory.
+    /// Memory ran out.
     NoMemory,
 }
 
@@ -59,9 +59,9 @@ impl From<AllocError> for LineFault {
     }
 }
 
-/// Reads the words of a command, of which the first is the program's name.
+/// Reads the words of a command. The first word is the name of the program.
 ///
-/// `Refused` comes exactly if the words ask for nothing, and `NoMemory` if there is no memory.
+/// `Refused` exactly if the words ask for nothing; `NoMemory` if memory runs out.
 pub fn read_line(alloc: Global, words: &[String]) -> Result<Line<'_>, LineFault>
     ensures line { IfOk result (λ line. IsLine (texts words.now) (line_of line)) }
     ensures jobs { IfOk result (λ line. (1 ≤ line.jobs) × (line.jobs ≤ 64)) }
@@ -75,7 +75,7 @@ pub fn read_line(alloc: Global, words: &[String]) -> Result<Line<'_>, LineFault>
     line_in(&found).ok_or(LineFault::Refused)
 }
 
-// Whether memory ran out, or the words were refused.
+// What an error of the parser says: that memory ran out, or that the words are refused.
 fn fault_of(error: &Error) -> LineFault
     ensures { result ≡ LineFault.Refused → kind_of error.now ≢ ErrorKind.OutOfMemory }
 {
@@ -86,7 +86,7 @@ fn fault_of(error: &Error) -> LineFault
     }
 }
 
-// The line in what the parser found.
+// The line of what the parser found; `None` if a text is missing or a number is not in its range.
 fn line_in<'w>(found: &ArgMatches<'w>) -> Option<Line<'w>>
     ensures { option_map line_of result ≡ line_by (λ id. first_of id (rows_of (found_of found.now))) }
 {
@@ -106,14 +106,14 @@ fn line_in<'w>(found: &ArgMatches<'w>) -> Option<Line<'w>>
     })
 }
 
-// The text under an id.
+// The text that the parser found under an id, if there is one.
 fn text_in<'w>(found: &ArgMatches<'w>, id: &str) -> Option<&'w str>
     ensures { option_map (λ text. text.now) result ≡ first_of id.now (rows_of (found_of found.now)) }
 {
     found.get_str(id)
 }
 
-// The number under an id, if it is from 1 to `most`. The parser lets no other pass.
+// The number that the parser found under an id, if it is from 1 to `most`. The parser accepts no other.
 fn number_in(found: &ArgMatches<'_>, id: &str, most: u64) -> Option<u64>
     ensures { result ≡ number_in most (first_of id.now (rows_of (found_of found.now))) }
 {

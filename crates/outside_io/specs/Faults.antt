@@ -1,4 +1,4 @@
--- Which fault an error of the machine is, and how a machine's counts of faults rise.
+-- Which fault an error of the system is, and how the counts of faults rise on the machine.
 use Rattle.std.specs.Prelude.{ℕ, None, Result, Ok, Err}
 use Rattle.std.specs.declared.io.ErrorKind.{ErrorKind}
 use Rattle.std.specs.declared.io.ErrorKind.TheVariants.{NotFound, OutOfMemory}
@@ -26,29 +26,29 @@ abbrev pub sink_fault_of : ErrorKind → SinkFault
 sink_fault_of OutOfMemory = sink.NoMemory
 sink_fault_of _ = sink.Failed
 
--- the count after a read with this answer: each refusal is counted but for the end of memory
+-- the count of faults after a read with this answer: each error except `NoMemory` is counted
 abbrev pub after_read : {T : Type 0} → Result T ReadFault → ℕ → ℕ
 after_read (Ok _) count = count
 after_read (Err read.NoMemory) count = count
 after_read (Err _) count = raised_count count
 
--- the count after a write with this answer
+-- the count of faults after a write with this answer
 abbrev pub after_write : {T : Type 0} → Result T WriteFault → ℕ → ℕ
 after_write (Ok _) count = count
 after_write (Err write.NoMemory) count = count
 after_write (Err write.Failed) count = raised_count count
 
--- the count after a print with this answer
+-- the count of faults after a print with this answer
 abbrev pub after_put : {T : Type 0} → Result T SinkFault → ℕ → ℕ
 after_put (Ok _) count = count
 after_put (Err sink.NoMemory) count = count
 after_put (Err sink.Failed) count = raised_count count
 
--- what contracts see of the files of a machine, with these counts
+-- what contracts see of the files of the machine, with these counts: the contents are not known
 abbrev pub seen_files : (reads writes read_faults write_faults : ℕ) → ShelfState
 seen_files reads writes read_faults write_faults =
-    record { contents = None; reads = reads; writes = writes; read_faults = read_faults; write_faults = write_faults }
+    record { contents = None; reads = reads; writes = writes; read_faults = λ name. read_faults; write_faults = write_faults }
 
--- and of its standard output
+-- what contracts see of standard output, with these counts: what was printed is not known
 abbrev pub seen_output : (prints faults : ℕ) → PrintState
 seen_output prints faults = record { text = None; prints = prints; faults = faults }

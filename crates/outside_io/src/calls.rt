@@ -1,20 +1,22 @@
-// Which calls of an outside in memory are to fail, and which call comes next.
+// Which calls on a shelf or a sink in memory are to fail, and the number of the next call.
 
 ghost use Rattle.std.specs.Prelude.{◌≡◌, ◌+◌, ◌^◌, ◌<◌, if◌then◌else◌, is_some, take};
 ghost use Rattle.outside_io.specs.Failing.{kept_at};
 
 use std::marker::Model;
 
-/// A call that is to fail, and what it still keeps.
+/// A call that is to fail, and how many bytes it still keeps.
 #[derive(Clone, Copy, Debug, PartialEq, Eq)]
 pub struct Fail {
-    /// The number of the call, from 0.
+    /// The number of the call, counted from 0.
     pub call: u64,
-    /// How many bytes a write or a print that fails keeps, or all where there are fewer. A read keeps nothing.
+    /// How many bytes a write or a print that fails still keeps: the first ones, or all bytes if there are fewer. A read that
+    /// fails keeps nothing.
     pub kept: u64,
 }
 
-/// The calls that are to fail, and the number of the next call: none, once call 2^64 - 1 was made.
+/// The calls that are to fail, and the number of the next call. There is no next number after call 2^64 - 1: later calls have
+/// no number, and none of them is made to fail.
 #[derive(Drop)]
 pub struct Calls {
     fails: Vec<Fail>,
@@ -32,7 +34,7 @@ impl Model for Calls {
 impl Calls {
     ghost use Rattle.outside_io.specs.Calls.{failing_next, CountsCall, listed_calls_made};
 
-    /// No call was made yet.
+    /// A count in which no call was made yet: the next call has the number 0.
     pub(crate) fn new(fails: Vec<Fail>) -> Calls
         ensures fails { result.fails ≡ fails.items }
         ensures next { result.next ≡ Some 0 }
@@ -44,7 +46,7 @@ impl Calls {
         }
     }
 
-    /// Makes a call: how many bytes it keeps where it is to fail, and nothing where it is not.
+    /// Counts a call. Answers how many bytes the call keeps if it is to fail, and `None` if it is not.
     pub(crate) fn count(&mut self) -> Option<u64>
         ensures kept { result ≡ failing_next self.old }
         ensures counted { CountsCall self.old self.new }
@@ -57,7 +59,7 @@ impl Calls {
     }
 }
 
-// How many bytes the call of this number keeps, where it is listed.
+// How many bytes the call with this number keeps, if it is listed. If it is listed more than once, the first entry counts.
 fn kept_of(fails: &[Fail], number: u64) -> Option<u64>
     ensures { result ≡ kept_at fails.now number }
 {
@@ -69,7 +71,7 @@ fn kept_of(fails: &[Fail], number: u64) -> Option<u64>
     None
 }
 
-/// The first `kept` bytes, or all where there are fewer.
+/// The first `kept` bytes, or all bytes if there are fewer.
 pub(crate) fn front(bytes: &[u8], kept: u64) -> &[u8]
     ensures { result.now ≡ take kept bytes.now }
 {

@@ -1,4 +1,4 @@
-// Which fault an error of the machine is.
+// Which fault an error of the system or of the allocator is.
 
 ghost use Rattle.std.specs.Prelude.{◌≡◌};
 ghost use Rattle.std.specs.IoError.{error_kind};

@@ -1,4 +1,4 @@
-// A shelf of the files of the machine.
+// A shelf that has the files of the machine.
 
 ghost use Rattle.std.specs.Prelude.{◌≤◌, ◌<◌, ℕ, IfOk, IsErrOf, vec_len};
 
@@ -9,7 +9,7 @@ use std::alloc::Global;
 use std::fs;
 use std::rt::Files;
 
-/// The files of the machine, under their paths. It leaves its contents untold.
+/// The files of the machine, under their paths. Their contents are not known to contracts.
 #[derive(Drop)]
 pub struct HostShelf<'r, R: Files + AllocGlobal> {
     rt: &'r R,
@@ -23,7 +23,7 @@ impl<'r, R: Files + AllocGlobal> HostShelf<'r, R> {
     ghost use Rattle.std.specs.Prelude.{◌≡◌};
     ghost use Rattle.outside_io.specs.Faults.{seen_files};
 
-    /// The files that this runtime reaches.
+    /// The files that this runtime reaches. All counts are 0.
     pub fn new(rt: &'r R) -> HostShelf<'r, R>
         ensures { seen_files result.reads result.writes result.read_faults result.write_faults ≡ seen_files 0 0 0 0 }
     {
@@ -44,8 +44,11 @@ impl<R: Files + AllocGlobal> Shelf for HostShelf<'_, R> {
 
     ghost seen = { λ s. seen_files s.reads s.writes s.read_faults s.write_faults };
 
-    /// The bytes of a file, at most `cap` many. `TooLong` has the number of bytes that were taken: it stops past the
-    /// cap. Each refusal but `NoMemory` is counted.
+    /// The bytes of a file, if there are at most `cap` of them.
+    ///
+    /// `Missing` if the system finds no such file, `TooLong` if it has more than `cap` bytes, `NoMemory` if memory runs out,
+    /// and `Failed` at any other error of the system. `TooLong` has the number of bytes that were taken: reading stops when
+    /// more than `cap` bytes are. Each error except `NoMemory` is counted as a fault.
     fn read(&mut self, alloc: Global, name: &str, cap: u64) -> Result<Vec<u8>, ReadFault>
         ensures given { IfOk result (λ bytes. Holds None name.now bytes.items) }
         ensures within { IfOk result (λ bytes. vec_len bytes ≤ cap) }
@@ -69,8 +72,10 @@ impl<R: Files + AllocGlobal> Shelf for HostShelf<'_, R> {
         answer
     }
 
-    /// Makes a file of these bytes, in place of what it had. A refusal leaves an ordinary file as it was, and one other than
-    /// `NoMemory` is counted.
+    /// Gives a file these bytes, in place of what it had.
+    ///
+    /// `NoMemory` if memory runs out, and `Failed` at any other error of the system; an ordinary file is then as it was, unless
+    /// it is written to directly (`write_file` says when). Only `Failed` is counted as a fault.
     fn write(&mut self, name: &str, bytes: &[u8]) -> Result<(), WriteFault>
         ensures written { OnOk result (Wrote name.now bytes.now None None) }
         ensures part { OnErr result (WrotePart name.now bytes.now None None) }
@@ -89,7 +94,7 @@ impl<R: Files + AllocGlobal> Shelf for HostShelf<'_, R> {
     }
 }
 
-// The bytes of a file, at most `cap` many.
+// The bytes of a file, if there are at most `cap` of them.
 fn read_file<R: Files>(rt: &R, alloc: Global, name: &str, cap: u64) -> Result<Vec<u8>, ReadFault>
     ensures within { IfOk result (λ bytes. vec_len bytes ≤ cap) }
     ensures past { (long : ℕ) → IsErrOf result (ReadFault.TooLong long) → cap < long }

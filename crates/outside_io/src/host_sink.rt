@@ -1,10 +1,10 @@
-// A sink of the machine's standard output.
+// A sink that prints on the standard output of the machine.
 
 use crate::streams::write_all;
 use crate::{Sink, SinkFault};
 use std::io;
 
-/// Standard output. It leaves what was written untold.
+/// Standard output. What was printed is not known to contracts.
 #[derive(Drop)]
 pub struct HostSink<'r, R: Print> {
     rt: &'r R,
@@ -16,7 +16,7 @@ impl<'r, R: Print> HostSink<'r, R> {
     ghost use Rattle.std.specs.Prelude.{◌≡◌};
     ghost use Rattle.outside_io.specs.Faults.{seen_output};
 
-    /// The standard output of this runtime.
+    /// The standard output of this runtime. All counts are 0.
     pub fn new(rt: &'r R) -> HostSink<'r, R>
         ensures { seen_output result.prints result.faults ≡ seen_output 0 0 }
     {
@@ -35,7 +35,10 @@ impl<R: Print> Sink for HostSink<'_, R> {
 
     ghost seen = { λ s. seen_output s.prints s.faults };
 
-    /// Prints bytes. A refusal other than `NoMemory` is counted.
+    /// Prints all bytes.
+    ///
+    /// `NoMemory` if memory runs out, and `Failed` at any other error of the system; a prefix of the bytes may then be printed.
+    /// Only `Failed` is counted as a fault.
     fn put(&mut self, bytes: &[u8]) -> Result<(), SinkFault>
         ensures printed { OnOk result (Printed bytes.now None None) }
         ensures part { OnErr result (PrintedPart bytes.now None None) }

@@ -1,4 +1,4 @@
-// Files and printed text, as a program reaches them.
+// What a program reaches outside itself: files by their names and printed text, each of the machine or in memory.
 #![tactic(auto)]
 
 mod calls;

@@ -1,4 +1,4 @@
-// A shelf in memory, whose calls fail where they are told to.
+// A shelf in memory, on which listed calls fail.
 
 ghost use Rattle.std.specs.Prelude.{◌≡◌, Some, None, OnOk, OnErr};
 ghost use Rattle.outside_io.specs.Outside.{Wrote, Unchanged};
@@ -10,8 +10,8 @@ use std::alloc::Global;
 use std::collections::BTreeMap;
 use std::marker::Model;
 
-/// Bytes under names, in memory. It tells its contents. Reads and writes are counted together, from 0, and a call
-/// fails where its number is listed; past number 2^64 - 1 no call is counted, and none fails.
+/// Bytes under names, in memory. The contents are known to contracts. Reads and writes are numbered together, from 0, and a
+/// call is made to fail if its number is listed. Calls after number 2^64 - 1 have no number, and none of them is made to fail.
 #[derive(Drop)]
 pub struct MemoryShelf {
     alloc: Global,
@@ -48,7 +48,7 @@ impl MemoryShelf {
     ghost use Rattle.outside_io.specs.Outside.{Wrote, Unchanged};
     ghost use Rattle.outside_io.specs.Shelved.{map_contents, contents_of};
 
-    /// An empty shelf, of which these calls fail.
+    /// An empty shelf, on which these calls fail. All counts are 0.
     pub fn new(alloc: Global, fails: Vec<Fail>) -> MemoryShelf
         ensures empty { (name : List ℕ) → map_contents result.held name ≡ None }
         ensures fails { result.calls.fails ≡ fails.items }
@@ -68,7 +68,9 @@ impl MemoryShelf {
         }
     }
 
-    /// Puts bytes under a name, and counts no call. Where memory ends, all is as before.
+    /// Puts bytes under a name, in place of what was there. This counts as no call.
+    ///
+    /// `NoMemory` if memory runs out; the contents are then as they were.
     pub fn add(&mut self, name: &str, bytes: &[u8]) -> Result<(), NoMemory>
         ensures added { OnOk result (Wrote name.now bytes.now (contents_of self.old.held) (contents_of self.new.held)) }
         ensures unchanged { OnErr result (Unchanged (contents_of self.old.held) (contents_of self.new.held)) }
@@ -80,7 +82,7 @@ impl MemoryShelf {
         put_under(&mut self.held, self.alloc, name, bytes)
     }
 
-    /// The bytes under a name. It counts no call.
+    /// The bytes under a name, or `None` if nothing is there. This counts as no call.
     pub fn bytes_of(&self, name: &str) -> Option<&[u8]>
         ensures { option_map (λ bytes. bytes.now) result ≡ map_contents self.now.held name.now }
     {
@@ -99,8 +101,10 @@ impl Shelf for MemoryShelf {
 
     ghost seen = { seen_shelf };
 
-    /// The bytes under a name, at most `cap` many: `Failed` exactly where the call is listed, `Missing` and `TooLong`
-    /// exactly where a call that is not listed finds no bytes or more than `cap`.
+    /// The bytes under a name, if there are at most `cap` of them.
+    ///
+    /// `Failed` if and only if the call is listed. If it is not, `Missing` if nothing is under the name, `TooLong` with the
+    /// number of bytes if there are more than `cap`, and `NoMemory` if memory runs out.
     fn read(&mut self, alloc: Global, name: &str, cap: u64) -> Result<Vec<u8>, ReadFault>
         ensures given { IfOk result (λ bytes. Holds (contents_of self.old.held) name.now bytes.items) }
         ensures within { IfOk result (λ bytes. vec_len bytes ≤ cap) }
@@ -125,8 +129,11 @@ impl Shelf for MemoryShelf {
         read_under(&self.held, alloc, name, cap)
     }
 
-    /// Puts bytes under a name. A call that is listed keeps the first bytes, as many as are listed, and answers
-    /// `Failed`; where memory ends, the contents are as before.
+    /// Puts bytes under a name, in place of what was there.
+    ///
+    /// `Failed` if the call is listed: it keeps the first bytes, as many as the list says. `NoMemory` if memory runs out,
+    /// whether the call is listed or not; the contents are then as they were. A listed call is counted as a fault with either
+    /// error.
     fn write(&mut self, name: &str, bytes: &[u8]) -> Result<(), WriteFault>
         ensures written { OnOk result (Wrote name.now bytes.now (contents_of self.old.held) (contents_of self.new.held)) }
         ensures part { OnErr result (WrotePart name.now bytes.now (contents_of self.old.held) (contents_of self.new.held)) }
@@ -154,7 +161,7 @@ impl Shelf for MemoryShelf {
     }
 }
 
-// Puts bytes under a name; where memory ends, all is as before.
+// Puts bytes under a name. `NoMemory` if memory runs out; the contents are then as they were.
 fn put_under(
     held: &mut BTreeMap<String, Vec<u8>>,
     alloc: Global,
@@ -170,7 +177,7 @@ fn put_under(
     Ok(())
 }
 
-// A copy of the bytes under a name, where they are within the cap.
+// A copy of the bytes under a name, if there are at most `cap` of them.
 fn read_under(
     held: &BTreeMap<String, Vec<u8>>,
     alloc: Global,

@@ -1,4 +1,4 @@
-// A sink in memory, whose calls fail where they are told to.
+// A sink in memory, on which listed calls fail.
 
 ghost use Rattle.std.specs.Prelude.{◌≡◌, Some};
 
@@ -7,8 +7,8 @@ use crate::{Sink, SinkFault};
 use std::alloc::Global;
 use std::marker::Model;
 
-/// Printed bytes, in memory. It tells what was written. Its calls are counted from 0, and a call fails where its
-/// number is listed; past number 2^64 - 1 no call is counted, and none fails.
+/// Printed bytes, in memory. They are known to contracts. Calls are numbered from 0, and a call is made to fail if its number
+/// is listed. Calls after number 2^64 - 1 have no number, and none of them is made to fail.
 #[derive(Drop)]
 pub struct MemorySink {
     printed: Vec<u8>,
@@ -33,7 +33,7 @@ impl MemorySink {
     ghost use Rattle.std.specs.Prelude.{[]};
     ghost use Rattle.outside_io.specs.Calls.{listed_calls_made};
 
-    /// A sink to which nothing was printed, and of which these calls fail.
+    /// A sink to which nothing was printed, on which these calls fail. All counts are 0.
     pub fn new(alloc: Global, fails: Vec<Fail>) -> MemorySink
         ensures empty { result.printed ≡ [] }
         ensures fails { result.calls.fails ≡ fails.items }
@@ -50,7 +50,7 @@ impl MemorySink {
         }
     }
 
-    /// The bytes that were printed. It counts no call.
+    /// All bytes that were printed, in order. This counts as no call.
     pub fn bytes(&self) -> &[u8]
         ensures { result.now ≡ self.now.printed }
     {
@@ -66,8 +66,10 @@ impl Sink for MemorySink {
 
     ghost seen = { seen_sink };
 
-    /// Prints bytes. A call that is listed keeps the first bytes, as many as are listed, and answers `Failed`; where
-    /// memory ends, nothing is printed.
+    /// Appends bytes to those that were printed.
+    ///
+    /// `Failed` if the call is listed: it keeps the first bytes, as many as the list says. `NoMemory` if memory runs out,
+    /// whether the call is listed or not; nothing is then printed. A listed call is counted as a fault with either error.
     fn put(&mut self, bytes: &[u8]) -> Result<(), SinkFault>
         ensures printed { OnOk result (Printed bytes.now (Some self.old.printed) (Some self.new.printed)) }
         ensures part { OnErr result (PrintedPart bytes.now (Some self.old.printed) (Some self.new.printed)) }

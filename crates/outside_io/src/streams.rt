@@ -1,4 +1,4 @@
-// Reading a stream to its end, and writing all of some bytes.
+// Reads a stream to its end, and writes all of some bytes.
 
 ghost use Rattle.std.specs.Prelude.{◌≡◌, ◌≤◌, ◌<◌, ℕ, IfOk, OnOk, IsErrOf, vec_len, length};
 ghost use Rattle.std.specs.Option.{IfSome};
@@ -9,7 +9,10 @@ use std::alloc::Global;
 use std::io;
 use std::io::{Error, ErrorKind, Read, Write};
 
-/// All bytes that are left, where they are at most `cap` many; else `TooLong` with the number that was taken.
+/// All bytes that are left in a stream, if there are at most `cap` of them.
+///
+/// `TooLong` if there are more. Reading then stops when more than `cap` bytes were taken, and `length` is their number. An
+/// error of the stream becomes its fault, and `NoMemory` says that memory ran out.
 pub(crate) fn read_within<F: Read>(
     from: &mut F,
     alloc: Global,
@@ -35,7 +38,7 @@ pub(crate) fn read_within<F: Read>(
     }
 }
 
-/// Writes all bytes. A write that takes nothing is an error.
+/// Writes all bytes. An error of the stream ends it, and so does a write that takes no byte (`WriteZero`).
 pub(crate) fn write_all<W: Write>(to: &mut W, bytes: &[u8]) -> io::Result<()>
     ensures { OnOk result (Appends (W.contents to.old) (W.contents to.new) bytes.now) }
 {

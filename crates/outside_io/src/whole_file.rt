@@ -1,4 +1,4 @@
-// A file of the machine that is made whole, or stays as it was.
+// Writes a file of the machine as a whole, or leaves it as it was.
 
 use crate::WriteFault;
 use crate::streams::write_all;
@@ -9,14 +9,19 @@ use std::path::{Path, PathBuf};
 use std::rt::Files;
 use std::{fs, io};
 
-// How many names a new file is tried under, and how many links may lead from a name to its file.
+// How many names are tried for a new file.
 const MOST_NAMES: u32 = 1000;
 
+// How many paths are looked at on the way from a name to its file. The links on this way are fewer.
 const MOST_LINKS: u32 = 40;
 
-/// Gives a name these bytes. Where an ordinary file is there, or none, a new file beside it gets the bytes and takes its place
-/// when it has them all: so a refusal leaves what was there, and no file of its own. What is no ordinary file, as a device or a
-/// pipe, and a file that is open, as under `/dev/stdout`, takes the bytes as it is.
+/// Makes these bytes the content of the file under a name.
+///
+/// If there is an ordinary file or nothing, the bytes go into a new file in the same folder, which takes the name when it has
+/// them all. So after an error what was there is as it was, and the new file is removed. The bytes are written directly to what
+/// is not an ordinary file, such as a device or a pipe, and to a file that is open, such as the one under `/dev/stdout`.
+///
+/// `NoMemory` if memory runs out, and `Failed` at any other error of the system.
 pub(crate) fn write_file<R: Files + AllocGlobal>(
     rt: &R,
     name: &str,
@@ -32,7 +37,7 @@ pub(crate) fn write_file<R: Files + AllocGlobal>(
     }
 }
 
-// Puts these bytes in place of what is there under a name.
+// Puts these bytes in place of what is under a name. `there` is what is under it, open to be written.
 fn write_over<R: Files + AllocGlobal>(
     rt: &R,
     mut there: R::File,
@@ -49,7 +54,7 @@ fn write_over<R: Files + AllocGlobal>(
     write_all(&mut there, bytes)
 }
 
-// Puts a new file of these bytes in place of what is found.
+// Puts a new file of these bytes in place of `target`. `found` describes the file that is there, if one is.
 fn replace<R: Files + AllocGlobal>(
     rt: &R,
     target: Path<'_>,
@@ -67,8 +72,8 @@ fn replace<R: Files + AllocGlobal>(
     named
 }
 
-// The name that the links under a name lead to, where there may be nothing; none where one is a link of /proc, for these lead to
-// files that are open.
+// The path to which a name leads when its links are followed. Nothing need be there. `None` if one of them is a link of /proc,
+// because those lead to files that are open. The error is `InvalidInput` if there are too many links.
 fn behind_links<R: Files + AllocGlobal>(rt: &R, name: &str) -> io::Result<Option<PathBuf>> {
     let mut path = PathBuf::from_str(rt.alloc(), name)?;
     for _ in 0..MOST_LINKS {
@@ -84,7 +89,7 @@ fn behind_links<R: Files + AllocGlobal>(rt: &R, name: &str) -> io::Result<Option
     Err(Error::from(ErrorKind::InvalidInput))
 }
 
-// Whether a link stands on the file system that is mounted under /proc.
+// Whether a link is on the file system that is mounted at /proc; `false` if the system does not show /proc.
 fn is_of_proc<R: Files>(rt: &R, link: Path<'_>) -> io::Result<bool> {
     let device = fs::symlink_metadata(rt, link)?.dev();
     match fs::metadata(rt, "/proc") {
@@ -93,7 +98,7 @@ fn is_of_proc<R: Files>(rt: &R, link: Path<'_>) -> io::Result<bool> {
     }
 }
 
-// The path of a name in the folder of a file.
+// The path of a name that is taken from the folder of a file. The error is `NotFound` if the file has no folder.
 fn beside<R: AllocGlobal>(rt: &R, file: Path<'_>, name: &str) -> io::Result<PathBuf> {
     match file.parent() {
         Some(folder) => Ok(folder.join(rt.alloc(), name)?),
@@ -101,7 +106,8 @@ fn beside<R: AllocGlobal>(rt: &R, file: Path<'_>, name: &str) -> io::Result<Path
     }
 }
 
-// Makes a new, empty file in the folder of another. Where that is there, nobody else may open the new one yet.
+// Makes a new, empty file in the folder of `target`. If a file is found there, only the owner of the new one may open it yet.
+// The error is `AlreadyExists` if every name that is tried is taken.
 fn new_file_beside<R: Files + AllocGlobal>(
     rt: &R,
     target: Path<'_>,
@@ -122,7 +128,8 @@ fn new_file_beside<R: Files + AllocGlobal>(
     Err(Error::from(ErrorKind::AlreadyExists))
 }
 
-// Writes a new file out to its disk, and gives it the permissions of the file that is found, if one is.
+// Writes the bytes to a new file, and the file to its disk. If a file is found that it replaces, it gets the permissions of
+// that file, and its owner as far as `keep_owner` can.
 fn fill<R: Files>(
     rt: &R,
     file: &mut R::File,
@@ -138,7 +145,8 @@ fn fill<R: Files>(
     file.sync_all()
 }
 
-// Gives a new file the owner and the group of the file that is found, or the group alone, where the system allows it.
+// Gives a new file the owner and the group of the file that is found. If the system does not allow that, it tries the group
+// only.
 fn keep_owner<R: Files>(rt: &R, new: &Metadata, name: Path<'_>, found: &Metadata) {
     if new.uid() == found.uid() && new.gid() == found.gid() {
         return;

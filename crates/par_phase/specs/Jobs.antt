@@ -1,4 +1,4 @@
--- How many threads may work at once.
+-- How many threads may work at the same time.
 use Rattle.std.specs.Prelude.{ℕ, ◌≤◌}
 
 -- from 1 to 64

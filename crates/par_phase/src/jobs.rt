@@ -1,11 +1,11 @@
-// How many threads may work at once.
+// How many threads may work at the same time.
 
 ghost use Rattle.std.specs.Prelude.{◌≡◌, ℕ, ◌≤◌};
 ghost use Rattle.par_phase.specs.Jobs.{IsJobCount};
 
 use std::marker::Model;
 
-/// How many threads may work at once: 1 to 64. Contracts see the number.
+/// How many threads may work at the same time: 1 to 64. Contracts see the number.
 #[derive(Clone, Copy)]
 pub struct Jobs {
     count: u32,
@@ -22,7 +22,7 @@ impl Model for Jobs {
 }
 
 impl Jobs {
-    /// So many threads, from 1 to 64.
+    /// This number of threads, from 1 to 64.
     pub fn new(count: u32) -> Jobs
         requires { IsJobCount count }
         ensures { result ≡ count }
@@ -30,7 +30,7 @@ impl Jobs {
         Jobs { count }
     }
 
-    /// How many there are, from 1 to 64.
+    /// How many threads there may be, from 1 to 64.
     pub fn count(self) -> u32
         ensures is { result ≡ self }
         ensures range { IsJobCount result }

@@ -1,4 +1,4 @@
--- Why a report is not written whole, by why a line is not printed.
+-- Why a report is not written to its end, by why a line was not printed.
 use Rattle.outside_io.specs.declared.outside.SinkFault.{SinkFault}
 use Rattle.outside_io.specs.declared.outside.SinkFault.TheVariants as sink
 use Rattle.report.specs.declared.write.ReportFault.{ReportFault}

@@ -10,7 +10,7 @@ use Rattle.analyses.specs.declared.Kind.{Kind}
 use Rattle.analyses.specs.declared.Kind.TheVariants.{Blocks, Branches, Calls, Memory}
 use Rattle.analyses.specs.declared.Row.{Row}
 
--- words with single spaces between, and a line feed
+-- the line of these words: a space between each two, and a line feed at the end
 abbrev pub line : List (List ℕ) → List ℕ
 line words = join_with_byte 32 words ++ 10 ∷ []
 
@@ -20,7 +20,7 @@ kind_text Branches = codes "branches"
 kind_text Calls = codes "calls"
 kind_text Memory = codes "memory"
 
--- function and position with a colon between
+-- the function and the position, with a colon between them
 abbrev pub location : ℕ → ℤ → List ℕ
 location func instr = decimal func ++ 58 ∷ signed_decimal instr
 
@@ -47,7 +47,7 @@ abbrev pub callee_text : (other : ℕ) → List ℕ
 callee_text zero = codes "none"
 callee_text (suc f) = decimal f
 
--- a row's line
+-- the line of a row
 abbrev pub row_line : Kind → Row → List ℕ
 row_line Blocks r = line (codes "block" ∷ location r.func r.instr ∷ part_name r.tag ∷ decimal r.count ∷ [])
 row_line Branches r = line (codes "branch" ∷ location r.func r.instr ∷ branch_name r.tag ∷ decimal r.other ∷ decimal r.count ∷ [])
@@ -55,11 +55,11 @@ row_line Calls r = line (codes "call" ∷ decimal r.func ∷ callee_text r.other
 row_line Memory r =
     line (codes "memory" ∷ location r.func r.instr ∷ access_name r.tag ∷ decimal r.count ∷ decimal r.least ∷ decimal r.greatest ∷ [])
 
--- the kind and the number of rows
+-- the first line: the kind and the number of rows
 abbrev pub head_line : Kind → (rows : ℕ) → List ℕ
 head_line kind rows = line (codes "report" ∷ kind_text kind ∷ decimal rows ∷ [])
 
--- the number of rows, and the rows
+-- the first line, and the line of each row
 abbrev pub report_text : Kind → List Row → List ℕ
 report_text kind rows = head_line kind (length rows) ++ flat_map (row_line kind) rows
 

@@ -9,7 +9,7 @@ use analyses::{Kind, Row};
 use std::alloc::Global;
 use wasm_num::NoMemory;
 
-/// The first line of a report: its kind, and how many rows it has.
+/// The first line of a report: its kind, and how many rows it has. `NoMemory` if memory runs out.
 pub(crate) fn first_line(alloc: Global, kind: Kind, rows: usize) -> Result<String, NoMemory>
     ensures { IfOk result (λ line. string_bytes line ≡ head_line kind rows) }
 {
@@ -48,7 +48,7 @@ fn branch_line(alloc: Global, row: &Row) -> Result<String, NoMemory>
     format!(in alloc; "branch {place} {word} {other} {count}\n")
 }
 
-// The line of a row of calls. The row's `other` is 0 if there is no callee, otherwise the callee plus 1.
+// The line of a row of calls. The row's `other` is 0 if there is no callee, and otherwise the callee plus 1.
 fn call_line(alloc: Global, row: &Row) -> Result<String, NoMemory>
     ensures { IfOk result (λ line. string_bytes line ≡ row_line Calls row.now) }
 {
@@ -79,7 +79,7 @@ fn memory_line(alloc: Global, row: &Row) -> Result<String, NoMemory>
     format!(in alloc; "memory {place} {word} {count} {least} {greatest}\n")
 }
 
-/// The line of a row.
+/// The line of a row of a report of this kind. `NoMemory` if memory runs out.
 pub(crate) fn line_of_row(alloc: Global, kind: Kind, row: &Row) -> Result<String, NoMemory>
     ensures { IfOk result (λ line. string_bytes line ≡ row_line kind row.now) }
 {
@@ -91,8 +91,9 @@ pub(crate) fn line_of_row(alloc: Global, kind: Kind, row: &Row) -> Result<String
     }
 }
 
-/// The line after the reports: how many events there were that are no strays, and how many strays. `NoMemory` if memory
-/// runs out.
+/// The line after the reports: how many events there were that are no strays, and how many strays.
+///
+/// `NoMemory` if memory runs out.
 pub fn events_line(alloc: Global, events: u64, strays: u64) -> Result<String, NoMemory>
     ensures { IfOk result (λ line. string_bytes line ≡ events_text events strays) }
 {

@@ -1,4 +1,4 @@
--- The fields of an event: their bytes, all numbers in their shortest spelling, and their ranges.
+-- The fields of an event: their bytes, in which each number has its shortest spelling, and their ranges.
 use Rattle.std.specs.Prelude.{ℕ, ◌^◌, ◌<◌, ◌==◌, ℤ, List, [], ◌∷◌, ◌++◌, length, flat_map, find, Option, Some, None}
 use Rattle.std.specs.List.{AllByRecursion}
 use Rattle.std.specs.Int.{w32, w64, cast_signed}
@@ -17,7 +17,7 @@ use Rattle.wasm_num.specs.Opcodes.{num_opcode}
 use Rattle.module_ast.specs.Binary.{load_opcode, store_opcode}
 use Rattle.wasm_num.specs.Kinds.{kind_number}
 
--- what stands in a field
+-- what a field contains
 pub data FieldType : Type 0 where
   place : FieldType
   number : FieldType
@@ -61,20 +61,20 @@ var_number Get = 0
 var_number Set = 1
 var_number Tee = 2
 
--- each once, in the order of their numbers
+-- all accesses to variables, in the order of their numbers
 abbrev pub var_ops : List VarOp
 var_ops = Get ∷ Set ∷ Tee ∷ []
 
--- what is done by this number
+-- the access to a variable that has this number
 abbrev pub var_of_number : ℕ → Option VarOp
 var_of_number n = find (λ op. var_number op == n) var_ops
 
--- a byte that tells whether there is one
+-- a byte that says whether there is a callee, and then the callee
 abbrev pub callee_bytes : Option ℕ → List ℕ
 callee_bytes None = 0x00 ∷ []
 callee_bytes (Some n) = 0x01 ∷ unsigned_bytes n
 
--- their number, and the values
+-- the number of the values, and then each value
 abbrev pub values_bytes : List Value → List ℕ
 values_bytes vs = unsigned_bytes (length vs) ++ flat_map value_bytes vs
 
@@ -91,7 +91,7 @@ field_bytes (store_op, op) = store_opcode op ∷ []
 field_bytes (callee, c) = callee_bytes c
 field_bytes (values, vs) = values_bytes vs
 
--- numbers are of their sizes
+-- Fields that fit: their numbers are of their sizes.
 abbrev pub FitsNumber : ℕ → Type 0
 FitsNumber n = n < 2 ^ 32
 

@@ -1,4 +1,4 @@
--- What holds of trace files: which lists of events have one, that it tells them, and how writers come to it.
+-- What holds of trace files: which lists of events have one, that a file has one list of events, and what writers write.
 use Rattle.std.specs.Prelude.{◌≡◌, ℕ, List, [], ◌∷◌, ◌++◌, length}
 use Rattle.std.specs.List.{AllByRecursion}
 use Rattle.hook_select.specs.declared.Event.{Event}
@@ -10,18 +10,18 @@ use Rattle.trace_file.specs.Rows.{FitsEvent}
 abbrev pub EventsHaveTraces : Type 0
 EventsHaveTraces = (es : List Event) → FitsNumber (length es) → AllByRecursion FitsEvent es → IsTrace (trace_bytes es) es
 
--- no two lists of events have one
+-- no two lists of events have the same trace file
 abbrev pub TracesTellEvents : Type 0
 TracesTellEvents = (bytes : List ℕ) (es fs : List Event) → IsTrace bytes es → IsTrace bytes fs → es ≡ fs
 
--- a writer of events that takes one more is a writer of these and that one
+-- a writer that has some events and gets one more is a writer that has all of them
 abbrev pub WritersGoOn : Type 0
 WritersGoOn = (max : ℕ) (es : List Event) (e : Event) → with_event e (writing_of max es) ≡ writing_of max (es ++ e ∷ [])
 
--- what it finishes is their trace file
+-- the file that a writer finishes is the trace file of its events
 abbrev pub WritersWriteTraces : Type 0
 WritersWriteTraces = (max : ℕ) (es : List Event) → file_bytes (writing_of max es).events (writing_of max es).count ≡ trace_bytes es
 
--- where the trace file of events is no longer than it may be, that of the first of them is not either
+-- if the trace file of events is no longer than it may be, neither is the trace file of the first few of them
 abbrev pub FirstEventsFit : Type 0
 FirstEventsFit = (max : ℕ) (es more : List Event) → IsWithinBound (writing_of max (es ++ more)) → IsWithinBound (writing_of max es)

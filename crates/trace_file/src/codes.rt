@@ -1,4 +1,4 @@
-// What one byte tells, from the front of bytes.
+// Reads the fields that are one byte: kinds of blocks, accesses and operations.
 
 ghost use Rattle.std.specs.Prelude.{◌≡◌, ◌∷◌, []};
 ghost use Rattle.wasm_num.specs.Kinds.{kind_number};
@@ -12,7 +12,7 @@ use module_ast::ops::{LoadOp, StoreOp, VarOp};
 use std::alloc::Global;
 use wasm_num::{BlockKind, NumOp};
 
-/// The number of what is done with a variable: 0, 1 and 2.
+/// The number of an access to a variable: 0 for get, 1 for set and 2 for tee.
 pub(crate) fn var_number(op: VarOp) -> u8
     ensures { result ≡ var_number op }
 {
@@ -23,7 +23,7 @@ pub(crate) fn var_number(op: VarOp) -> u8
     }
 }
 
-// What is done with a variable, of its number; none above 2.
+// The access to a variable that has this number; `None` above 2.
 fn var_of_number(number: u8) -> Option<VarOp>
     ensures { result ≡ var_of_number number }
 {

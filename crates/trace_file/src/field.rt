@@ -1,4 +1,4 @@
-// The fields of events, taken from the front of bytes.
+// Reads the fields of events from the front of bytes.
 
 ghost use Rattle.std.specs.Prelude.{◌≡◌, ℕ, List, [], ◌++◌, IfOk, IfErr};
 ghost use Rattle.trace_file.specs.declared.field.ReadTraceFault.TheVariants.{NoMemory};
@@ -10,9 +10,9 @@ use std::alloc::{AllocError, Global};
 /// Why bytes are not read as a trace.
 #[derive(Clone, Copy, Debug, PartialEq, Eq)]
 pub enum ReadTraceFault {
-    /// No list of events has them as its trace file.
+    /// The bytes are the trace file of no list of events.
     NotTrace,
-    /// The allocator gave no memory.
+    /// Memory ran out.
     NoMemory,
 }
 
@@ -24,13 +24,14 @@ impl From<AllocError> for ReadTraceFault {
     }
 }
 
-// A field, or fields one after the other.
+// A field, or several fields one after another.
 pub(crate) trait Take: Sized + Drop {
     ghost spelling: { Self → List ℕ };
 
     ghost fits: { Self → Type 0 };
 
-    // Takes it from the front of the bytes that are left, which begin with nothing else.
+    // Takes it from the front of the bytes that are left, which begin with the spelling of nothing else. `NotTrace` only if
+    // they begin with the spelling of nothing that fits.
     fn take(alloc: Global, cursor: &mut Cursor<'_>) -> Result<Self, ReadTraceFault>
         ensures taken { IfOk result (λ x. BeginsWithSpelling fits spelling cursor.old.left cursor.new.left x) }
         ensures only { IfOk result (λ x. OnlyBegins fits spelling cursor.old.left cursor.new.left x) }

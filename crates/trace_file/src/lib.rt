@@ -1,4 +1,4 @@
-// Trace files: events as bytes, and back.
+// Trace files: writes events as bytes, and reads them again.
 #![tactic(auto)]
 
 mod codes;

@@ -1,4 +1,4 @@
-// Bytes and numbers, from the front of bytes: their shortest spelling alone is taken.
+// Reads bytes and numbers in LEB128. A number is taken only in its shortest spelling. (Standard, 5.2.2)
 
 ghost use Rattle.std.specs.Prelude.{◌<◌, [], ◌∷◌};
 ghost use Rattle.leb_binary.specs.Leb.{IsInSize};

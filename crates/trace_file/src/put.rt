@@ -1,4 +1,4 @@
-// Fields at the end of bytes.
+// Appends fields to bytes.
 
 ghost use Rattle.std.specs.Prelude.{◌≡◌, ◌≤◌, ◌^◌, ◌+◌, ℕ, List, length, [], ◌∷◌, ◌++◌, OnOk, OnErr, IfErr};
 ghost use Rattle.leb_binary.specs.Shortest.{unsigned_bytes, signed_bytes};
@@ -15,12 +15,12 @@ use module_ast::ops::{LoadOp, StoreOp, VarOp};
 use std::alloc::AllocError;
 use wasm_num::{BlockKind, NumOp, Value, Values};
 
-/// Why there is no trace file.
+/// Why no trace file is written.
 #[derive(Clone, Copy, Debug, PartialEq, Eq)]
 pub enum TraceFault {
-    /// It is longer than it may be.
+    /// The file is longer than it may be.
     TooLarge,
-    /// The allocator gave no memory.
+    /// Memory ran out.
     NoMemory,
 }
 
@@ -32,7 +32,7 @@ impl From<AllocError> for TraceFault {
     }
 }
 
-// Adds a byte.
+// Appends a byte.
 pub(crate) fn put_byte(out: &mut Vec<u8>, byte: u8) -> Result<(), AllocError>
     ensures added { OnOk result (out.new.items ≡ out.old.items ++ byte ∷ []) }
     ensures kept { OnErr result (out.new.items ≡ out.old.items) }
@@ -41,13 +41,13 @@ pub(crate) fn put_byte(out: &mut Vec<u8>, byte: u8) -> Result<(), AllocError>
     Ok(())
 }
 
-// A field, or fields one after the other.
+// A field, or several fields one after another.
 pub(crate) trait Put: Sized + Drop {
     ghost spelling: { Self → List ℕ };
 
     ghost fits: { Self → Type 0 };
 
-    // Adds its bytes. `TooLarge` comes only where a list is so long that there are 2^32 bytes or more.
+    // Appends its bytes. `TooLarge` only if a list is so long that there are 2^32 bytes or more.
     fn put(self, out: &mut Vec<u8>) -> Result<(), TraceFault>
         ensures added { OnOk result (out.new.items ≡ out.old.items ++ spelling self) }
         ensures fits { OnOk result (fits self) }
@@ -110,7 +110,7 @@ impl Put for &Loc {
     }
 }
 
-// Adds a value.
+// Appends a value.
 fn put_value(out: &mut Vec<u8>, value: Value) -> Result<(), AllocError>
     ensures added { OnOk result (out.new.items ≡ out.old.items ++ value_bytes value) }
     ensures fits { OnOk result (FitsValue value) }

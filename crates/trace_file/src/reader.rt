@@ -1,4 +1,4 @@
-// Trace files, read event by event.
+// Reads trace files event by event.
 
 ghost use Rattle.std.specs.Prelude.{◌≡◌, ◌<◌, ◌+◌, ◌++◌, [], ◌∷◌, ℕ, List, length, OnOk, OnErr, IfOk, IfErr, IfSome, IfNone, MatchOption};
 ghost use Rattle.leb_binary.specs.Shortest.{unsigned_bytes};
@@ -16,8 +16,8 @@ use leb_binary::Cursor;
 use std::alloc::{AllocError, Global};
 use std::marker::Model;
 
-/// A trace file that is read event by event, which contracts see as its bytes, how many events were read, and the bytes that
-/// are left. Beside the bytes it keeps nothing.
+/// A trace file that is read event by event. Contracts see its bytes, how many events were read, and the bytes that are left.
+/// The reader borrows the bytes and keeps no events.
 #[derive(Drop)]
 pub struct TraceReader<'b> {
     alloc: Global,
@@ -38,7 +38,7 @@ impl<'b> Model for TraceReader<'b> {
     ghost invariant = { λ r. ((es : List EventSpec) × HasRead es (record { bytes = r.bytes.now; count = r.count; left = r.left.now })) × (r.count + length r.left.now ≤ length r.bytes.now) };
 }
 
-// What stands behind the header, where the bytes begin with it.
+// The bytes after the header; `None` if the bytes do not begin with it.
 fn behind_header(bytes: &[u8]) -> Option<&[u8]>
     ensures some { IfSome result (λ left. bytes.now ≡ header ++ left.now) }
     ensures none { IfNone result ((left : List ℕ) → bytes.now ≡ header ++ left → ⊥) }
@@ -46,7 +46,7 @@ fn behind_header(bytes: &[u8]) -> Option<&[u8]>
     bytes.strip_prefix(&HEADER)
 }
 
-// Takes the next event, or the zero byte behind the last.
+// Takes the next event; `None` if it takes the zero byte that comes after the last event.
 fn take_next(alloc: Global, cursor: &mut Cursor<'_>) -> Result<Option<Event>, ReadTraceFault>
     ensures taken { IfOk result (λ next. MatchOption next (cursor.old.left ≡ 0 ∷ cursor.new.left) (λ e. BeginsWithSpelling FitsEvent event_bytes cursor.old.left cursor.new.left e)) }
     ensures none { IfErr result (λ fault. fault ≡ ReadTraceFault.NotTrace → NoneBegins FitsEvent event_bytes cursor.old.left) }
@@ -60,7 +60,7 @@ fn take_next(alloc: Global, cursor: &mut Cursor<'_>) -> Result<Option<Event>, Re
     Ok(Some(event))
 }
 
-// Takes the number of the events, behind which nothing stands.
+// Takes the number of the events. `NotTrace` exactly if it is not `count` in its shortest spelling, or if bytes follow it.
 fn take_count(alloc: Global, cursor: &mut Cursor<'_>, count: usize) -> Result<(), ReadTraceFault>
     ensures taken { OnOk result (FitsNumber count × (cursor.old.left ≡ unsigned_bytes count)) }
     ensures not { IfErr result (λ fault. fault ≡ ReadTraceFault.NotTrace → FitsNumber count → cursor.old.left ≡ unsigned_bytes count → ⊥) }
@@ -73,8 +73,8 @@ fn take_count(alloc: Global, cursor: &mut Cursor<'_>, count: usize) -> Result<()
 }
 
 impl<'b> TraceReader<'b> {
-    /// A reader that stands before the first event. It allocates nothing. `NotTrace` where the bytes do not begin with the header
-    /// of a trace file, so that no list of events has them.
+    /// A reader before the first event. Allocates nothing. `NotTrace` exactly if the bytes do not begin with the header of a
+    /// trace file; no list of events has such a trace file.
     pub fn new(alloc: Global, bytes: &'b [u8]) -> Result<TraceReader<'b>, ReadTraceFault>
         ensures bytes { IfOk result (λ reader. reader.bytes ≡ bytes.now) }
         ensures none { IfOk result (λ reader. HasRead [] reader) }
@@ -92,9 +92,9 @@ impl<'b> TraceReader<'b> {
         }
     }
 
-    /// The next event, or none where all were read: then the bytes are the trace file of just those that were read. `NotTrace`
-    /// where no list of events has the bytes as its trace file, which shows at the end at the latest. The end, and an error, leave
-    /// the reader as it was.
+    /// The next event; `None` if all were read. The bytes are then the trace file of exactly the events that were read.
+    /// `NotTrace` if the bytes are the trace file of no list of events, which shows at the end at the latest. `NoMemory` if
+    /// memory runs out. After `None` and after an `Err` the reader is as before.
     pub fn next(&mut self) -> Result<Option<Event>, ReadTraceFault>
         ensures bytes { self.new.bytes ≡ self.old.bytes }
         ensures event { IfOk result (λ next. IfSome next (λ e. (es : List EventSpec) → HasRead es self.old → HasRead (es ++ e ∷ []) self.new)) }
@@ -116,7 +116,7 @@ impl<'b> TraceReader<'b> {
     }
 }
 
-// Adds an event.
+// Appends an event.
 fn add(events: &mut Vec<Event>, event: Event) -> Result<(), AllocError>
     ensures { OnOk result (events.new.items ≡ events.old.items ++ event ∷ []) }
 {
@@ -124,7 +124,8 @@ fn add(events: &mut Vec<Event>, event: Event) -> Result<(), AllocError>
     Ok(())
 }
 
-/// The events whose trace file these bytes are. `NotTrace` exactly where they are that of no list of events.
+/// The events whose trace file these bytes are. `NotTrace` exactly if the bytes are the trace file of no list of events;
+/// `NoMemory` if memory runs out.
 pub fn read_trace(alloc: Global, bytes: &[u8]) -> Result<Vec<Event>, ReadTraceFault>
     ensures read { IfOk result (λ events. IsTrace bytes.now events.items) }
     ensures not { IfErr result (λ fault. fault ≡ ReadTraceFault.NotTrace → IsNoTrace bytes.now) }

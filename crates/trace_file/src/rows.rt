@@ -1,4 +1,4 @@
-// Events as bytes, and back: for each its tag and its fields.
+// Writes and reads events: each is its tag and then its fields.
 
 ghost use Rattle.std.specs.Prelude.{◌≡◌, ◌≤◌, ◌^◌, length, ◌∷◌, ◌++◌, IfOk, IfErr, OnOk};
 ghost use Rattle.trace_file.specs.Begins.{BeginsWithSpelling, NoneBegins};
@@ -10,7 +10,7 @@ use hook_select::Event;
 use leb_binary::Cursor;
 use std::alloc::Global;
 
-// Each event, with its tag and its fields in their order, behind what `$to` is given.
+// Gives the macro `$to` the arguments in parentheses, and after them each event with its tag and its fields in order.
 macro_rules! each_event {
     ($to:ident($($given:ident),*)) => {
         $to! {
@@ -44,7 +44,7 @@ macro_rules! each_event {
     };
 }
 
-// Fields, one behind the other.
+// Fields, one after another, as nested pairs.
 macro_rules! fields {
     () => { () };
     ($first:ident $(, $more:ident)*) => {
@@ -52,7 +52,7 @@ macro_rules! fields {
     };
 }
 
-// Adds the row of the event.
+// Appends the tag and the fields of the event.
 macro_rules! put_rows {
     ($out:ident $event:ident $($tag:literal $name:ident($($field:ident),*))*) => {
         match $event {
@@ -61,7 +61,7 @@ macro_rules! put_rows {
     };
 }
 
-// Takes the row of the tag.
+// Takes the fields of the event that has the tag. `NotTrace` if no event has it.
 macro_rules! take_rows {
     ($alloc:ident $cursor:ident $found:ident $($tag:literal $name:ident($($field:ident),*))*) => {
         match $found {
@@ -74,7 +74,7 @@ macro_rules! take_rows {
     };
 }
 
-// Adds a tag and fields.
+// Appends a tag and fields.
 fn put_row<R: Put>(out: &mut Vec<u8>, tag: u8, fields: R) -> Result<(), TraceFault>
     ensures added { OnOk result (out.new.items ≡ out.old.items ++ tag ∷ R.spelling fields) }
     ensures fits { OnOk result (R.fits fields) }
@@ -84,7 +84,7 @@ fn put_row<R: Put>(out: &mut Vec<u8>, tag: u8, fields: R) -> Result<(), TraceFau
     fields.put(out)
 }
 
-// Adds an event.
+// Appends an event. `TooLarge` only if its fields have 2^32 bytes or more.
 pub(crate) fn put_event(out: &mut Vec<u8>, event: &Event) -> Result<(), TraceFault>
     ensures added { OnOk result (out.new.items ≡ out.old.items ++ event_bytes event.now) }
     ensures fits { OnOk result (FitsEvent event.now) }
@@ -93,7 +93,7 @@ pub(crate) fn put_event(out: &mut Vec<u8>, event: &Event) -> Result<(), TraceFau
     each_event!(put_rows(out, event))
 }
 
-// Takes the fields of an event with this tag.
+// Takes the fields of an event with this tag. `NotTrace` only if no such event begins here.
 pub(crate) fn take_event(
     alloc: Global,
     cursor: &mut Cursor<'_>,

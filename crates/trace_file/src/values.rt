@@ -1,4 +1,4 @@
-// Places, values, lists of them and callees, from the front of bytes.
+// Reads locations, values, lists of values, and callees.
 
 ghost use Rattle.trace_file.specs.Fields.{FitsLocation, FitsValue, FitsCallee, FitValues, place_bytes, value_bytes, callee_bytes, values_bytes};
 

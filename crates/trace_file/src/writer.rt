@@ -1,4 +1,4 @@
-// A trace file as it grows.
+// Writes trace files event by event.
 
 ghost use Rattle.std.specs.Prelude.{◌≡◌, ◌+◌, ◌≤◌, [], drop, length, IfOk, OnOk, OnErr, IfErr};
 ghost use Rattle.module_ast.specs.Validation.Limits.{longest_file};
@@ -12,10 +12,11 @@ use leb_binary::{put_u32, unsigned_length};
 use std::alloc::{AllocError, Global};
 use std::marker::Model;
 
-/// The first bytes of a file.
+/// The first bytes of a trace file.
 pub(crate) const HEADER: [u8; 4] = *b"WTR1";
 
-/// Events written one after the other, which contracts see as the most bytes of their file, their bytes and their number.
+/// A trace file that is written event by event. Contracts see the most bytes that the file may have, the bytes of the events
+/// so far, and their number.
 #[derive(Drop)]
 pub struct TraceWriter {
     max: u64,
@@ -36,7 +37,7 @@ impl Model for TraceWriter {
     ghost invariant = { λ w. IsEmptyOrBegun w.file.items × (w.max ≤ longest_file) };
 }
 
-// Writes the header, where there is none yet.
+// Writes the header if the file is still empty.
 fn begin(file: &mut Vec<u8>) -> Result<(), AllocError>
     requires { IsEmptyOrBegun file.old.items }
     ensures begun { OnOk result (IsBegun file.new.items) }
@@ -50,7 +51,7 @@ fn begin(file: &mut Vec<u8>) -> Result<(), AllocError>
 }
 
 impl TraceWriter {
-    /// A writer without events, of a file of at most `max` bytes, which are 268,435,456 at most. It allocates nothing.
+    /// A writer without events, for a file of at most `max` bytes. `max` is at most 268,435,456. Allocates nothing.
     pub fn new(alloc: Global, max: u64) -> TraceWriter
         requires { max ≤ longest_file }
         ensures { result ≡ record { max = max; events = []; count = 0 } }
@@ -63,8 +64,8 @@ impl TraceWriter {
         }
     }
 
-    /// Appends an event. `TooLarge` exactly where the file with this event is longer than `max`. An error leaves the writer as
-    /// it was.
+    /// Appends an event. `TooLarge` exactly if the file with this event is longer than `max`; `NoMemory` if memory runs out.
+    /// After an `Err` the writer is as before.
     pub fn put(&mut self, event: &Event) -> Result<(), TraceFault>
         ensures added { OnOk result (self.new ≡ with_event event.now self.old) }
         ensures fits { OnOk result (FitsEvent event.now) }
@@ -88,7 +89,7 @@ impl TraceWriter {
         Ok(())
     }
 
-    /// The file of the events. `TooLarge` exactly where it is longer than `max`.
+    /// The trace file of the events. `TooLarge` exactly if it is longer than `max`; `NoMemory` if memory runs out.
     pub fn finish(self) -> Result<Vec<u8>, TraceFault>
         ensures file { IfOk result (λ file. file.items ≡ file_bytes self.events self.count) }
         ensures within { OnOk result (IsWithinBound self) }
