@@ -1,5 +1,5 @@
 -- A proper key is read from its name, so that two of them differ in their names.
-use Rattle.std.proofs.Common.{◌≡◌, List, [], ◌∷◌, true≢false, IsTrue, Some, None, refl, sym, ap, ◌∙◌}
+use Rattle.std.proofs.Common.{◌≡◌, List, [], ◌∷◌, true≢false, cond, IsTrue, Some, None, refl, sym, ap, subst, ◌∙◌}
 use Rattle.std.specs.Option.{option_map}
 use Rattle.wasm_num.specs.declared.ValType.{ValType}
 use Rattle.wasm_num.specs.declared.ValType.TheVariants.{I32, I64}
@@ -16,8 +16,9 @@ use Rattle.hook_select.specs.declared.GroupName.{GroupName}
 use Rattle.hook_select.specs.declared.GroupName.TheVariants as groups
 use Rattle.hook_mono.specs.declared.HookKey.{HookKey}
 use Rattle.hook_mono.specs.declared.HookKey.TheVariants.{Plain, Begin, End, Const, Num, Drop, Select, Local, Global, Load, Store, CallPre, IndirectPre, CallPost, Return}
-use Rattle.hook_mono.specs.Keys.{IsProper, is_plain}
-use Rattle.hook_mono.specs.Names.{letters, name_of, NamesDiffer, NamesLeadBack}
+use Rattle.hook_mono.specs.Plains.{is_plain}
+use Rattle.hook_mono.specs.Keys.{IsProper}
+use Rattle.hook_mono.specs.Names.{letters, plain_name, name_of, NamesDiffer, NamesLeadBack}
 use Rattle.hook_mono.specs.Reading.{key_named, letter_types, or_read}
 
 abbrev IsRead : HookKey → Type 0
@@ -29,18 +30,14 @@ letters_back [] = refl
 letters_back (I32 ∷ ts) = ap (option_map (λ us. I32 ∷ us)) (letters_back ts)
 letters_back (I64 ∷ ts) = ap (option_map (λ us. I64 ∷ us)) (letters_back ts)
 
+-- a group that is a key by itself is read from the name of its hook
+plain_back : (g : GroupName) → cond (is_plain g) (key_named (plain_name g)) None ≡ cond (is_plain g) (Some (Plain g)) None
+plain_back groups.Start = refl
+plain_back g = refl
+
 -- each kind of key
 plain_read : (g : GroupName) → IsTrue (is_plain g) → IsRead (Plain g)
-plain_read groups.Start proper = refl
-plain_read groups.Nop proper = refl
-plain_read groups.Unreachable proper = refl
-plain_read groups.If proper = refl
-plain_read groups.Br proper = refl
-plain_read groups.BrIf proper = refl
-plain_read groups.BrTable proper = refl
-plain_read groups.MemorySize proper = refl
-plain_read groups.MemoryGrow proper = refl
-plain_read g proper = absurd (true≢false (sym proper))
+plain_read g proper = subst (λ b. cond b (key_named (plain_name g)) None ≡ cond b (Some (Plain g)) None) proper (plain_back g)
 
 begin_read : (k : BlockKind) → IsRead (Begin k)
 begin_read kinds.Function = refl

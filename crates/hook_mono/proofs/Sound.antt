@@ -15,9 +15,10 @@ use Rattle.wasm_num.specs.Opcodes.{num_ops}
 use Rattle.hook_mono.specs.declared.HookKey.{HookKey}
 use Rattle.hook_mono.specs.declared.HookKey.TheVariants.{Plain, Begin, End, Const, Num, Drop, Select, Local, Global, Load, Store, CallPre, IndirectPre, CallPost, Return}
 use Rattle.hook_mono.specs.Orders.{both_types}
+use Rattle.hook_mono.specs.Plains.{plain_groups}
 use Rattle.hook_mono.specs.Keys.{is_proper, IsProper}
 use Rattle.hook_mono.specs.Names.{name_of, plain_name, const_name, letter, letters, IsNamed, IsKeyOf}
-use Rattle.hook_mono.specs.Reading.{Reader, plain_groups, named, strip, letter_type, letter_types, one_type, kind_behind, type_behind, types_behind, or_read, first_read, fixed_readers, letter_readers, types_readers, key_named}
+use Rattle.hook_mono.specs.Reading.{Reader, named, strip, letter_type, letter_types, one_type, kind_behind, type_behind, types_behind, or_read, first_read, fixed_readers, letter_readers, types_readers, key_named}
 use Rattle.hook_mono.proofs.Strip.{equal_numbers}
 use Rattle.hook_mono.proofs.Inverse.{reads_back}
 

@@ -7,10 +7,10 @@ use Rattle.module_ast.specs.declared.ops.VarOp.TheVariants.{Get, Set, Tee}
 use Rattle.wasm_num.specs.Names.{num_name}
 use Rattle.module_ast.specs.Binary.{load_name, store_name}
 use Rattle.hook_select.specs.declared.GroupName.{GroupName}
-use Rattle.hook_select.specs.declared.GroupName.TheVariants as groups
 use Rattle.wasm_num.specs.Kinds.{kind_name}
 use Rattle.hook_mono.specs.declared.HookKey.{HookKey}
 use Rattle.hook_mono.specs.declared.HookKey.TheVariants.{Plain, Begin, End, Const, Num, Drop, Select, Local, Global, Load, Store, CallPre, IndirectPre, CallPost, Return}
+use Rattle.hook_mono.specs.Plains.{plain_row, row_name}
 use Rattle.hook_mono.specs.Keys.{IsProper}
 
 -- i for i32, l for i64
@@ -22,16 +22,7 @@ abbrev pub letters : List ValType → List ℕ
 letters ts = map letter ts
 
 abbrev pub plain_name : GroupName → List ℕ
-plain_name groups.Start = codes "start"
-plain_name groups.Nop = codes "nop"
-plain_name groups.Unreachable = codes "unreachable"
-plain_name groups.If = codes "if"
-plain_name groups.Br = codes "br"
-plain_name groups.BrIf = codes "br_if"
-plain_name groups.BrTable = codes "br_table"
-plain_name groups.MemorySize = codes "memory.size"
-plain_name groups.MemoryGrow = codes "memory.grow"
-plain_name _ = []
+plain_name g = row_name (plain_row g)
 
 abbrev pub const_name : ValType → List ℕ
 const_name I32 = codes "i32.const"
@@ -59,16 +50,16 @@ name_of (IndirectPre ts) = codes "call_indirect_pre_" ++ letters ts
 name_of (CallPost ts) = codes "call_post_" ++ letters ts
 name_of (Return ts) = codes "return_" ++ letters ts
 
--- the proper key of this name
+-- the key is proper and has this name
 abbrev pub IsNamed : List ℕ → HookKey → Type 0
 IsNamed name key = IsProper key × (name_of key ≡ name)
 
--- what is found for a name: the proper key of this name, or nothing where no proper key has it
+-- what is found for a name: the proper key with this name, or nothing if no proper key has it
 abbrev pub IsKeyOf : List ℕ → Option HookKey → Type 0
 IsKeyOf name None = (key : HookKey) → IsProper key → name_of key ≢ name
 IsKeyOf name (Some key) = IsNamed name key
 
--- two proper keys with one name are one
+-- two proper keys with the same name are the same key
 abbrev pub NamesDiffer : Type 0
 NamesDiffer = (a b : HookKey) → IsProper a → IsProper b → name_of a ≡ name_of b → a ≡ b
 

@@ -1,4 +1,4 @@
--- Types and what is done with variables, each once, in the order of their declarations; and the place of each.
+-- The types, and what an instruction does with a variable: each once, in the order of the declarations, and with its place.
 use Rattle.std.specs.Prelude.{ℕ, List, [], ◌∷◌}
 use Rattle.wasm_num.specs.declared.ValType.{ValType}
 use Rattle.wasm_num.specs.declared.ValType.TheVariants as types

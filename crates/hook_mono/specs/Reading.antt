@@ -1,4 +1,4 @@
--- The key of a name.
+-- Which key a name has.
 use Rattle.std.specs.Prelude.{◌==◌, ℕ, List, [], ◌∷◌, cond, Option, Some, None, option_and_then, codes, find, bytes_eq}
 use Rattle.std.specs.Option.{option_map}
 use Rattle.wasm_num.specs.declared.ValType.{ValType}
@@ -7,30 +7,25 @@ use Rattle.wasm_num.specs.declared.BlockKind.{BlockKind}
 use Rattle.wasm_num.specs.Names.{num_name}
 use Rattle.module_ast.specs.declared.ops.VarOp.TheVariants.{Get, Set, Tee}
 use Rattle.module_ast.specs.Binary.{load_name, store_name, load_ops, store_ops}
-use Rattle.hook_select.specs.declared.GroupName.{GroupName}
-use Rattle.hook_select.specs.declared.GroupName.TheVariants as groups
 use Rattle.wasm_num.specs.Kinds.{all_kinds, kind_name}
 use Rattle.wasm_num.specs.Opcodes.{num_ops}
 use Rattle.hook_mono.specs.declared.HookKey.{HookKey}
 use Rattle.hook_mono.specs.declared.HookKey.TheVariants.{Plain, Begin, End, Const, Num, Drop, Select, Local, Global, Load, Store, CallPre, IndirectPre, CallPost, Return}
 use Rattle.hook_mono.specs.Orders.{both_types}
+use Rattle.hook_mono.specs.Plains.{plain_groups}
 use Rattle.hook_mono.specs.Names.{plain_name, const_name}
-
--- the groups that are a key by themselves, in their order
-abbrev pub plain_groups : List GroupName
-plain_groups = groups.Start ∷ groups.Nop ∷ groups.Unreachable ∷ groups.If ∷ groups.Br ∷ groups.BrIf ∷ groups.BrTable ∷ groups.MemorySize ∷ groups.MemoryGrow ∷ []
 
 -- the one of these with this name
 abbrev pub named : {A : Type 0} → (A → List ℕ) → List A → List ℕ → Option A
 named name_of xs name = find (λ x. bytes_eq (name_of x) name) xs
 
--- what stands behind the head
+-- what follows the head in a name that begins with it
 abbrev pub strip : (head name : List ℕ) → Option (List ℕ)
 strip [] name = Some name
 strip (h ∷ head) [] = None
 strip (h ∷ head) (b ∷ name) = cond (h == b) (strip head name) None
 
--- i for i32, l for i64
+-- the type of a letter: i for i32, l for i64
 abbrev pub letter_type : ℕ → Option ValType
 letter_type b = cond (b == 105) (Some I32) (cond (b == 108) (Some I64) None)
 
@@ -46,7 +41,7 @@ one_type _ = None
 abbrev pub Reader : Type 0
 Reader = List ℕ → Option HookKey
 
--- the key of a kind of block, of a type or of a list of types behind this head
+-- reads a name that has, after this head, the name of a kind of block, the letter of a type, or the letters of a list of types
 abbrev pub kind_behind : List ℕ → (BlockKind → HookKey) → Reader
 kind_behind head make name = option_map make (option_and_then (named kind_name all_kinds) (strip head name))
 
@@ -60,12 +55,12 @@ abbrev pub or_read : Option HookKey → Option HookKey → Option HookKey
 or_read None later = later
 or_read (Some key) later = Some key
 
--- the first key that one of them reads
+-- the key of the first reader that finds one
 abbrev pub first_read : List Reader → Reader
 first_read [] name = None
 first_read (read ∷ readers) name = or_read (read name) (first_read readers name)
 
--- of groups, blocks, constants and operations
+-- the readers of names of groups, blocks, constants and operations
 abbrev pub fixed_readers : List Reader
 fixed_readers =
     (λ name. option_map Plain (named plain_name plain_groups name))
@@ -77,7 +72,7 @@ fixed_readers =
     ∷ (λ name. option_map Store (named store_name store_ops name))
     ∷ []
 
--- of one type
+-- the readers of names with the letter of one type
 abbrev pub letter_readers : List Reader
 letter_readers =
     type_behind (codes "drop_") Drop
@@ -89,7 +84,7 @@ letter_readers =
     ∷ type_behind (codes "global.set_") (Global Set)
     ∷ []
 
--- of a list of types
+-- the readers of names with the letters of a list of types
 abbrev pub types_readers : List Reader
 types_readers =
     types_behind (codes "call_pre_") CallPre
@@ -98,6 +93,6 @@ types_readers =
     ∷ types_behind (codes "return_") Return
     ∷ []
 
--- the proper key of this name
+-- the key that has this name
 abbrev pub key_named : List ℕ → Option HookKey
 key_named name = or_read (first_read fixed_readers name) (or_read (first_read letter_readers name) (first_read types_readers name))

@@ -1,4 +1,4 @@
--- The names of hooks are ASCII, and so texts.
+-- The names of hooks are ASCII, so they are texts.
 use Rattle.std.specs.Prelude.{◌≡◌, List, [], ◌∷◌, ◌++◌, true, codes, refl}
 use Rattle.leb_binary.specs.Ascii.{is_ascii}
 use Rattle.leb_binary.proofs.Ascii.{ascii_both}
@@ -25,7 +25,7 @@ use Rattle.hook_mono.specs.declared.HookKey.{HookKey}
 use Rattle.hook_mono.specs.declared.HookKey.TheVariants as keys
 use Rattle.hook_mono.specs.Names.{letters, plain_name, var_name, name_of}
 
--- the parts of names
+-- the parts of names are ASCII
 plain_ascii : (g : GroupName) → is_ascii (plain_name g) ≡ true
 plain_ascii groups.Start = refl
 plain_ascii g = refl
@@ -55,7 +55,7 @@ letters_ascii [] = refl
 letters_ascii (I32 ∷ ts) = letters_ascii ts
 letters_ascii (I64 ∷ ts) = letters_ascii ts
 
--- a variable's name, behind what it is a variable of
+-- the part of a variable's name that follows `local.` or `global.`
 letter_ascii : (op : VarOp) (t : ValType) → is_ascii (var_name op ++ letters (t ∷ [])) ≡ true
 letter_ascii op t = ascii_both (var_name op) (letters (t ∷ [])) (var_ascii op) (letters_ascii (t ∷ []))
 

@@ -1,4 +1,4 @@
-// Keys compared and hashed: by the variant, by what it holds beside types, and by the types.
+// Compares and hashes keys, by their variant, by what they hold except types, and by their types.
 
 ghost use Rattle.std.specs.Prelude.{◌≡◌, map, flat_map, fold};
 ghost use Rattle.std.specs.Hash as fed;
@@ -35,7 +35,8 @@ impl HookKey {
         }
     }
 
-    // What the key holds beside types, as its place among its kind, or its opcode.
+    // What the key holds except types, as a number: the number of a group, of a kind of block or of what is done with a
+    // variable, or an opcode. It is 0 if the key holds none of these.
     fn detail(&self) -> u8
         ensures { result ≡ key_detail self.now }
     {
@@ -52,7 +53,7 @@ impl HookKey {
         }
     }
 
-    // The types that the key holds.
+    // The types that the key holds, in order.
     fn types(&self) -> &[ValType]
         ensures { result.now ≡ key_types self.now }
     {
@@ -71,14 +72,14 @@ impl HookKey {
     }
 }
 
-// Whether two lists have the same types.
+// Whether two lists have the same types in the same order.
 fn same_types(left: &[ValType], right: &[ValType]) -> bool
     ensures { result ≡ bytes_eq (map type_number left.now) (map type_number right.now) }
 {
     left == right
 }
 
-// Feeds each type's number.
+// Feeds the number of each type to a hasher.
 fn feed_types<H: Hasher>(state: &mut H, types: &[ValType])
     ensures { state.new ≡ fold H.write state.old (flat_map fed.u8 (map type_number types.now)) }
 {

@@ -1,4 +1,4 @@
-// What holds of keys and their types.
+// Laws of keys, of their names, and of the types.
 
 ghost use Rattle.module_ast.specs.declared.module.Module.{Module};
 ghost use Rattle.hook_select.specs.declared.Hooks.{Hooks};
@@ -8,13 +8,13 @@ ghost use Rattle.hook_mono.specs.Needed.{NeedsJoin};
 
 use crate::{HookKey, HookTable};
 
-/// Two proper keys never have one name, and for the name of a proper key nothing but that key is found.
+/// No two proper keys have the same name, and for the name of a proper key nothing but that key is found.
 pub fn names_differ()
     ensures differ { NamesDiffer }
     ensures back { NamesLeadBack }
 {}
 
-/// Keys that are found equal are one key.
+/// Keys that compare equal are the same key.
 pub fn keys_differ()
     ensures { KeysDiffer }
 {}
@@ -24,12 +24,12 @@ pub fn needs_join()
     ensures { (m : Module) (hooks : Hooks) → NeedsJoin m hooks }
 {}
 
-/// A key may go to other threads, and several may read one at once.
+/// A key may go to other threads, and several threads may read it at the same time.
 pub fn keys_cross_threads(key: &HookKey) {
     is_send_and_sync(key);
 }
 
-/// A table of hooks may go to other threads, and several may read one at once.
+/// A table of hooks may go to other threads, and several threads may read it at the same time.
 pub fn tables_cross_threads(table: &HookTable) {
     is_send_and_sync(table);
 }

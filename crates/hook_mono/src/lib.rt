@@ -1,9 +1,10 @@
-// Hooks: one imported function for each key.
+// The hooks: one imported function for each key, with its name and its type.
 #![tactic(auto)]
 
 mod compare;
 pub mod laws;
 mod names;
+mod plain;
 mod read;
 mod table;
 mod types;
@@ -17,26 +18,40 @@ use module_ast::ops::{LoadOp, StoreOp, VarOp};
 use module_ast::seq::Seq;
 use wasm_num::{BlockKind, NumOp, ValType};
 
-/// The module that hooks are imported from. No module that gets hooks imports anything from it.
+/// The name of the module that hooks are imported from. No module that gets hooks imports anything from it.
 pub const HOOK_MODULE: &str = "__wasabi_hooks";
 
-/// What a hook is for. `Plain` stands for start, nop, unreachable, if, br, br_if, br_table, memory_size and memory_grow
-/// alone, and a global has no `Tee`.
+/// What a hook is for. `Plain` is for the groups that are a key by themselves, such as `nop` and `br_if`. A global has no `Tee`.
 #[derive(Drop)]
 pub enum HookKey {
+    /// A group that has one hook.
     Plain(GroupName),
+    /// A part of this kind begins.
     Begin(BlockKind),
+    /// A part of this kind ends.
     End(BlockKind),
+    /// A constant of this type.
     Const(ValType),
+    /// This number instruction.
     Num(NumOp),
+    /// A `drop` of an operand of this type.
     Drop(ValType),
+    /// A `select` between operands of this type.
     Select(ValType),
+    /// A local of this type is read or set.
     Local(VarOp, ValType),
+    /// A global of this type is read or set.
     Global(VarOp, ValType),
+    /// This load.
     Load(LoadOp),
+    /// This store.
     Store(StoreOp),
+    /// Before a `call` with arguments of these types.
     CallPre(Seq<ValType>),
+    /// Before a `call_indirect` with arguments of these types.
     IndirectPre(Seq<ValType>),
+    /// After a `call` or a `call_indirect` with results of these types.
     CallPost(Seq<ValType>),
+    /// A `return`, or the last `end` of a function, with results of these types.
     Return(Seq<ValType>),
 }

@@ -1,17 +1,19 @@
-// Names of hooks.
+// The names of hooks.
 
 ghost use Rattle.std.specs.Prelude.{◌≡◌, ◌++◌, codes, IfOk, string_bytes};
-ghost use Rattle.hook_mono.specs.Names.{const_name, letters, name_of, plain_name, var_name};
+ghost use Rattle.hook_mono.specs.Names.{const_name, letters, name_of, var_name};
 ghost use Rattle.hook_mono.specs.Texts.{hook_text};
 
 use crate::HookKey;
-use hook_select::GroupName;
+use crate::plain::plain_name;
 use module_ast::name::Name;
 use module_ast::ops::VarOp;
 use std::alloc::Global;
 use wasm_num::{NoMemory, ValType};
 
-/// The name of the hook of a key: no two proper keys have one name. It is in ASCII.
+/// The name of the hook of a key, in ASCII. No two proper keys have the same name.
+///
+/// `NoMemory` if memory runs out.
 pub fn name_of(alloc: Global, key: &HookKey) -> Result<Name, NoMemory>
     ensures { IfOk result (λ name. name ≡ hook_text key.now) }
 {
@@ -19,7 +21,7 @@ pub fn name_of(alloc: Global, key: &HookKey) -> Result<Name, NoMemory>
     Ok(Name::from_string(text))
 }
 
-// The name as a string.
+// The name of the hook of a key, as a string.
 fn text_of(alloc: Global, key: &HookKey) -> Result<String, NoMemory>
     ensures { IfOk result (λ text. string_bytes text ≡ name_of key.now) }
 {
@@ -51,7 +53,9 @@ fn joined(alloc: Global, head: &str, tail: &str) -> Result<String, NoMemory>
     Ok(text)
 }
 
-/// A text, and then a letter for each type: i for `i32`, and l for `i64`. An `Err` comes where there is no memory.
+/// A text, and then a letter for each type: `i` for `i32` and `l` for `i64`.
+///
+/// `NoMemory` if memory runs out.
 pub fn with_letters(alloc: Global, head: &str, types: &[ValType]) -> Result<String, NoMemory>
     ensures { IfOk result (λ text. string_bytes text ≡ head.now ++ letters types.now) }
 {
@@ -63,24 +67,6 @@ pub fn with_letters(alloc: Global, head: &str, types: &[ValType]) -> Result<Stri
         }
     }
     Ok(text)
-}
-
-// The name of the hook of a group that is a key by itself.
-pub(crate) fn plain_name(group: GroupName) -> &'static str
-    ensures { result.now ≡ plain_name group }
-{
-    match group {
-        GroupName::Start => "start",
-        GroupName::Nop => "nop",
-        GroupName::Unreachable => "unreachable",
-        GroupName::If => "if",
-        GroupName::Br => "br",
-        GroupName::BrIf => "br_if",
-        GroupName::BrTable => "br_table",
-        GroupName::MemorySize => "memory.size",
-        GroupName::MemoryGrow => "memory.grow",
-        _ => "",
-    }
 }
 
 fn local_name(op: VarOp) -> &'static str
@@ -103,7 +89,7 @@ fn global_name(op: VarOp) -> &'static str
     }
 }
 
-// The name of the hook of a constant.
+/// The name of the hook of a constant of this type.
 pub(crate) fn const_name(ty: ValType) -> &'static str
     ensures { result.now ≡ const_name ty }
 {

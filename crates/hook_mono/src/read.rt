@@ -1,49 +1,30 @@
-// The key of a name.
+// Finds the key of a hook by its name.
 
 ghost use Rattle.std.specs.Prelude.{◌≡◌, ℕ, List, IfOk, option_and_then};
 ghost use Rattle.std.specs.Option.{option_map};
 ghost use Rattle.wasm_num.specs.Names.{num_name};
 ghost use Rattle.module_ast.specs.Binary.{load_name, store_name};
 ghost use Rattle.wasm_num.specs.Kinds.{all_kinds, kind_name};
-ghost use Rattle.hook_mono.specs.Names.{plain_name, const_name, IsKeyOf};
+ghost use Rattle.hook_mono.specs.Names.{const_name, IsKeyOf};
 ghost use Rattle.hook_mono.specs.Reading.{named, strip, letter_type, letter_types, one_type, first_read, fixed_readers, letter_readers, types_readers, key_named};
 
 use crate::HookKey;
-use crate::names::{const_name, plain_name};
+use crate::names::const_name;
+use crate::plain::plain_named;
 use hook_select::GroupName;
 use module_ast::ops::{LoadOp, StoreOp, VarOp};
 use module_ast::seq::Seq;
 use std::alloc::Global;
 use wasm_num::{BlockKind, NoMemory, NumOp, ValType};
 
-const PLAINS: [GroupName; 9] = [
-    GroupName::Start,
-    GroupName::Nop,
-    GroupName::Unreachable,
-    GroupName::If,
-    GroupName::Br,
-    GroupName::BrIf,
-    GroupName::BrTable,
-    GroupName::MemorySize,
-    GroupName::MemoryGrow,
-];
-
 const VAL_TYPES: [ValType; 2] = [ValType::I32, ValType::I64];
 
-// What a hook's name is made of.
+// What has a name of its own in the names of hooks.
 trait HasName: Copy {
     ghost hook_name: { Self → List ℕ };
 
     fn hook_name(self) -> &'static str
         ensures { result.now ≡ hook_name self };
-}
-
-impl HasName for GroupName {
-    ghost hook_name = { plain_name };
-
-    fn hook_name(self) -> &'static str {
-        plain_name(self)
-    }
 }
 
 impl HasName for BlockKind {
@@ -86,15 +67,18 @@ impl HasName for StoreOp {
     }
 }
 
-/// The proper key of that name; none where no proper key has it. It goes over the name a few times, and over its letters of
+/// The proper key that has this name; `None` if no proper key has it. Goes over the name a few times, and over its letters of
 /// types once.
+///
+/// `NoMemory` if memory runs out.
 pub fn key_of(alloc: Global, name: &str) -> Result<Option<HookKey>, NoMemory>
     ensures { IfOk result (IsKeyOf name.now) }
 {
     read_key(alloc, name)
 }
 
-// The key that is read first.
+// The key of a name: a name without letters of types is tried first, then one with the letter of one type, then one with the
+// letters of a list of types.
 fn read_key(alloc: Global, name: &str) -> Result<Option<HookKey>, NoMemory>
     ensures { IfOk result (λ found. found ≡ key_named name.now) }
 {
@@ -107,11 +91,11 @@ fn read_key(alloc: Global, name: &str) -> Result<Option<HookKey>, NoMemory>
     types_key(alloc, name)
 }
 
-// The key of a group, a block, a constant or an operation.
+// The key of a name that is the name of a group, of a constant or of an operation, or that begins with `begin_` or `end_`.
 fn fixed_key(name: &str) -> Option<HookKey>
     ensures { result ≡ first_read fixed_readers name.now }
 {
-    if let Some(group) = named(&PLAINS, name) {
+    if let Some(group) = plain_named(&GroupName::ALL, name) {
         return Some(HookKey::Plain(group));
     }
     if let Some(kind) = kind_behind("begin_", name) {
@@ -135,7 +119,7 @@ fn fixed_key(name: &str) -> Option<HookKey>
     None
 }
 
-// The key of one type.
+// The key of a name that ends with the letter of one type.
 fn letter_key(name: &str) -> Option<HookKey>
     ensures { result ≡ first_read letter_readers name.now }
 {
@@ -163,7 +147,7 @@ fn letter_key(name: &str) -> Option<HookKey>
     None
 }
 
-// The key of a list of types.
+// The key of a name that ends with the letters of a list of types.
 fn types_key(alloc: Global, name: &str) -> Result<Option<HookKey>, NoMemory>
     ensures { IfOk result (λ found. found ≡ first_read types_readers name.now) }
 {
@@ -182,19 +166,14 @@ fn types_key(alloc: Global, name: &str) -> Result<Option<HookKey>, NoMemory>
     Ok(None)
 }
 
-// The one of these with this name.
+// The item that has this name, if there is one.
 fn named<T: HasName>(all: &[T], name: &str) -> Option<T>
     ensures { result ≡ named T.hook_name all.now name.now }
 {
-    for item in all {
-        if item.hook_name() == name {
-            return Some(*item);
-        }
-    }
-    None
+    all.iter().copied().find(|item| item.hook_name() == name)
 }
 
-// What stands behind the head.
+// What follows the head in a name; `None` if the name does not begin with the head.
 fn strip<'a>(head: &str, name: &'a str) -> Option<&'a str>
     ensures { option_map (λ rest. rest.now) result ≡ strip head.now name.now }
 {
@@ -228,7 +207,7 @@ fn types_behind(alloc: Global, head: &str, name: &str) -> Result<Option<Seq<ValT
     }
 }
 
-// The type of a text of one letter.
+// The type of a text of one letter; `None` for any other text.
 fn one_type(letters: &[u8]) -> Option<ValType>
     ensures { result ≡ one_type letters.now }
 {
@@ -238,8 +217,9 @@ fn one_type(letters: &[u8]) -> Option<ValType>
     }
 }
 
-/// The types of a text of the letters i, for `i32`, and l, for `i64`; none where there is another letter. An `Err` comes where
-/// there is no memory.
+/// The types of a text that has a letter for each: `i` for `i32` and `l` for `i64`. `None` if the text has any other byte.
+///
+/// `NoMemory` if memory runs out.
 pub fn letter_types(alloc: Global, letters: &[u8]) -> Result<Option<Seq<ValType>>, NoMemory>
     ensures { IfOk result (λ types. types ≡ letter_types letters.now) }
 {
@@ -253,7 +233,7 @@ pub fn letter_types(alloc: Global, letters: &[u8]) -> Result<Option<Seq<ValType>
     Ok(Some(Seq::from_vec(types)))
 }
 
-// The type of a letter.
+// The type of a letter; `None` for any other byte.
 fn letter_type(letter: u8) -> Option<ValType>
     ensures { result ≡ letter_type letter }
 {

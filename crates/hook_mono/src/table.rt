@@ -1,4 +1,4 @@
-// Keys in the order of first need.
+// The hooks of a module: keys in the order in which they were first needed.
 
 ghost use Rattle.std.specs.Prelude.{◌≡◌, ◌+◌, ◌<◌, ◌^◌, ◌↔◌, [], length, slice_get, option_copied, Some, IfOk, OnOk, OnErr, IsTrue};
 ghost use Rattle.std.specs.List.{IsDistinct};
@@ -10,13 +10,13 @@ use std::alloc::Global;
 use std::marker::Model;
 use wasm_num::NoMemory;
 
-/// The hooks of a module: distinct keys, numbered from 0 in the order in which they came, which contracts see as their list.
+/// The hooks of a module: distinct keys, numbered from 0 in the order in which they were added. Contracts see the list of keys.
 /// A key is looked up by its hash, in time that does not grow with the table.
 pub struct HookTable {
     keys: IndexSet<HookKey>,
 }
 
-// By a call of its own, so that a way out past it is one step in a proof.
+// Dropped by hand: each early return past a value of this type then costs one proof step instead of one per field.
 impl Drop for HookTable {
     fn drop(self) {
         let HookTable { keys: _keys } = self;
@@ -35,7 +35,7 @@ impl Model for HookTable {
 }
 
 impl HookTable {
-    /// No key yet. It allocates nothing.
+    /// A table without keys. Takes no memory.
     pub fn new(alloc: Global) -> HookTable
         ensures { result ≡ [] }
     {
@@ -44,7 +44,9 @@ impl HookTable {
         }
     }
 
-    /// The key's number; a new key goes last. After an `Err` the table is as before.
+    /// The number of a key, which is added as the last one if it is new.
+    ///
+    /// `NoMemory` if memory runs out; the table is then as it was.
     pub fn need(&mut self, key: HookKey) -> Result<u32, NoMemory>
         requires { length self.old + 1 < 2 ^ 32 }
         ensures keys { OnOk result (self.new ≡ with_key self.old key) }
@@ -55,7 +57,7 @@ impl HookTable {
         Ok(place as u32)
     }
 
-    /// The key's number, if it is there.
+    /// The number of a key, if it is in the table.
     pub fn find(&self, key: &HookKey) -> Option<u32>
         ensures { result ≡ find_key self.now key.now }
     {
@@ -65,18 +67,18 @@ impl HookTable {
         }
     }
 
-    /// The key of this number; none past the last.
+    /// The key with this number; `None` if the number is past the last one.
     pub fn key_at(&self, number: u32) -> Option<&HookKey>
         ensures { option_copied result ≡ slice_get self.now number }
     {
         self.keys.get_index(number as usize)
     }
 
-    /// How many keys there are.
+    /// How many keys there are, fewer than 2^32.
     pub fn len(&self) -> u32
         ensures len { result ≡ length self.now }
 
-        // No key stands twice.
+        // No key is there twice.
         ensures distinct { IsDistinct key_eq self.now }
     {
         self.keys.len() as u32
@@ -96,7 +98,9 @@ impl HookTable {
         self.keys.as_slice()
     }
 
-    /// The keys, in order, as a list of their own. An `Err` comes where there is no memory for it.
+    /// The keys, in order, as a `Vec` of their own.
+    ///
+    /// `NoMemory` if memory runs out.
     pub fn into_keys(self, alloc: Global) -> Result<Vec<HookKey>, NoMemory>
         ensures { IfOk result (λ keys. keys.items ≡ self) }
     {

@@ -2,16 +2,19 @@
 
 ghost use Rattle.std.specs.Prelude.{◌≡◌, ◌++◌, [], ◌∷◌, flat_map, IfOk, OnOk};
 ghost use Rattle.wasm_num.specs.Shapes.{num_operands, num_result};
-ghost use Rattle.hook_mono.specs.Words.{plain_values, value_types, word_types, hook_type};
+ghost use Rattle.hook_mono.specs.Words.{value_types, word_types, hook_type};
 
 use crate::HookKey;
-use hook_select::GroupName;
+use crate::plain::plain_values;
 use module_ast::module::FuncType;
 use module_ast::seq::Seq;
 use std::alloc::Global;
 use wasm_num::{NoMemory, NumOp, ValType};
 
-/// The type of the hook of a key: the function, the position, and the words of further values, all of 32 bits; no result.
+/// The type of the hook of a key. Its parameters, all of type i32, are the function, the position, and the words of the further
+/// values. It has no results.
+///
+/// `NoMemory` if memory runs out.
 pub fn type_of(alloc: Global, key: &HookKey) -> Result<FuncType, NoMemory>
     ensures { IfOk result (λ ty. ty ≡ hook_type key.now) }
 {
@@ -25,7 +28,7 @@ pub fn type_of(alloc: Global, key: &HookKey) -> Result<FuncType, NoMemory>
     })
 }
 
-// The words of the values behind function and position.
+// Appends the words of the values that follow the function and the position.
 fn push_values(params: &mut Vec<ValType>, key: &HookKey) -> Result<(), NoMemory>
     ensures { OnOk result (params.new.items ≡ params.old.items ++ flat_map word_types (value_types key.now)) }
 {
@@ -54,7 +57,7 @@ fn push_values(params: &mut Vec<ValType>, key: &HookKey) -> Result<(), NoMemory>
     }
 }
 
-// The words of values of these types: one for 32 bits, two for 64.
+// Appends the words of values of these types: one for an i32, two for an i64.
 fn push_words(params: &mut Vec<ValType>, types: &[ValType]) -> Result<(), NoMemory>
     ensures { OnOk result (params.new.items ≡ params.old.items ++ flat_map word_types types.now) }
 {
@@ -67,22 +70,10 @@ fn push_words(params: &mut Vec<ValType>, types: &[ValType]) -> Result<(), NoMemo
     Ok(())
 }
 
-// The words of the operands and of the result of a number instruction.
+// Appends the words of the operands and of the result of a number instruction.
 fn push_num(params: &mut Vec<ValType>, op: NumOp) -> Result<(), NoMemory>
     ensures { OnOk result (params.new.items ≡ params.old.items ++ flat_map word_types (num_operands op ++ num_result op ∷ [])) }
 {
     push_words(params, op.operand_types())?;
     push_words(params, &[op.result_type()])
-}
-
-// The types behind function and position of a group that is a key by itself.
-fn plain_values(group: GroupName) -> &'static [ValType]
-    ensures { result.now ≡ plain_values group }
-{
-    match group {
-        GroupName::If | GroupName::BrTable | GroupName::MemorySize => &[ValType::I32],
-        GroupName::Br | GroupName::MemoryGrow => &[ValType::I32, ValType::I32],
-        GroupName::BrIf => &[ValType::I32, ValType::I32, ValType::I32],
-        _ => &[],
-    }
 }

@@ -1,12 +1,11 @@
 -- A list of names read from the front on.
-use Rattle.std.proofs.Common.{◌≡◌, ℕ, ◌+◌, List, [], ◌∷◌, Bool, true, false, ◌||◌, cond, Option, Some, None, is_none, length, Bor, refl, sym, ap, ◌∙◌}
+use Rattle.std.proofs.Common.{◌≡◌, ℕ, ◌+◌, List, [], ◌∷◌, Bool, true, false, ◌||◌, cond, Option, Some, None, is_none, refl, sym, ap, ◌∙◌}
 use Rattle.std.specs.List.{position_from, cons_option}
-use Rattle.std.specs.Option.{option_map}
 use Rattle.std.proofs.lemmas.Iterator.Adapters.{position_from-zero}
 use Rattle.hook_select.specs.declared.GroupName.{GroupName}
 use Rattle.hook_select.specs.declared.GroupName.TheVariants as groups
 use Rattle.hook_select.specs.declared.Hooks.{Hooks}
-use Rattle.hook_select.specs.Groups.{ListReading, has, hooks_of, group_eq, is_among, group_named, groups_named, reading_of, list_pieces, with_group, more_pieces}
+use Rattle.hook_select.specs.Groups.{ListReading, has, hooks_of, group_eq, is_among, group_named, groups_named, reading_of, list_pieces, with_group}
 use Rattle.hook_select.specs.Groups.ListReading.{reads, unknown}
 
 abbrev pub read_next : (place : ℕ) → Option GroupName → (GroupName → ListReading) → ListReading
@@ -66,12 +65,3 @@ pub list_reads : (names : List (List ℕ)) → list_pieces names ≡ rest_reads 
 list_reads names =
     let unnamed : List ℕ → Bool = λ name. is_none (group_named name) in
     ap (λ o. reading_of o (groups_named names)) (position_from-zero unnamed names) ∙ sym (same_end _ (groups_named names)) ∙ sym (read_on names 0 (λ g. false))
-
--- one more than the bytes that are left, if there is a piece left
-abbrev pub left : Option (Bor (List ℕ)) → ℕ
-left None = 0
-left (Some text) = 1 + length text.now
-
--- what is left of a text
-abbrev pub names_left : Option (Bor (List ℕ)) → List (List ℕ)
-names_left rest = more_pieces (option_map (λ text. text.now) rest)

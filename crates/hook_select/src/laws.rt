@@ -1,8 +1,8 @@
-// What holds of the types.
+// Laws of the types.
 
 use crate::Hooks;
 
-/// A set of groups may go to other threads, and several may read one at once.
+/// A set of groups may go to other threads, and several threads may read it at the same time.
 pub fn hooks_cross_threads(hooks: &Hooks) {
     is_send_and_sync(hooks);
 }

@@ -1,4 +1,4 @@
-// Hook groups and events.
+// The groups of hooks, sets of groups, and the events that hooks report.
 #![tactic(auto)]
 
 pub mod laws;
@@ -11,7 +11,79 @@ use module_ast::module::Loc;
 use module_ast::ops::{LoadOp, StoreOp, VarOp};
 use wasm_num::{BlockKind, NumOp, Value, Values};
 
-/// The groups of hooks, in their fixed order.
+// Passes to the macro `$to` what it is given here, and then each group in the fixed order with its flag and its name.
+macro_rules! each_group {
+    ($to:ident($($given:tt)*)) => {
+        $to! {
+            ($($given)*)
+            Start start "start"
+            Nop nop "nop"
+            Unreachable unreachable "unreachable"
+            If if_ "if"
+            Br br "br"
+            BrIf br_if "br_if"
+            BrTable br_table "br_table"
+            Begin begin "begin"
+            End end "end"
+            Const const_ "const"
+            Unary unary "unary"
+            Binary binary "binary"
+            Drop drop "drop"
+            Select select "select"
+            Local local "local"
+            Global global "global"
+            Load load "load"
+            Store store "store"
+            MemorySize memory_size "memory_size"
+            MemoryGrow memory_grow "memory_grow"
+            Call call "call"
+            Return return_ "return"
+        }
+    };
+}
+
+// The groups, as an array.
+macro_rules! groups {
+    (() $($group:ident $flag:ident $name:literal)*) => {
+        [$(GroupName::$group),*]
+    };
+}
+
+// The name of a group.
+macro_rules! name_of {
+    (($it:expr) $($group:ident $flag:ident $name:literal)*) => {
+        match $it {
+            $(GroupName::$group => $name,)*
+        }
+    };
+}
+
+// A set in which each group has the same flag.
+macro_rules! flags {
+    (($is_in:expr) $($group:ident $flag:ident $name:literal)*) => {
+        Hooks { $($flag: $is_in),* }
+    };
+}
+
+// The flag of a group.
+macro_rules! flag_of {
+    (($hooks:expr, $it:expr) $($group:ident $flag:ident $name:literal)*) => {
+        match $it {
+            $(GroupName::$group => $hooks.$flag,)*
+        }
+    };
+}
+
+// Sets the flag of a group.
+macro_rules! set_flag {
+    (($hooks:ident, $it:expr) $($group:ident $flag:ident $name:literal)*) => {
+        match $it {
+            $(GroupName::$group => $hooks.$flag = true,)*
+        }
+    };
+}
+
+/// The groups of hooks, in their fixed order. A group is a set of events that is selected as one.
 #[derive(Clone, Copy, PartialEq, Eq)]
 pub enum GroupName {
     Start,
@@ -41,89 +113,82 @@ pub enum GroupName {
 impl GroupName {
     ghost use Rattle.hook_select.specs.Groups.{group_name};
 
+    /// Every group, in the fixed order.
+    pub const ALL: [GroupName; 22] = each_group!(groups());
+
     /// Its name.
     pub fn name(&self) -> &'static str
         ensures { result.now ≡ group_name self.now }
     {
-        match self {
-            GroupName::Start => "start",
-            GroupName::Nop => "nop",
-            GroupName::Unreachable => "unreachable",
-            GroupName::If => "if",
-            GroupName::Br => "br",
-            GroupName::BrIf => "br_if",
-            GroupName::BrTable => "br_table",
-            GroupName::Begin => "begin",
-            GroupName::End => "end",
-            GroupName::Const => "const",
-            GroupName::Unary => "unary",
-            GroupName::Binary => "binary",
-            GroupName::Drop => "drop",
-            GroupName::Select => "select",
-            GroupName::Local => "local",
-            GroupName::Global => "global",
-            GroupName::Load => "load",
-            GroupName::Store => "store",
-            GroupName::MemorySize => "memory_size",
-            GroupName::MemoryGrow => "memory_grow",
-            GroupName::Call => "call",
-            GroupName::Return => "return",
-        }
+        each_group!(name_of(self))
     }
 }
 
-/// What one step of a run shows. `Stray` is a hook call that the information does not explain.
+/// What a step of a run does that hooks can report. `loc` is where it happens in the original, and `target` and `begin` are
+/// positions in the same function. A position is -1 at the entry of a function. Indices of functions count imports.
 #[derive(Drop)]
 pub enum Event {
+    /// The start function begins. Its position is -1.
     Start {
         loc: Loc,
     },
+    /// A `nop`.
     Nop {
         loc: Loc,
     },
+    /// An `unreachable`, which then traps.
     Unreachable {
         loc: Loc,
     },
+    /// An `if`, with its condition, which is false if it is 0.
     If {
         loc: Loc,
         cond: u32,
     },
+    /// A `br`, with the position that its label leads to.
     Br {
         loc: Loc,
         label: u32,
         target: i32,
     },
+    /// A `br_if`, with the position that its label leads to. It branches unless `cond` is 0.
     BrIf {
         loc: Loc,
         label: u32,
         target: i32,
         cond: u32,
     },
+    /// A `br_table`, with its index, the label that the index selects, and the position that this label leads to.
     BrTable {
         loc: Loc,
         index: u32,
         label: u32,
         target: i32,
     },
+    /// A function, a block, a loop or a branch of an `if` begins.
     Begin {
         loc: Loc,
         kind: BlockKind,
     },
+    /// A function, a block, a loop or a branch of an `if` ends. `loc` is where its code ends, and `begin` where it began.
     End {
         loc: Loc,
         kind: BlockKind,
         begin: i32,
     },
+    /// A constant.
     Const {
         loc: Loc,
         value: Value,
     },
+    /// A number instruction with one operand, `a`.
     Unary {
         loc: Loc,
         op: NumOp,
         a: Value,
         result: Value,
     },
+    /// A number instruction with two operands, `a` before `b`.
     Binary {
         loc: Loc,
         op: NumOp,
@@ -131,28 +196,33 @@ pub enum Event {
         b: Value,
         result: Value,
     },
+    /// A `drop`, with the operand that it pops.
     Drop {
         loc: Loc,
         value: Value,
     },
+    /// A `select`, with both values. Its result is `second` if `cond` is 0, and `first` if it is not.
     Select {
         loc: Loc,
         first: Value,
         second: Value,
         cond: u32,
     },
+    /// A local is read or set, with its value.
     Local {
         loc: Loc,
         op: VarOp,
         index: u32,
         value: Value,
     },
+    /// A global is read or set, with its value.
     Global {
         loc: Loc,
         op: VarOp,
         index: u32,
         value: Value,
     },
+    /// A load: the immediate `offset`, the operand `address`, and the value that it pushes.
     Load {
         loc: Loc,
         op: LoadOp,
@@ -160,6 +230,7 @@ pub enum Event {
         address: u32,
         value: Value,
     },
+    /// A store: the immediate `offset`, the operand `address`, and the operand that is stored.
     Store {
         loc: Loc,
         op: StoreOp,
@@ -167,20 +238,25 @@ pub enum Event {
         address: u32,
         value: Value,
     },
+    /// A `memory.size`, with the number of pages.
     MemorySize {
         loc: Loc,
         pages: u32,
     },
+    /// A `memory.grow`: how many pages it asks for, and how many there were before, or 2^32 - 1 if the memory does not grow.
     MemoryGrow {
         loc: Loc,
         by: u32,
         previous: u32,
     },
+    /// A `call`, before the called function begins, with its arguments.
     CallPre {
         loc: Loc,
         callee: u32,
         args: Values,
     },
+    /// A `call_indirect`, before the called function begins: the index of its type, the index in the table, the function that
+    /// is there, if one is, and the arguments.
     IndirectPre {
         loc: Loc,
         ty: u32,
@@ -188,20 +264,23 @@ pub enum Event {
         callee: Option<u32>,
         args: Values,
     },
+    /// A `call` or a `call_indirect` has returned, with the results.
     CallPost {
         loc: Loc,
         results: Values,
     },
+    /// A `return`, or the last `end` of a function, with the results.
     Return {
         loc: Loc,
         results: Values,
     },
+    /// A hook call that the information does not explain, with the number of its hook.
     Stray {
         hook: u32,
     },
 }
 
-/// A set of groups: a flag for each.
+/// A set of groups. Each flag says whether a group is in the set.
 #[derive(Clone, Copy, PartialEq, Eq)]
 pub struct Hooks {
     pub start: bool,
@@ -231,132 +310,48 @@ pub struct Hooks {
 impl Hooks {
     ghost use Rattle.hook_select.specs.Groups.{has, hooks_of, with_group};
 
+    // Every group, or none.
+    const fn each(is_in: bool) -> Hooks
+        ensures { result ≡ hooks_of (λ g. is_in) }
+    {
+        each_group!(flags(is_in))
+    }
+
     /// No group.
     pub const fn none() -> Hooks
         ensures { result ≡ hooks_of (λ g. false) }
     {
-        Hooks {
-            start: false,
-            nop: false,
-            unreachable: false,
-            if_: false,
-            br: false,
-            br_if: false,
-            br_table: false,
-            begin: false,
-            end: false,
-            const_: false,
-            unary: false,
-            binary: false,
-            drop: false,
-            select: false,
-            local: false,
-            global: false,
-            load: false,
-            store: false,
-            memory_size: false,
-            memory_grow: false,
-            call: false,
-            return_: false,
-        }
+        Hooks::each(false)
     }
 
     /// Every group.
     pub const fn all() -> Hooks
         ensures { result ≡ hooks_of (λ g. true) }
     {
-        Hooks {
-            start: true,
-            nop: true,
-            unreachable: true,
-            if_: true,
-            br: true,
-            br_if: true,
-            br_table: true,
-            begin: true,
-            end: true,
-            const_: true,
-            unary: true,
-            binary: true,
-            drop: true,
-            select: true,
-            local: true,
-            global: true,
-            load: true,
-            store: true,
-            memory_size: true,
-            memory_grow: true,
-            call: true,
-            return_: true,
-        }
+        Hooks::each(true)
     }
 
     /// Whether the group is in the set.
     pub fn has(&self, group: GroupName) -> bool
         ensures { result ≡ has self.now group }
     {
-        match group {
-            GroupName::Start => self.start,
-            GroupName::Nop => self.nop,
-            GroupName::Unreachable => self.unreachable,
-            GroupName::If => self.if_,
-            GroupName::Br => self.br,
-            GroupName::BrIf => self.br_if,
-            GroupName::BrTable => self.br_table,
-            GroupName::Begin => self.begin,
-            GroupName::End => self.end,
-            GroupName::Const => self.const_,
-            GroupName::Unary => self.unary,
-            GroupName::Binary => self.binary,
-            GroupName::Drop => self.drop,
-            GroupName::Select => self.select,
-            GroupName::Local => self.local,
-            GroupName::Global => self.global,
-            GroupName::Load => self.load,
-            GroupName::Store => self.store,
-            GroupName::MemorySize => self.memory_size,
-            GroupName::MemoryGrow => self.memory_grow,
-            GroupName::Call => self.call,
-            GroupName::Return => self.return_,
-        }
+        each_group!(flag_of(self, group))
     }
 
-    /// The set with this group.
-    pub fn with(mut self, group: GroupName) -> Hooks
+    /// The set with this group in addition.
+    pub fn with(self, group: GroupName) -> Hooks
         ensures { result ≡ with_group self group }
     {
-        match group {
-            GroupName::Start => self.start = true,
-            GroupName::Nop => self.nop = true,
-            GroupName::Unreachable => self.unreachable = true,
-            GroupName::If => self.if_ = true,
-            GroupName::Br => self.br = true,
-            GroupName::BrIf => self.br_if = true,
-            GroupName::BrTable => self.br_table = true,
-            GroupName::Begin => self.begin = true,
-            GroupName::End => self.end = true,
-            GroupName::Const => self.const_ = true,
-            GroupName::Unary => self.unary = true,
-            GroupName::Binary => self.binary = true,
-            GroupName::Drop => self.drop = true,
-            GroupName::Select => self.select = true,
-            GroupName::Local => self.local = true,
-            GroupName::Global => self.global = true,
-            GroupName::Load => self.load = true,
-            GroupName::Store => self.store = true,
-            GroupName::MemorySize => self.memory_size = true,
-            GroupName::MemoryGrow => self.memory_grow = true,
-            GroupName::Call => self.call = true,
-            GroupName::Return => self.return_ = true,
-        }
-        self
+        let mut hooks = self;
+        each_group!(set_flag(hooks, group));
+        hooks
     }
 }
 
 impl Event {
     ghost use Rattle.hook_select.specs.Events.{group_of};
 
-    /// The event's group; none for a `Stray`.
+    /// The group of the event; `None` for a `Stray`.
     pub fn group(&self) -> Option<GroupName>
         ensures { result ≡ group_of self.now }
     {

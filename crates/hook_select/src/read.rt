@@ -1,52 +1,37 @@
-// Lists of groups as text.
+// Reads lists of groups from text.
 
-ghost use Rattle.std.specs.Prelude.{◌≡◌, ◌∷◌, ◌<◌, length, IfOk, IfErr, IfSome};
-ghost use Rattle.std.specs.Option.{option_map};
+ghost use Rattle.std.specs.Prelude.{◌≡◌, find, bytes_eq, IfOk, IfErr};
 ghost use Rattle.hook_select.specs.Groups.ListReading.{reads, unknown};
-ghost use Rattle.hook_select.specs.Groups.{group_named, pieces, more_pieces, list_pieces, read_list};
+ghost use Rattle.hook_select.specs.Groups.{group_name, group_named, pieces, list_pieces, read_list};
 
 use crate::{GroupName, Hooks};
 
-/// The group of that name, if there is one.
+/// The group with this name, if there is one.
 pub fn group_named(name: &str) -> Option<GroupName>
     ensures { result ≡ group_named name.now }
 {
-    match name {
-        "start" => Some(GroupName::Start),
-        "nop" => Some(GroupName::Nop),
-        "unreachable" => Some(GroupName::Unreachable),
-        "if" => Some(GroupName::If),
-        "br" => Some(GroupName::Br),
-        "br_if" => Some(GroupName::BrIf),
-        "br_table" => Some(GroupName::BrTable),
-        "begin" => Some(GroupName::Begin),
-        "end" => Some(GroupName::End),
-        "const" => Some(GroupName::Const),
-        "unary" => Some(GroupName::Unary),
-        "binary" => Some(GroupName::Binary),
-        "drop" => Some(GroupName::Drop),
-        "select" => Some(GroupName::Select),
-        "local" => Some(GroupName::Local),
-        "global" => Some(GroupName::Global),
-        "load" => Some(GroupName::Load),
-        "store" => Some(GroupName::Store),
-        "memory_size" => Some(GroupName::MemorySize),
-        "memory_grow" => Some(GroupName::MemoryGrow),
-        "call" => Some(GroupName::Call),
-        "return" => Some(GroupName::Return),
-        _ => None,
-    }
+    first_named(&GroupName::ALL, name)
 }
 
-/// A text is no list of groups: the place of its first piece that names no group, counted from 0.
+// The first of these groups with this name.
+fn first_named(groups: &[GroupName], name: &str) -> Option<GroupName>
+    ensures { result ≡ find (λ g. bytes_eq (group_name g) name.now) groups.now }
+{
+    groups.iter().copied().find(|group| group.name() == name)
+}
+
+/// A text is not a list of groups, because one of its pieces names no group.
 #[derive(Clone, Copy, Debug, PartialEq, Eq)]
 pub struct UnknownGroup {
+    /// The place of the first such piece among the pieces between commas, counted from 0.
     pub place: u64,
 }
 
-/// The set of groups of a text: `all`, `none`, or names of groups with single commas between them, where repeats are allowed.
-/// An `Err` comes where a piece between commas names no group, and has the place of the first such piece. So the empty
-/// text has one piece, which names none, and `all` and `none` name no group of a longer list.
+/// The set of the groups that a text lists: `all`, `none`, or names of groups with single commas between them. A name may be
+/// repeated.
+///
+/// `UnknownGroup` if a piece between commas names no group. The empty text has one piece, which names none, and `all` and
+/// `none` are no names in a longer list.
 pub fn read_list(text: &str) -> Result<Hooks, UnknownGroup>
     ensures reads { IfOk result (λ hooks. read_list text.now ≡ reads hooks) }
     ensures unknown { IfErr result (λ e. read_list text.now ≡ unknown e.place) }
@@ -58,33 +43,19 @@ pub fn read_list(text: &str) -> Result<Hooks, UnknownGroup>
     }
 }
 
-// The set of the groups that the pieces name.
+// The set of the groups that the pieces of a text name.
 fn read_names(text: &str) -> Result<Hooks, UnknownGroup>
     ensures reads { IfOk result (λ hooks. list_pieces (pieces text.now) ≡ reads hooks) }
     ensures unknown { IfErr result (λ e. list_pieces (pieces text.now) ≡ unknown e.place) }
 {
     let mut hooks = Hooks::none();
     let mut place = 0;
-    let mut rest = Some(text);
-    while let Some(list) = rest {
-        let (name, later) = next_piece(list);
+    for name in text.split(',') {
         match group_named(name) {
             Some(group) => hooks = hooks.with(group),
             None => return Err(UnknownGroup { place }),
         }
-        rest = later;
         place += 1;
     }
     Ok(hooks)
-}
-
-// The first piece of a list, up to a comma, and what stands behind that comma.
-fn next_piece(list: &str) -> (&str, Option<&str>)
-    ensures pieces { pieces list.now ≡ result.0.now ∷ more_pieces (option_map (λ later. later.now) result.1) }
-    ensures shorter { IfSome result.1 (λ later. length later.now < length list.now) }
-{
-    match list.split_once(',') {
-        Some((name, later)) => (name, Some(later)),
-        None => (list, None),
-    }
 }
