@@ -2,14 +2,12 @@
 
 ghost use Rattle.std.specs.Prelude.{◌≡◌, ◌+◌, nat_le};
 ghost use Rattle.std.specs.Option.{option_copied};
-ghost use Rattle.module_ast.specs.Structure.{tables_of, memories_of, spaces_of};
-ghost use Rattle.module_ast.specs.Validation.{IsValid, IsComplete};
+ghost use Rattle.module_ast.specs.Structure.{tables_of, memories_of};
 ghost use Rattle.wasm_sem.specs.Execution.{link, calls_refusal, refusal_unless, memory_cap, table_cap, segment_range, least_size, fits_type, fit_types, fit_elements, fit_segments, fit_all};
 ghost use Rattle.wasm_run.specs.Exported.{HasExports};
 ghost use Rattle.run_session.specs.Linking.{ChecksRefusal, exported_type, type_refusal};
 
 use module_ast::module::{Element, FuncType, Module, Segment};
-use module_ast::spaces::Spaces;
 use run_store::{least_pages, least_slots, offset_of, open_globals};
 use std::alloc::{AllocError, Global};
 use std::collections::BTreeMap;
@@ -59,22 +57,19 @@ pub(crate) fn check_links(
     ensures { ChecksRefusal result (link valid.now script.now) }
 {
     let module = valid.module();
-    check_calls(alloc, module, script.calls.as_slice())?;
+    check_calls(alloc, valid, script.calls.as_slice())?;
     check_pages(module, script.pages)?;
     check_slots(module)?;
     check_segments(alloc, module, script)
 }
 
 // Refuses the first call without an exported function, or whose arguments do not fit.
-fn check_calls(alloc: Global, m: &Module, calls: &[Call]) -> Result<(), LinkFault>
-    requires valid { IsValid m.now }
-    requires complete { IsComplete m.now }
+fn check_calls(alloc: Global, m: &ValidModule, calls: &[Call]) -> Result<(), LinkFault>
     ensures { ChecksRefusal result (calls_refusal m.now 0 calls.now) }
 {
-    let spaces = Spaces::new(alloc, m)?;
-    let exports = exported_functions(alloc, m.exports.as_slice())?;
+    let exports = exported_functions(alloc, m.module().exports.as_slice())?;
     for (index, call) in calls.iter().enumerate() {
-        let function = exported_type(m, &spaces, &exports, call.export.as_str());
+        let function = exported_type(m, &exports, call.export.as_str());
         check_call(index as u64, call, function)?;
     }
     Ok(())
@@ -82,17 +77,15 @@ fn check_calls(alloc: Global, m: &Module, calls: &[Call]) -> Result<(), LinkFaul
 
 // The type of the function that is exported under this name, if there is one.
 fn exported_type<'m>(
-    m: &'m Module,
-    spaces: &Spaces,
+    m: &'m ValidModule,
     exports: &BTreeMap<&str, u32>,
     name: &str,
 ) -> Option<&'m FuncType>
-    requires spaces { spaces.now ≡ spaces_of m.now }
     requires exports { HasExports exports.now m.now.exports }
     ensures { option_copied result ≡ exported_type m.now name.now }
 {
     let function = exports.get(name)?;
-    spaces.func_type(m, *function)
+    m.func_type(*function)
 }
 
 // Refuses a call without a function, or whose arguments do not fit the function.

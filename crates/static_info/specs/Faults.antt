@@ -1,4 +1,4 @@
--- Why bytes give no information, by why a step of the reading gave nothing.
+-- Why no information is read from bytes, by why a step of the reading failed.
 use Rattle.json_form.specs.declared.form.FormFault.{FormFault}
 use Rattle.json_form.specs.declared.form.FormFault.TheVariants as form
 use Rattle.json_form.specs.declared.text.TextFault.{TextFault}

@@ -3,7 +3,7 @@ use Rattle.std.specs.Prelude.{◌≡◌, ℕ, zero, suc, List, [], ◌∷◌}
 use Rattle.wasm_sem.specs.Types.{Module, HookKey}
 use Rattle.static_info.specs.Belongs.{FuncImport, IsOwn, IsHook}
 
--- so many functions of other modules follow, and then these hooks, and no more
+-- the imports are `own` functions of other modules, and then exactly these hooks
 abbrev pub HooksFollow : Module → (own : ℕ) → List HookKey → List FuncImport → Type 0
 HooksFollow m own hooks [] = (own ≡ 0) × (hooks ≡ [])
 HooksFollow m (suc own) hooks (f ∷ fs) = IsOwn f × HooksFollow m own hooks fs

@@ -1,4 +1,4 @@
--- What a walk over a body tells of its blocks and br_tables.
+-- The blocks and br_tables that a walk over a body finds at each place.
 use Rattle.std.specs.Prelude.{ℤ, List, [], ◌∷◌, ◌++◌}
 use Rattle.wasm_sem.specs.Types.{Instr}
 use Rattle.module_ast.specs.declared.code.Instr.TheVariants as instrs
@@ -13,7 +13,7 @@ begun_blocks (Opens b) = b ∷ []
 begun_blocks (Alternates a b then_live) = b ∷ []
 begun_blocks _ = []
 
--- a br_table with its labels, the default last
+-- a br_table with its position and its labels, the default last
 abbrev pub instr_tables : ℤ → Instr → List TableInfo
 instr_tables p (instrs.BrTable ls l) = record { pos = p; labels = ls ++ l ∷ [] } ∷ []
 instr_tables p _ = []

@@ -28,15 +28,15 @@ number_data z = number (of_integer z)
 abbrev pub text_data : Text → Data
 text_data t = string t.bytes
 
--- a letter for each type
+-- a text with a letter for each type
 abbrev pub types_data : List ValType → Data
 types_data ts = string (letters ts)
 
--- kind, begin, end and target
+-- a list of kind, begin, end and target
 abbrev pub block_data : Block → Data
 block_data b = list_of (count_data (kind_number b.kind) ∷ number_data b.begin ∷ number_data b.end ∷ number_data b.target ∷ [])
 
--- position and labels
+-- a list of position and labels
 abbrev pub table_data : TableInfo → Data
 table_data t = list_of (number_data t.pos ∷ list_of (map count_data t.labels) ∷ [])
 
@@ -44,21 +44,21 @@ abbrev pub body_data : Bool → FuncInfo → List Data
 body_data false f = []
 body_data true f = list_of (map block_data f.blocks) ∷ list_of (map table_data f.tables) ∷ []
 
--- an imported function has parameters and results alone
+-- a list of parameters and results, and of blocks and br_tables if the function is defined
 abbrev pub func_data : FuncInfo → Data
 func_data f = list_of (types_data f.params ∷ types_data f.results ∷ body_data f.defined f)
 
 abbrev pub group_data : GroupName → Data
 group_data g = string (group_name g)
 
--- the names of the groups of a set, in their order
+-- a list of the names of the groups of a set, in their fixed order
 abbrev pub groups_data : Hooks → Data
 groups_data hooks = list_of (map group_data (groups_in hooks))
 
 abbrev pub hook_data : HookKey → Data
 hook_data key = string (name_of key)
 
--- the keys stand in their order as texts
+-- the keys are in ascending order as texts
 abbrev pub info_data : Info → Data
 info_data info = object
     (member (codes "dropped") (list_of (map text_data info.dropped))
@@ -68,22 +68,22 @@ info_data info = object
     (member (codes "imports") (count_data info.imports)
     (member (codes "version") (count_data 1) no_members))))))
 
--- the compact text, which no space stands in
+-- the compact text, without spaces between its parts
 abbrev pub info_text : Info → List ℕ
 info_text info = compact_text (info_data info)
 
--- a value is that of information, which is of the form
+-- the value is that of the information, which has the form of information
 abbrev pub IsInfo : Data → Info → Type 0
 IsInfo d info = IsWellFormed info × (info_data info ≡ d)
 
--- bytes hold information
+-- the bytes hold the information: they are a JSON text of its value
 abbrev pub HoldInfo : (bytes : List ℕ) → Info → Type 0
 HoldInfo bytes info = (d : Data) × IsText bytes d × IsInfo d info
 
--- bytes hold a value that is not that of any information
+-- the bytes are a JSON text of a value that is not that of any information
 abbrev pub HoldNoInfo : (bytes : List ℕ) → Type 0
 HoldNoInfo bytes = (d : Data) × IsText bytes d × ((info : Info) → IsInfo d info → ⊥)
 
--- bytes hold one information at most
+-- bytes hold at most one `Info`
 abbrev pub InfosAreUnique : Type 0
 InfosAreUnique = (bytes : List ℕ) (a b : Info) → HoldInfo bytes a → HoldInfo bytes b → a ≡ b

@@ -1,4 +1,4 @@
--- The shape of the JSON value of information, before its places are compared.
+-- The shape of the JSON value of information, before its positions are compared.
 use Rattle.std.specs.Prelude.{◌-◌, ◌^◌, ◌==◌, ◌&&◌, ℕ, ℤ, pos, negsuc, List, [], ◌∷◌, length, fold, Bool, true, false, cond, codes, bytes_eq, Option, Some, option_and_then}
 use Rattle.module_ast.specs.Validation.Limits.{deepest}
 use Rattle.wasm_sem.specs.Types.{ValType, BlockKind, GroupName, Hooks, HookKey}
@@ -22,7 +22,7 @@ types_form d = option_and_then letter_types (as_str d)
 abbrev pub kind_form : Data → Option BlockKind
 kind_form d = option_and_then kind_of_number (count_form 0 4 d)
 
--- a position, from -1 on for what begins there
+-- a position, which is -1 at the entry of a function
 abbrev pub position_form : Data → Option ℤ
 position_form d = whole_form (negsuc 0) (pos (2 ^ 31 - 1)) d
 
@@ -60,7 +60,7 @@ defined_form d = do
   tables ← item_form 3 (list_form table_form) d
   Some (record { params = params; results = results; defined = true; blocks = blocks; tables = tables })
 
--- a defined function has four items
+-- a list of four items is a defined function
 abbrev pub func_form : Data → Option FuncInfo
 func_form d = cond (has_length 4 d) (defined_form d) (imported_form d)
 
@@ -78,7 +78,7 @@ same_groups (g ∷ gs) (h ∷ hs) = group_eq g h && same_groups gs hs
 abbrev pub set_of_groups : List GroupName → Hooks
 set_of_groups gs = fold with_group (hooks_of (λ g. false)) gs
 
--- the set of these groups, where they are all of it, in order
+-- the set of these groups, if they are in their fixed order without repeats
 abbrev pub ordered_set : List GroupName → Option Hooks
 ordered_set gs = given_if (same_groups gs (groups_in (set_of_groups gs))) (set_of_groups gs)
 
@@ -90,7 +90,7 @@ groups_form d = list_form group_form d >>= ordered_set
 abbrev pub hook_form : Data → Option HookKey
 hook_form d = option_and_then key_named (as_str d)
 
--- no key stands twice
+-- these keys, if no key occurs twice
 abbrev pub distinct_form : List HookKey → Option (List HookKey)
 distinct_form keys = given_if (length (distinct_keys keys) == length keys) keys
 
@@ -109,7 +109,7 @@ same_names [] (y ∷ ys) = false
 same_names (x ∷ xs) [] = false
 same_names (x ∷ xs) (y ∷ ys) = bytes_eq x y && same_names xs ys
 
--- an object with just these keys, which stand in order in each object
+-- an object with exactly these keys; the keys of each object are in order
 abbrev pub has_exactly : List (List ℕ) → Data → Bool
 has_exactly names (object ms) = same_names names (keys_of ms)
 has_exactly names _ = false

@@ -1,4 +1,4 @@
-// The blocks of a function, and those of them that contain a position.
+// Finds the blocks of a function that contain a position.
 
 ghost use Rattle.std.specs.Prelude.{◌≡◌, ◌++◌, ◌<◌, ◌≤◌, ◌≤ℤ◌, ◌&&◌, int_lt, length, take, IfOk, OnOk};
 ghost use Rattle.static_info.specs.Read.{within_block};
@@ -9,7 +9,7 @@ use std::alloc::Global;
 use std::marker::Model;
 use wasm_num::NoMemory;
 
-/// Where some blocks begin at the earliest and end at the latest.
+/// The span of some blocks: the position where the first of them begins, and the position where the last of them ends.
 #[derive(Clone, Copy)]
 pub struct Span {
     pub begin: i32,
@@ -17,7 +17,7 @@ pub struct Span {
 }
 
 impl Span {
-    // Of one block.
+    // The span of one block.
     fn of(block: &Block) -> Span
         ensures { result ≡ span_of block.now }
     {
@@ -27,7 +27,7 @@ impl Span {
         }
     }
 
-    // Over two lists of blocks, from their spans.
+    // The span of two lists of blocks together, from the span of each.
     fn with(self, other: Span) -> Span
         ensures begin { (result.begin ≤ℤ self.begin) × (result.begin ≤ℤ other.begin) }
         ensures end { (self.end ≤ℤ result.end) × (other.end ≤ℤ result.end) }
@@ -38,7 +38,7 @@ impl Span {
         }
     }
 
-    // Whether some block inside may contain the position.
+    // Whether the position is strictly inside the span. If it is not, no block of the span contains the position.
     fn contains(&self, position: i32) -> bool
         ensures { result ≡ (int_lt self.now.begin position && int_lt position self.now.end) }
     {
@@ -46,12 +46,12 @@ impl Span {
     }
 }
 
-/// The blocks of a function, which contracts see as a list. Those around a position are found without a walk over all of
-/// them: the list is cut in halves again and again, and of each piece it is kept where its blocks begin and end.
+/// The blocks of a function. Contracts see a list. The blocks around a position are found without a walk over all of them: the
+/// list is halved again and again, and the table keeps the span of each piece.
 #[derive(Drop)]
 pub struct BlockTable {
     blocks: Vec<Block>,
-    // The spans of the first half and of the pieces in it, of the second half and of those in it, and then of the whole.
+    // The spans of the first half and its pieces, then those of the second half and its pieces, then the span of the whole.
     spans: Vec<Span>,
 }
 
@@ -70,7 +70,7 @@ impl Model for BlockTable {
 impl BlockTable {
     ghost use Rattle.std.specs.Prelude.{[]};
 
-    /// No blocks, as of an imported function. It allocates nothing.
+    /// No blocks, as for an imported function. Allocates nothing.
     pub fn none(alloc: Global) -> BlockTable
         ensures { result ≡ [] }
     {
@@ -80,7 +80,7 @@ impl BlockTable {
         }
     }
 
-    /// These blocks, in order. It goes over them once. An `Err` comes where there is no memory.
+    /// A table of these blocks, in this order. Goes over them once. An `Err` comes only if memory runs out.
     pub fn from_vec(alloc: Global, blocks: Vec<Block>) -> Result<BlockTable, NoMemory>
         ensures { IfOk result (λ made. made ≡ blocks.items) }
     {
@@ -98,9 +98,9 @@ impl BlockTable {
         &self.blocks
     }
 
-    /// The innermost blocks around a position, so many at most, the innermost first. A block contains what stands between its
-    /// begin and its end. It takes time in proportion to their number and to the logarithm of that of all blocks. An `Err`
-    /// comes where there is no memory.
+    /// The innermost blocks around a position, at most `most` of them, innermost first. A block contains the positions between
+    /// its begin and its end, but not these two. Takes time in proportion to the number of blocks in the result and to the
+    /// logarithm of the number of all blocks. An `Err` comes only if memory runs out.
     pub fn around(&self, alloc: Global, position: i32, most: usize) -> Result<Vec<Block>, NoMemory>
         ensures { IfOk result (λ found. found.items ≡ take most (within_block position self.now)) }
     {
@@ -113,7 +113,7 @@ impl BlockTable {
     }
 }
 
-// Notes the spans of some blocks behind those that stand there, and answers that of all of them.
+// Appends the spans of these blocks and their pieces to `spans`, and returns the span of all these blocks.
 fn add_spans(blocks: &[Block], spans: &mut Vec<Span>) -> Result<Span, NoMemory>
     requires { 0 < length blocks.now }
     ensures over { IfOk result (λ span. IsSpanOver span blocks.now) }
@@ -133,7 +133,7 @@ fn add_spans(blocks: &[Block], spans: &mut Vec<Span>) -> Result<Span, NoMemory>
     Ok(span)
 }
 
-// Adds the blocks around a position, the innermost first, until there are so many.
+// Appends the blocks around a position to `found`, innermost first, until `found` has `most` blocks.
 fn add_around(
     blocks: &[Block],
     spans: &[Span],

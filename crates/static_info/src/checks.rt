@@ -1,4 +1,4 @@
-// The form of information.
+// Checks the form of the functions of information.
 
 ghost use Rattle.std.specs.Prelude.{◌≡◌, ◌↔◌, ◌≢◌, negsuc, IsTrue};
 ghost use Rattle.wasm_num.specs.declared.BlockKind.TheVariants as kinds;
@@ -10,7 +10,8 @@ use branch_resolve::Block;
 use module_ast::module::DEEPEST;
 use wasm_num::BlockKind;
 
-// Whether these are the functions of information, so many imported ones first.
+// Whether these can be the functions of information: there are fewer than 2^32, the first `imports` have the form of imported
+// functions, and the others have the form of defined ones.
 pub(crate) fn are_functions(imports: u32, functions: &[FuncInfo]) -> bool
     ensures { IsTrue result ↔ AreFunctions imports functions.now }
 {
@@ -22,21 +23,21 @@ pub(crate) fn are_functions(imports: u32, functions: &[FuncInfo]) -> bool
         && functions[imports..].iter().all(|func| is_defined(func))
 }
 
-// Whether it has no blocks and no tables.
+// Whether the function has the form of an imported one: it is not defined, and has no blocks and no br_tables.
 fn is_imported(func: &FuncInfo) -> bool
     ensures { IsTrue result ↔ IsImported func.now }
 {
     !func.defined && func.blocks.as_slice().is_empty() && func.tables.as_slice().is_empty()
 }
 
-// Whether its blocks and tables are those of a defined function.
+// Whether the function has the form of a defined one: it is defined, and its blocks and br_tables have their forms.
 fn is_defined(func: &FuncInfo) -> bool
     ensures { IsTrue result ↔ IsDefined func.now }
 {
     func.defined && are_blocks(func.blocks.as_slice()) && are_tables_after(func.tables.as_slice())
 }
 
-// Whether these are the function from its entry, and then the other blocks.
+// Whether the first block is a whole function, and the others are blocks inside it.
 fn are_blocks(blocks: &[Block]) -> bool
     ensures { IsTrue result ↔ AreBlocks blocks.now }
 {
@@ -46,7 +47,7 @@ fn are_blocks(blocks: &[Block]) -> bool
     }
 }
 
-// Whether the block is a function from its entry.
+// Whether the block is a whole function: it begins at the entry, -1, and its end and its target are at least 0.
 fn is_whole(func: &Block) -> bool
     ensures { IsTrue result
         ↔ ((func.now.kind ≡ kinds.Function) × (func.now.begin ≡ negsuc 0)
@@ -58,7 +59,7 @@ fn is_whole(func: &Block) -> bool
         && is_position(func.target)
 }
 
-// Whether these are blocks in a function, by where they begin.
+// Whether these are blocks inside a function, in ascending order of their begins.
 fn are_blocks_after(blocks: &[Block]) -> bool
     ensures { IsTrue result ↔ AreBlocksAfter (negsuc 0) blocks.now }
 {
@@ -72,7 +73,7 @@ fn are_blocks_after(blocks: &[Block]) -> bool
     true
 }
 
-// Whether these are br_tables, by where they stand.
+// Whether these are br_tables in ascending order of their positions.
 fn are_tables_after(tables: &[TableInfo]) -> bool
     ensures { IsTrue result ↔ AreTablesAfter (negsuc 0) tables.now }
 {
@@ -86,7 +87,7 @@ fn are_tables_after(tables: &[TableInfo]) -> bool
     true
 }
 
-// Whether the block begins after the last one.
+// Whether this is a block inside a function that begins after position `last`.
 fn is_next_block(last: i32, block: &Block) -> bool
     ensures { IsTrue result ↔ IsNextBlock last block.now }
 {
@@ -97,21 +98,21 @@ fn is_next_block(last: i32, block: &Block) -> bool
         && is_position(block.target)
 }
 
-// Whether the table stands after the last one.
+// Whether this is a br_table after position `last`, with the labels of a br_table.
 fn is_next_table(last: i32, table: &TableInfo) -> bool
     ensures { IsTrue result ↔ IsNextTable last table.now }
 {
     last < table.pos && is_position(table.pos) && are_labels(table.labels.as_slice())
 }
 
-// Whether it is from 0 up.
+// Whether the position is at least 0.
 fn is_position(position: i32) -> bool
     ensures { IsTrue result ↔ IsPosition position }
 {
     0 <= position
 }
 
-// Whether there are labels, and none is above the deepest nesting.
+// Whether there is at least one label, and each is at most the deepest nesting.
 fn are_labels(labels: &[u32]) -> bool
     ensures { IsTrue result ↔ AreLabels labels.now }
 {

@@ -1,4 +1,4 @@
-// The parts of information from JSON.
+// Reads the parts of information from JSON.
 
 ghost use Rattle.std.specs.Prelude.{◌≡◌, map, codes, IfOk};
 ghost use Rattle.serde_json.specs.View.{view};
@@ -23,7 +23,7 @@ use serde_json::Value;
 use std::alloc::Global;
 use wasm_num::{BlockKind, NoMemory, ValType};
 
-// A label, which is at most the deepest nesting.
+// The form of a label: a number from 0 to the deepest nesting.
 pub(crate) struct LabelForm;
 
 impl Form for LabelForm {
@@ -36,7 +36,7 @@ impl Form for LabelForm {
     }
 }
 
-// A block: its kind, begin, end and target.
+// The form of a block: a list of its kind, begin, end and target.
 pub(crate) struct BlockForm;
 
 impl Form for BlockForm {
@@ -59,7 +59,7 @@ impl Form for BlockForm {
     }
 }
 
-// A br_table: its position and its labels.
+// The form of a br_table: a list of its position and its labels.
 pub(crate) struct TableForm;
 
 impl Form for TableForm {
@@ -75,7 +75,7 @@ impl Form for TableForm {
     }
 }
 
-// A function: its parameters and results, and for a defined one its blocks and tables.
+// The form of a function: a list of its parameters and results, and of its blocks and br_tables if it is defined.
 pub(crate) struct FuncForm;
 
 impl Form for FuncForm {
@@ -92,7 +92,7 @@ impl Form for FuncForm {
     }
 }
 
-// A function with blocks and tables.
+// Reads a defined function, which has blocks and br_tables. The caller knows that the list has four items.
 fn read_defined(alloc: Global, value: &Value) -> Result<FuncInfo, FormFault>
     ensures { ReadsForm result (defined_form (view value.now)) }
 {
@@ -109,7 +109,7 @@ fn read_defined(alloc: Global, value: &Value) -> Result<FuncInfo, FormFault>
     })
 }
 
-// A function with parameters and results alone.
+// Reads an imported function, which has only parameters and results.
 fn read_imported(alloc: Global, value: &Value) -> Result<FuncInfo, FormFault>
     ensures { ReadsForm result (imported_form (view value.now)) }
 {
@@ -125,7 +125,7 @@ fn read_imported(alloc: Global, value: &Value) -> Result<FuncInfo, FormFault>
     })
 }
 
-// The types of a text of letters.
+// Reads types from a text that has a letter for each of them.
 fn read_types(alloc: Global, value: &Value) -> Result<Seq<ValType>, FormFault>
     ensures { ReadsForm result (types_form (view value.now)) }
 {
@@ -133,7 +133,7 @@ fn read_types(alloc: Global, value: &Value) -> Result<Seq<ValType>, FormFault>
     letter_types(alloc, text.as_bytes())?.ok_or(FormFault::Wrong)
 }
 
-// The kind of a number.
+// Reads the kind of a block from its number, 0 to 4.
 fn read_kind(value: &Value) -> Result<BlockKind, FormFault>
     ensures { ReadsForm result (kind_form (view value.now)) }
 {
@@ -144,14 +144,14 @@ fn read_kind(value: &Value) -> Result<BlockKind, FormFault>
     }
 }
 
-// A position, from -1 on.
+// Reads a position, from -1 to 2^31 - 1.
 fn read_position(value: &Value) -> Result<i32, FormFault>
     ensures { ReadsForm result (position_form (view value.now)) }
 {
     Ok(read_whole(value, -1, i32::MAX as i64)? as i32)
 }
 
-// A group by its name.
+// The form of a group: its name.
 pub(crate) struct GroupForm;
 
 impl Form for GroupForm {
@@ -176,14 +176,14 @@ fn set_of(groups: &[GroupName]) -> Hooks
     hooks
 }
 
-// Whether the two lists are one.
+// Whether the two lists are the same.
 fn same_groups(left: &[GroupName], right: &[GroupName]) -> bool
     ensures { result ≡ same_groups left.now right.now }
 {
     left == right
 }
 
-// The groups of a list of their names, which stand in their order without repeats.
+// Reads a set of groups from a list of their names. `Wrong` also if the names are not in the fixed order without repeats.
 pub(crate) fn read_groups(alloc: Global, value: &Value) -> Result<Hooks, FormFault>
     ensures { ReadsForm result (groups_form (view value.now)) }
 {
@@ -197,7 +197,7 @@ pub(crate) fn read_groups(alloc: Global, value: &Value) -> Result<Hooks, FormFau
     }
 }
 
-// The proper key of a name.
+// The form of a hook: the name of a proper key.
 pub(crate) struct HookForm;
 
 impl Form for HookForm {
@@ -211,7 +211,7 @@ impl Form for HookForm {
     }
 }
 
-// These keys, each once.
+// The set of these keys, in the order of their first occurrences.
 fn key_set(alloc: Global, keys: Vec<HookKey>) -> Result<IndexSet<HookKey>, NoMemory>
     ensures { IfOk result (λ set. set.keys ≡ distinct_keys keys.items) }
 {
@@ -222,14 +222,14 @@ fn key_set(alloc: Global, keys: Vec<HookKey>) -> Result<IndexSet<HookKey>, NoMem
     Ok(set)
 }
 
-// The keys of the set, in order.
+// The keys of the set, in its order.
 fn listed(alloc: Global, set: IndexSet<HookKey>) -> Result<Vec<HookKey>, NoMemory>
     ensures { IfOk result (λ keys. keys.items ≡ set.keys) }
 {
     set.into_iter().collect(alloc)
 }
 
-// These keys, where none stands twice.
+// These keys; `Wrong` if a key occurs twice.
 fn distinct(alloc: Global, keys: Seq<HookKey>) -> Result<Seq<HookKey>, FormFault>
     ensures { ReadsForm result (distinct_form keys) }
 {
@@ -242,7 +242,7 @@ fn distinct(alloc: Global, keys: Seq<HookKey>) -> Result<Seq<HookKey>, FormFault
     Ok(Seq::from_vec(listed(alloc, set)?))
 }
 
-// The keys of a list of their names, of which none stands twice.
+// Reads the keys of hooks from a list of their names. `Wrong` also if a key occurs twice.
 pub(crate) fn read_hooks(alloc: Global, value: &Value) -> Result<Seq<HookKey>, FormFault>
     ensures { ReadsForm result (hooks_form (view value.now)) }
 {

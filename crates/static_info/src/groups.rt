@@ -1,4 +1,4 @@
-// The groups of a set.
+// Lists the groups of a set.
 
 ghost use Rattle.std.specs.Prelude.{◌≡◌, filter, IfOk};
 ghost use Rattle.hook_select.specs.Groups.{has, groups_in};
@@ -6,31 +6,6 @@ ghost use Rattle.hook_select.specs.Groups.{has, groups_in};
 use hook_select::{GroupName, Hooks};
 use std::alloc::Global;
 use wasm_num::NoMemory;
-
-const GROUPS: [GroupName; 22] = [
-    GroupName::Start,
-    GroupName::Nop,
-    GroupName::Unreachable,
-    GroupName::If,
-    GroupName::Br,
-    GroupName::BrIf,
-    GroupName::BrTable,
-    GroupName::Begin,
-    GroupName::End,
-    GroupName::Const,
-    GroupName::Unary,
-    GroupName::Binary,
-    GroupName::Drop,
-    GroupName::Select,
-    GroupName::Local,
-    GroupName::Global,
-    GroupName::Load,
-    GroupName::Store,
-    GroupName::MemorySize,
-    GroupName::MemoryGrow,
-    GroupName::Call,
-    GroupName::Return,
-];
 
 // Those of these groups that are in the set.
 fn selected(alloc: Global, groups: &[GroupName], hooks: &Hooks) -> Result<Vec<GroupName>, NoMemory>
@@ -43,9 +18,9 @@ fn selected(alloc: Global, groups: &[GroupName], hooks: &Hooks) -> Result<Vec<Gr
         .collect(alloc)
 }
 
-// The groups of the set, in their order.
+// The groups of the set, in their fixed order.
 pub(crate) fn groups_of(alloc: Global, hooks: &Hooks) -> Result<Vec<GroupName>, NoMemory>
     ensures { IfOk result (λ found. found.items ≡ groups_in hooks.now) }
 {
-    selected(alloc, &GROUPS, hooks)
+    selected(alloc, &GroupName::ALL, hooks)
 }

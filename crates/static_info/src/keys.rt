@@ -1,4 +1,4 @@
-// Copies of keys.
+// Copies keys.
 
 ghost use Rattle.std.specs.Prelude.{◌≡◌, IfOk};
 
@@ -8,7 +8,7 @@ use module_ast::seq::Seq;
 use std::alloc::Global;
 use wasm_num::NoMemory;
 
-// The key once more.
+// A copy of the key.
 fn copy_key(alloc: Global, key: &HookKey) -> Result<HookKey, NoMemory>
     ensures { IfOk result (λ copy. copy ≡ key.now) }
 {
@@ -31,7 +31,7 @@ fn copy_key(alloc: Global, key: &HookKey) -> Result<HookKey, NoMemory>
     })
 }
 
-/// These keys once more. An `Err` comes where there is no memory.
+/// Copies of these keys, in order. An `Err` comes only if memory runs out.
 pub(crate) fn copy_keys(alloc: Global, keys: &[HookKey]) -> Result<Seq<HookKey>, NoMemory>
     ensures { IfOk result (λ copies. copies ≡ keys.now) }
 {

@@ -1,4 +1,4 @@
-// The information that a module's hook calls are read with.
+// Information: what must be known of a module to read the hook calls of its output.
 #![tactic(auto)]
 
 ghost use Rattle.std.specs.Prelude.{◌≡◌, ◌^◌, ◌<◌, length};
@@ -26,14 +26,15 @@ use module_ast::name::Name;
 use module_ast::seq::Seq;
 use wasm_num::ValType;
 
-/// A br_table: its position, and its labels with the default last.
+/// A br_table: its position in the body, from 0, and its labels. There is at least one label, and the last one is the default.
 #[derive(Drop)]
 pub struct TableInfo {
     pub pos: i32,
     pub labels: Seq<u32>,
 }
 
-/// A function of the original. An imported one has no blocks and no tables.
+/// A function of the original: its type, whether the module defines it, and its live blocks and br_tables in the order of their
+/// positions. An imported function has no blocks and no br_tables.
 #[derive(Drop)]
 pub struct FuncInfo {
     pub params: Seq<ValType>,
@@ -43,8 +44,8 @@ pub struct FuncInfo {
     pub tables: Seq<TableInfo>,
 }
 
-/// The selected groups, the number of imported functions of the original, the hooks in import order, the functions of
-/// the original, and the names of its custom sections.
+/// Information on a module: the selected groups, the number of function imports of the original, the hooks in import order,
+/// the functions of the original, imported ones first, and the names of its custom sections in file order.
 #[derive(Drop)]
 pub struct Info {
     pub groups: Hooks,
@@ -58,8 +59,8 @@ impl Info {
     ghost use Rattle.index_remap.specs.Remap.{unmap_index};
     ghost use Rattle.static_info.specs.Read.{info_remap};
 
-    // The map of function indices from the original to the output.
-    fn remap(&self) -> Remap
+    /// How function indices change from the original to the output.
+    pub fn remap(&self) -> Remap
         requires { length self.now.hooks < 2 ^ 32 }
         ensures { result ≡ info_remap self.now }
     {
@@ -69,14 +70,14 @@ impl Info {
         }
     }
 
-    /// The index in the original of a function of the output: none exactly for a hook's.
+    /// The index in the original of the function that has index `f` in the output; `None` exactly if that function is a hook.
     pub fn unmap(&self, f: u32) -> Option<u32>
         ensures { result ≡ unmap_index (info_remap self.now) f }
     {
         if self.hooks.as_slice().len() <= u32::MAX as usize {
             return self.remap().unmap(f);
         }
-        // No index is behind so many hooks.
+        // If there are 2^32 hooks or more, each index from `imports` on is that of a hook.
         if f < self.imports { Some(f) } else { None }
     }
 }

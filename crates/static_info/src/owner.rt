@@ -1,4 +1,4 @@
-// Which module information belongs to.
+// Whether information belongs to a module.
 
 ghost use Rattle.std.specs.Prelude.{◌≡◌, ◌↔◌, ◌∷◌, List, IfOk, IsTrue, slice_get, Some};
 ghost use Rattle.hook_mono.specs.Names.{name_of};
@@ -19,7 +19,7 @@ fn same_types(left: &[ValType], right: &[ValType]) -> bool
     left == right
 }
 
-// Whether the two are one type.
+// Whether the two function types are the same.
 fn same_func_type(left: &FuncType, right: &FuncType) -> bool
     ensures { IsTrue result ↔ (left.now ≡ right.now) }
 {
@@ -27,14 +27,14 @@ fn same_func_type(left: &FuncType, right: &FuncType) -> bool
         && same_types(left.results.as_slice(), right.results.as_slice())
 }
 
-// Whether the two are one text.
+// Whether the two texts are the same.
 fn same_text(left: &str, right: &str) -> bool
     ensures { IsTrue result ↔ (left.now ≡ right.now) }
 {
     left == right
 }
 
-// Whether an import has the name of the key's hook.
+// Whether the import has the name of the key's hook.
 fn is_named(alloc: Global, import: &Import, key: &HookKey) -> Result<bool, NoMemory>
     ensures { IfOk result (λ is. IsTrue is ↔ (import.now.name.bytes ≡ name_of key.now)) }
 {
@@ -42,7 +42,7 @@ fn is_named(alloc: Global, import: &Import, key: &HookKey) -> Result<bool, NoMem
     Ok(same_text(import.name.as_str(), name.as_str()))
 }
 
-// Whether the type of this index is that of the key's hook.
+// Whether the module has a type of this index, and it is the type of the key's hook.
 fn is_typed(alloc: Global, m: &Module, index: u32, key: &HookKey) -> Result<bool, NoMemory>
     ensures { IfOk result (λ is. IsTrue is ↔ (slice_get m.now.types index ≡ Some (hook_type key.now))) }
 {
@@ -53,7 +53,7 @@ fn is_typed(alloc: Global, m: &Module, index: u32, key: &HookKey) -> Result<bool
     }
 }
 
-// Whether an imported function, of the type of this index, is the hook of the key.
+// Whether the import of a function whose type has this index is the hook of the key.
 fn is_hook(
     alloc: Global,
     m: &Module,
@@ -73,7 +73,7 @@ fn is_hook(
     is_typed(alloc, m, index, key)
 }
 
-// The function imports of a module that are not gone over yet: so many are to be of other modules, and then these hooks.
+// What the function imports that are still to come must be: `own` functions of other modules, and then these hooks.
 #[derive(Drop)]
 struct Following<'i> {
     own: u32,
@@ -81,7 +81,7 @@ struct Following<'i> {
 }
 
 impl<'i> Following<'i> {
-    // Goes over an imported function, of the type of this index, and says whether it is the one that is to follow.
+    // Takes the next function import, whose type has this index, and says whether it is what must come next.
     fn follows(
         &mut self,
         alloc: Global,
@@ -106,9 +106,9 @@ impl<'i> Following<'i> {
     }
 }
 
-/// Whether the module's hook calls are read with the information: its function imports are as many of other modules as the
-/// information says, and then exactly the information's hooks in their order, each with its name and type. It goes over the
-/// imports once. An `Err` comes where there is no memory for a name.
+/// Whether the information belongs to the module: the module imports as many functions of other modules as the information
+/// says, and then exactly the hooks of the information in their order, each with its name and type. The hook calls of such a
+/// module are read with this information. Goes over the imports once. An `Err` comes only if memory runs out for a name.
 pub fn belongs(alloc: Global, info: &Info, m: &Module) -> Result<bool, NoMemory>
     ensures { IfOk result (λ answer. IsTrue answer ↔ Belongs info.now m.now) }
 {

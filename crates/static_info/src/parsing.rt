@@ -1,4 +1,4 @@
-// Information from JSON.
+// Reads information from JSON.
 
 ghost use Rattle.std.specs.Prelude.{◌≡◌, ◌↔◌, ◌^◌, ◌<◌, map, length, IfOk, IsErrOf, IsTrue};
 ghost use Rattle.serde_json.specs.View.{view, members_view};
@@ -16,14 +16,14 @@ use json_form::{FormFault, Text, TextFault, field, read_count, read_list, read_t
 use serde_json::{Map, Value};
 use std::alloc::Global;
 
-/// Why bytes give no information.
+/// Why no information is read from bytes.
 #[derive(Clone, Copy, Debug, PartialEq, Eq)]
 pub enum InfoFault {
-    /// They are not JSON that nests at most 127 deep.
+    /// The bytes are no JSON text, or its value nests more than 127 deep.
     NotJson,
-    /// They are JSON, but not the value of any information.
+    /// The bytes are a JSON text, but its value is not that of any information.
     NotInfo,
-    /// An allocation failed.
+    /// Memory ran out.
     NoMemory,
 }
 
@@ -53,7 +53,7 @@ impl From<FormFault> for InfoFault {
     }
 }
 
-// Whether the members have just these keys, which stand in order.
+// Whether the members have exactly these keys. Members are in the order of their keys, and `names` must be too.
 fn are_keys(names: &[&str], members: &Map<String, Value>) -> bool
     ensures { result ≡ same_names (map (λ n. n.now) names.now) (keys_of (members_view members.now.entries)) }
 {
@@ -70,7 +70,7 @@ fn are_keys(names: &[&str], members: &Map<String, Value>) -> bool
     place == names.len()
 }
 
-// Whether the value is an object with just these keys.
+// Whether the value is an object with exactly these keys, which must be in order.
 fn has_exactly(names: &[&str], value: &Value) -> bool
     ensures { result ≡ has_exactly (map (λ n. n.now) names.now) (view value.now) }
 {
@@ -79,7 +79,7 @@ fn has_exactly(names: &[&str], value: &Value) -> bool
         .is_some_and(|members| are_keys(names, members))
 }
 
-// Refuses a value that is not an object with just the keys of information.
+// `Wrong` if the value is not an object with exactly the keys of information.
 fn check_info_keys(value: &Value) -> Result<(), FormFault>
     ensures { ReadsForm result (given_if (has_exactly info_keys (view value.now)) (tt {0})) }
 {
@@ -98,7 +98,7 @@ fn check_info_keys(value: &Value) -> Result<(), FormFault>
     }
 }
 
-// The information of a value, before its functions are looked through.
+// Reads information from a value, but does not yet check its functions as `are_functions` does.
 fn read_shape(alloc: Global, value: &Value) -> Result<Info, FormFault>
     ensures { ReadsForm result (info_shape (view value.now)) }
 {
@@ -118,7 +118,7 @@ fn read_shape(alloc: Global, value: &Value) -> Result<Info, FormFault>
     })
 }
 
-// The information of a value. `Wrong` exactly where it is that of none.
+// Reads information from a value. `Wrong` exactly if the value is not that of any information.
 fn read_info(alloc: Global, value: &Value) -> Result<Info, FormFault>
     ensures ok { IfOk result (λ info. IsInfo (view value.now) info) }
     ensures wrong { IsErrOf result FormFault.Wrong → (info : InfoSpec) → IsInfo (view value.now) info → ⊥ }
@@ -130,11 +130,11 @@ fn read_info(alloc: Global, value: &Value) -> Result<Info, FormFault>
     }
 }
 
-/// The information that these bytes hold as JSON: an object with just the keys of information, each with a value of its form.
-/// Of a key that is repeated the last value counts, and the order of keys does not matter.
+/// The information that these bytes hold as JSON: an object with exactly the keys of information, each with a value of its
+/// form. If a key is repeated, its last value counts. The order of the keys does not matter.
 ///
-/// `NotJson` comes exactly where they are no JSON text, or one whose value nests more than 127 deep, and `NotInfo` exactly where
-/// they are the text of another value.
+/// Unless memory runs out, `NotJson` comes exactly if the bytes are no JSON text or its value nests more than 127 deep, and
+/// `NotInfo` exactly if they are the text of any other value. `NoMemory` if memory runs out.
 pub fn from_json(alloc: Global, bytes: &[u8]) -> Result<Info, InfoFault>
     ensures ok { IfOk result (λ info. HoldInfo bytes.now info) }
     ensures not_json { IsErrOf result InfoFault.NotJson → IsNoText bytes.now }

@@ -1,4 +1,4 @@
-// Information as JSON.
+// Writes information as JSON.
 
 ghost use Rattle.std.specs.Prelude.{◌≡◌, map, IfOk};
 ghost use Rattle.serde_json.specs.Data.{string};
@@ -17,7 +17,7 @@ use serde_json::{Value, json};
 use std::alloc::{AllocError, Global};
 use wasm_num::{NoMemory, ValType};
 
-// A label, by its number.
+// A label as a number.
 pub(crate) struct LabelData;
 
 impl Written for LabelData {
@@ -30,7 +30,7 @@ impl Written for LabelData {
     }
 }
 
-// A block: its kind, begin, end and target.
+// A block as a list of its kind, begin, end and target.
 pub(crate) struct BlockData;
 
 impl Written for BlockData {
@@ -44,7 +44,7 @@ impl Written for BlockData {
     }
 }
 
-// A br_table: its position and its labels.
+// A br_table as a list of its position and its labels.
 pub(crate) struct TableData;
 
 impl Written for TableData {
@@ -61,7 +61,7 @@ impl Written for TableData {
     }
 }
 
-// A function: its parameters and results, and for a defined one its blocks and tables.
+// A function as a list of its parameters and results, and of its blocks and br_tables if it is defined.
 pub(crate) struct FuncData;
 
 impl Written for FuncData {
@@ -94,7 +94,7 @@ impl Written for NameData {
     }
 }
 
-// A hook by its name.
+// A hook as its name.
 pub(crate) struct HookData;
 
 impl Written for HookData {
@@ -108,7 +108,7 @@ impl Written for HookData {
     }
 }
 
-// A group by its name.
+// A group as its name.
 pub(crate) struct GroupData;
 
 impl Written for GroupData {
@@ -121,14 +121,14 @@ impl Written for GroupData {
     }
 }
 
-// Types as a text of their letters.
+// Types as a text that has a letter for each of them.
 fn write_types(alloc: Global, types: &[ValType]) -> Result<Value, NoMemory>
     ensures { IfOk result (λ v. view v ≡ types_data types.now) }
 {
     Ok(Value::String(with_letters(alloc, "", types)?))
 }
 
-// The names of the groups of a set, in their order.
+// A set of groups as a list of their names, in their fixed order.
 fn write_groups(alloc: Global, hooks: &Hooks) -> Result<Value, NoMemory>
     ensures { IfOk result (λ v. view v ≡ groups_data hooks.now) }
 {
@@ -151,9 +151,9 @@ fn value_of(alloc: Global, info: &Info) -> Result<Value, NoMemory>
     })
 }
 
-/// The JSON text of the information, with no space in it: an object of the keys `dropped`, `functions`, `groups`, `hooks`,
-/// `imports` and `version`, in this order. From it `from_json` reads the information again. An `Err` comes where there is no
-/// memory.
+/// The JSON text of the information, without spaces between its parts: an object with the keys `dropped`, `functions`,
+/// `groups`, `hooks`, `imports` and `version`, in this order. `from_json` reads the information from it again. An `Err` comes
+/// only if memory runs out.
 pub fn to_json(alloc: Global, info: &Info) -> Result<Vec<u8>, NoMemory>
     requires { IsWellFormed info.now }
     ensures text { IfOk result (λ bytes. bytes.items ≡ info_text info.now) }

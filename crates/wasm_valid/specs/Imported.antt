@@ -1,4 +1,4 @@
--- What holds of an import, where it is of one kind. 2.5.11
+-- What holds of an import if it is of one kind. 2.5.11
 use Rattle.std.specs.Prelude.{ℕ}
 use Rattle.module_ast.specs.declared.module.Range.{Range}
 use Rattle.module_ast.specs.declared.module.Item.{Item}

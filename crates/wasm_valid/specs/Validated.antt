@@ -4,10 +4,11 @@ use Rattle.module_ast.specs.declared.module.Module.{Module}
 use Rattle.module_ast.specs.Validation.{IsWhole, IsValid, HasBodyMarks}
 use Rattle.code_valid.specs.declared.marks.Marks.{Marks}
 
--- so many marks are those of the first bodies
+-- each of these marks is that of the body with its index
 abbrev pub MarkFirst : Module → List Marks → Type 0
 MarkFirst m marks = (defined : ℕ) (found : Marks) → slice_get marks defined ≡ Some found → HasBodyMarks m defined found.types found.height
 
+-- a whole and valid module, with the marks of each of its bodies
 pub record IsValidated (m : Module) (marks : List Marks) : Type 0 where
   pub whole : IsWhole m
   pub valid : IsValid m

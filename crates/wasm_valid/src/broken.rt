@@ -1,4 +1,4 @@
-// The first rule that is broken.
+// Finds the first rule that a module breaks.
 
 ghost use Rattle.std.specs.Prelude.{◌≡◌, ◌+◌, ◌≤◌, length, not, MatchOption, IfOk};
 ghost use Rattle.std.specs.List.{position_from};
@@ -23,7 +23,8 @@ use module_ast::spaces::{Counts, Spaces};
 use std::alloc::Global;
 use wasm_num::NoMemory;
 
-// The number of the first of these rules that is not kept, where they are numbered from `first` on.
+// The number of the first rule that is not kept; `None` if all are kept. `kept` says of each rule in order whether it is kept,
+// and `first` is the number of the first one.
 fn first_not_kept(kept: &[bool], first: u8) -> Option<u8>
     requires { first + length kept.now ≤ 255 }
     ensures { result ≡ position_from not first kept.now }
@@ -38,8 +39,7 @@ fn first_not_kept(kept: &[bool], first: u8) -> Option<u8>
     None
 }
 
-/// The number of the first rule of 2 to 9, in their order, that a module breaks; none where it keeps these. It takes no
-/// memory.
+/// The number of the first of rules 2 to 9, in their order, that a module breaks; `None` if it keeps them. Takes no memory.
 pub(crate) fn first_of_eight(m: &Module) -> Option<u8>
     ensures { MatchOption result (KeepsBelow m.now 10) (BreaksFirst m.now) }
 {
@@ -57,7 +57,10 @@ pub(crate) fn first_of_eight(m: &Module) -> Option<u8>
     first_not_kept(&kept, 2)
 }
 
-/// The number of the first of the other rules that is broken, where rules 2 to 9 are kept; none where all are.
+/// The number of the first of the other rules, 10 to 20, that a module breaks; `None` if it keeps all rules. The module must
+/// keep rules 2 to 9.
+///
+/// `NoMemory` if memory runs out.
 pub(crate) fn first_of_others(
     alloc: Global,
     m: &Module,

@@ -1,4 +1,4 @@
-// The rules on initialisers of globals and offsets of segments. Each function decides one rule exactly.
+// The rules on initialisers of globals and on offsets of segments. Each function `keeps_..` decides one rule exactly.
 
 ghost use Rattle.std.specs.Prelude.{◌≡◌, ◌↔◌, IsTrue, slice_get};
 ghost use Rattle.module_ast.specs.Structure.{before, done, imported_globals, globals_of};
@@ -9,7 +9,7 @@ use module_ast::code::{Code, Instr};
 use module_ast::module::{GlobalDef, GlobalType, Module};
 use wasm_num::ValType;
 
-// What a constant expression gives: a number of its type, or what the global of this index holds.
+// What a constant expression gives: a number of a type, or the value of the global with this index.
 #[derive(Clone, Copy)]
 enum Constant {
     I32,
@@ -17,7 +17,7 @@ enum Constant {
     Global(u32),
 }
 
-// The constant that this instruction alone is.
+// The constant that one instruction gives; `None` if it gives none.
 fn constant_in(instr: &Instr) -> Option<Constant>
     ensures { result ≡ constant_of (before instr.now done) }
 {
@@ -29,7 +29,7 @@ fn constant_in(instr: &Instr) -> Option<Constant>
     }
 }
 
-// The constant that an expression is; none where it is not exactly one instruction that gives one.
+// The constant that an expression gives; `None` unless it is exactly one instruction that gives one.
 fn constant_of(code: &Code) -> Option<Constant>
     ensures { result ≡ constant_of code.now }
 {
@@ -39,7 +39,7 @@ fn constant_of(code: &Code) -> Option<Constant>
     }
 }
 
-// The type of a global; none past the last.
+// The type of a global; `None` if the index is past the last one.
 fn global_at(globals: &[GlobalType], index: u32) -> Option<GlobalType>
     ensures { result ≡ slice_get globals.now index }
 {
@@ -92,14 +92,14 @@ fn is_offset(globals: &[GlobalType], code: &Code) -> bool
     }
 }
 
-/// Each initialiser of a global is exactly one constant or one `global.get`. (Standard, 3.3.7)
+/// Whether each initialiser of a global is exactly one constant or one `global.get`. (Standard, 3.3.7)
 pub(crate) fn keeps_init_constant(m: &Module) -> bool
     ensures { IsTrue result ↔ Keeps m.now init_constant }
 {
     m.globals.as_slice().iter().all(|g| is_constant(&g.init))
 }
 
-/// A global that an initialiser reads is an imported one that is not mutable. (Standard, 3.3.7)
+/// Whether each global that an initialiser reads is imported and not mutable. (Standard, 3.3.7)
 pub(crate) fn keeps_init_global(m: &Module, imported: &[GlobalType]) -> bool
     requires { imported.now ≡ imported_globals m.now.imports }
     ensures { IsTrue result ↔ Keeps m.now init_global }
@@ -108,7 +108,7 @@ pub(crate) fn keeps_init_global(m: &Module, imported: &[GlobalType]) -> bool
     globals.iter().all(|g| reads_imported(imported, &g.init))
 }
 
-/// Each initialiser has its global's type. (Standard, 3.4.4)
+/// Whether each initialiser has the type of its global. (Standard, 3.4.4)
 pub(crate) fn keeps_init_type(m: &Module, imported: &[GlobalType]) -> bool
     requires { imported.now ≡ imported_globals m.now.imports }
     ensures { IsTrue result ↔ Keeps m.now init_type }
@@ -117,8 +117,8 @@ pub(crate) fn keeps_init_type(m: &Module, imported: &[GlobalType]) -> bool
     globals.iter().all(|g| has_init_type(imported, g))
 }
 
-/// The offset of each element segment is exactly one `i32.const`, or one `global.get` of a global of type i32 that is
-/// not mutable, imported or defined. (Standard, 3.4.5)
+/// Whether the offset of each element segment is exactly one `i32.const`, or one `global.get` of an imported or defined global
+/// that has type i32 and is not mutable. (Standard, 3.4.5)
 pub(crate) fn keeps_element_offsets(m: &Module, globals: &[GlobalType]) -> bool
     requires { globals.now ≡ globals_of m.now }
     ensures { IsTrue result ↔ Keeps m.now element_offsets }
@@ -127,7 +127,7 @@ pub(crate) fn keeps_element_offsets(m: &Module, globals: &[GlobalType]) -> bool
     elements.iter().all(|e| is_offset(globals, &e.offset))
 }
 
-/// The same of each data segment. (Standard, 3.4.6)
+/// Whether the offset of each data segment is of the same form as that of an element segment. (Standard, 3.4.6)
 pub(crate) fn keeps_segment_offsets(m: &Module, globals: &[GlobalType]) -> bool
     requires { globals.now ≡ globals_of m.now }
     ensures { IsTrue result ↔ Keeps m.now segment_offsets }

@@ -1,13 +1,13 @@
-// Why a module is refused.
+// Why a module is not valid.
 
 use std::alloc::{AllocError, AllocFailed};
 
-/// Why a module is not shown valid.
+/// Why a module was not found valid.
 #[derive(Clone, Copy, Debug, PartialEq, Eq)]
 pub enum Invalid {
-    /// The number of the first rule, of 2 to 20, that the module breaks.
+    /// The module breaks a rule. This is the number of the first such rule, 2 to 20.
     Module { rule: u8 },
-    /// The rules are kept; the least function, imports counted, whose body is invalid.
+    /// The module keeps the rules, and this is the least function whose body is invalid. Its index counts imported functions.
     Body { func: u32 },
     /// Memory ran out.
     NoMemory,

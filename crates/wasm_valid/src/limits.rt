@@ -1,4 +1,4 @@
-// The rules on tables and memories. Each function decides one rule exactly.
+// The rules on tables and memories. Each function `keeps_..` decides one rule exactly.
 
 ghost use Rattle.std.specs.Prelude.{◌≡◌, ◌↔◌, IsTrue, All};
 ghost use Rattle.module_ast.specs.Validation.{IsOrdered, HasPagesWithin, Keeps, one_table, one_memory, table_limits, memory_pages, memory_limits};
@@ -8,7 +8,7 @@ ghost use Rattle.wasm_valid.specs.Imported.{IfTable, IfMemory};
 use module_ast::module::{Import, Item, Module, Range};
 use module_ast::spaces::Counts;
 
-/// There is at most one table, imports counted. (Standard, 3.4.10)
+/// Whether there is at most one table, imports counted. (Standard, 3.4.10)
 pub(crate) fn keeps_one_table(m: &Module, counts: &Counts) -> bool
     requires { counts.now ≡ space_counts m.now }
     ensures { IsTrue result ↔ Keeps m.now one_table }
@@ -16,7 +16,7 @@ pub(crate) fn keeps_one_table(m: &Module, counts: &Counts) -> bool
     counts.tables <= 1
 }
 
-/// There is at most one memory, imports counted. (Standard, 3.4.10)
+/// Whether there is at most one memory, imports counted. (Standard, 3.4.10)
 pub(crate) fn keeps_one_memory(m: &Module, counts: &Counts) -> bool
     requires { counts.now ≡ space_counts m.now }
     ensures { IsTrue result ↔ Keeps m.now one_memory }
@@ -24,7 +24,7 @@ pub(crate) fn keeps_one_memory(m: &Module, counts: &Counts) -> bool
     counts.memories <= 1
 }
 
-// The maximum, where there is one, is not below the minimum.
+// Whether the maximum, if there is one, is not below the minimum.
 fn is_ordered(range: &Range) -> bool
     ensures { IsTrue result ↔ IsOrdered range.now }
 {
@@ -34,7 +34,7 @@ fn is_ordered(range: &Range) -> bool
     }
 }
 
-// Neither the minimum nor the maximum is above 65,536.
+// Whether neither the minimum nor the maximum, if there is one, is above 65,536.
 fn has_few_pages(range: &Range) -> bool
     ensures { IsTrue result ↔ HasPagesWithin 65536 range.now }
 {
@@ -102,21 +102,21 @@ fn have_few_pages(ranges: &[Range]) -> bool
     ranges.iter().all(has_few_pages)
 }
 
-/// No table's maximum is below its minimum. (Standard, 3.2.4)
+/// Whether no table has a maximum below its minimum. (Standard, 3.2.4)
 pub(crate) fn keeps_table_limits(m: &Module) -> bool
     ensures { IsTrue result ↔ Keeps m.now table_limits }
 {
     imports_ordered_tables(m.imports.as_slice()) && are_ordered(m.tables.as_slice())
 }
 
-/// No memory's minimum or maximum is above 65,536 pages. (Standard, 3.2.5)
+/// Whether no memory has a minimum or a maximum above 65,536 pages. (Standard, 3.2.5)
 pub(crate) fn keeps_memory_pages(m: &Module) -> bool
     ensures { IsTrue result ↔ Keeps m.now memory_pages }
 {
     imports_few_pages(m.imports.as_slice()) && have_few_pages(m.memories.as_slice())
 }
 
-/// No memory's maximum is below its minimum. (Standard, 3.2.5)
+/// Whether no memory has a maximum below its minimum. (Standard, 3.2.5)
 pub(crate) fn keeps_memory_limits(m: &Module) -> bool
     ensures { IsTrue result ↔ Keeps m.now memory_limits }
 {

@@ -1,4 +1,4 @@
-// The rules on types, indices and the start function. Each function decides one rule exactly.
+// The rules on types, on indices and on the start function. Each function `keeps_..` decides one rule exactly.
 
 ghost use Rattle.std.specs.Prelude.{◌≡◌, ◌↔◌, ◌<◌, [], IsTrue, All};
 ghost use Rattle.module_ast.specs.Validation.{Keeps, import_types, function_types, export_indices, start_index, start_type, element_tables, element_funcs, segment_memories};
@@ -8,7 +8,7 @@ ghost use Rattle.wasm_valid.specs.Imported.{IfFunc};
 use module_ast::module::{Element, FuncType, Import, Item, Module};
 use module_ast::spaces::{Counts, Spaces};
 
-// Where it is a function, its type is one of so many.
+// Whether the type of an import, if the import is a function, is one of the first `types` types.
 fn names_type(import: &Import, types: usize) -> bool
     ensures { IsTrue result ↔ IfFunc import.now.item (λ ty. ty < types) }
 {
@@ -18,21 +18,21 @@ fn names_type(import: &Import, types: usize) -> bool
     }
 }
 
-// Each of these does.
+// Whether the type of each import that is a function is one of the first `types` types.
 fn name_types(imports: &[Import], types: usize) -> bool
     ensures { IsTrue result ↔ All (λ i. IfFunc i.item (λ ty. ty < types)) imports.now }
 {
     imports.iter().all(|i| names_type(i, types))
 }
 
-/// Each imported function names a type. (Standard, 3.4.9)
+/// Whether each imported function names a type of the module. (Standard, 3.4.9)
 pub(crate) fn keeps_import_types(m: &Module) -> bool
     ensures { IsTrue result ↔ Keeps m.now import_types }
 {
     name_types(m.imports.as_slice(), m.types.as_slice().len())
 }
 
-/// Each defined function names a type. (Standard, 3.4.1)
+/// Whether each defined function names a type of the module. (Standard, 3.4.1)
 pub(crate) fn keeps_function_types(m: &Module) -> bool
     ensures { IsTrue result ↔ Keeps m.now function_types }
 {
@@ -40,7 +40,7 @@ pub(crate) fn keeps_function_types(m: &Module) -> bool
     m.funcs.as_slice().iter().all(|ty| (*ty as usize) < types)
 }
 
-/// Each export names an entry of its index space. (Standard, 3.4.8)
+/// Whether each export names an entry of its index space. (Standard, 3.4.8)
 pub(crate) fn keeps_export_indices(m: &Module, counts: &Counts) -> bool
     requires { counts.now ≡ space_counts m.now }
     ensures { IsTrue result ↔ Keeps m.now export_indices }
@@ -51,7 +51,7 @@ pub(crate) fn keeps_export_indices(m: &Module, counts: &Counts) -> bool
         .all(|e| (e.index as usize) < counts.of_kind(e.kind))
 }
 
-/// The start function, where there is one, exists. (Standard, 3.4.7)
+/// Whether the start function, if there is one, exists. (Standard, 3.4.7)
 pub(crate) fn keeps_start_index(m: &Module, counts: &Counts) -> bool
     requires { counts.now ≡ space_counts m.now }
     ensures { IsTrue result ↔ Keeps m.now start_index }
@@ -62,14 +62,14 @@ pub(crate) fn keeps_start_index(m: &Module, counts: &Counts) -> bool
     }
 }
 
-// It takes no parameters and gives no results.
+// Whether a function type has neither parameters nor results.
 fn is_bare(ty: &FuncType) -> bool
     ensures { IsTrue result ↔ (ty.now ≡ record { params = []; results = [] }) }
 {
     ty.params.as_slice().is_empty() && ty.results.as_slice().is_empty()
 }
 
-/// The start function, where there is one, has neither parameters nor results. (Standard, 3.4.7)
+/// Whether the start function, if there is one, has neither parameters nor results. (Standard, 3.4.7)
 pub(crate) fn keeps_start_type(m: &Module, spaces: &Spaces) -> bool
     requires { spaces.now ≡ spaces_of m.now }
     ensures { IsTrue result ↔ Keeps m.now start_type }
@@ -83,7 +83,7 @@ pub(crate) fn keeps_start_type(m: &Module, spaces: &Spaces) -> bool
     }
 }
 
-/// The table of each element segment exists. (Standard, 3.4.5)
+/// Whether the table of each element segment exists. (Standard, 3.4.5)
 pub(crate) fn keeps_element_tables(m: &Module, counts: &Counts) -> bool
     requires { counts.now ≡ space_counts m.now }
     ensures { IsTrue result ↔ Keeps m.now element_tables }
@@ -92,7 +92,7 @@ pub(crate) fn keeps_element_tables(m: &Module, counts: &Counts) -> bool
     elements.iter().all(|e| (e.table as usize) < counts.tables)
 }
 
-// Each function of the segment is one of so many.
+// Whether each function of an element segment is one of the first `funcs` functions.
 fn name_funcs(element: &Element, funcs: usize) -> bool
     ensures { IsTrue result ↔ All (λ f. f < funcs) element.now.funcs }
 {
@@ -103,7 +103,7 @@ fn name_funcs(element: &Element, funcs: usize) -> bool
         .all(|f| (*f as usize) < funcs)
 }
 
-/// Each function of each element segment exists. (Standard, 3.4.5)
+/// Whether each function of each element segment exists. (Standard, 3.4.5)
 pub(crate) fn keeps_element_funcs(m: &Module, counts: &Counts) -> bool
     requires { counts.now ≡ space_counts m.now }
     ensures { IsTrue result ↔ Keeps m.now element_funcs }
@@ -112,7 +112,7 @@ pub(crate) fn keeps_element_funcs(m: &Module, counts: &Counts) -> bool
     elements.iter().all(|e| name_funcs(e, counts.funcs))
 }
 
-/// The memory of each data segment exists. (Standard, 3.4.6)
+/// Whether the memory of each data segment exists. (Standard, 3.4.6)
 pub(crate) fn keeps_segment_memories(m: &Module, counts: &Counts) -> bool
     requires { counts.now ≡ space_counts m.now }
     ensures { IsTrue result ↔ Keeps m.now segment_memories }
