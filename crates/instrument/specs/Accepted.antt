@@ -8,15 +8,15 @@ use Rattle.instrument.specs.Output.{output_bytes}
 use Rattle.instrument.specs.Made.{IsSound}
 use Rattle.instrument.specs.Same.{Same}
 
--- the bytes are a valid module within the narrow limits, which imports no hook
+-- the bytes are a valid module within the narrow limits that imports nothing from the module of hooks
 pub record IsAccepted (bytes : List ℕ) (m : Module) : Type 0 where
   pub spelled : Gram bytes m
   pub limits : IsWithin narrow m
   pub valid : IsValid m
   pub free : IsFree m
 
--- For the file of an accepted module its output was written: a valid module of the right shell that under every script
--- does what the original does, and whose hook calls read as the original's selected events.
+-- The file is accepted, and what was written for it is its output. The output is a valid module with the right shell. Under
+-- every script it does what the original does, and its hook calls read as the original's selected events.
 pub record IsInstrumented (file : List ℕ) (hooks : Hooks) (written : List ℕ) : Type 0 where
   pub original : Module
   pub accepted : IsAccepted file original

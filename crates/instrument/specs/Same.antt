@@ -17,11 +17,11 @@ use Rattle.instrument.specs.Output.{hook_remap}
 abbrev pub map_slots : Remap → List (Option ℕ) → List (Option ℕ)
 map_slots r slots = map (option_map (map_index r)) slots
 
--- the store of the output where the original's is this one
+-- the store of the output if the store of the original is this one
 abbrev pub map_store : Remap → Store → Store
 map_store r st = record st { slots = map_slots r st.slots }
 
--- a moment of the original with its trace, and one of the output with its own
+-- a moment of the output, with its trace, matches a moment of the original, with its own
 pub record Match (info : Info) (r : Remap) (a b : Env) (trace_a trace_b : List TraceItem) : Type 0 where
   pub phase : b.phase ≡ a.phase
   pub started : b.started ≡ a.started
@@ -52,8 +52,8 @@ told_so_far m hooks o s k = read (info_of m hooks) (env_of o s k).store.slots (t
 abbrev pub shown_so_far : Module → Hooks → Script → ℕ → List TraceItem
 shown_so_far m hooks s n = chosen_items (has hooks) (trace_of m s n)
 
--- Each moment of the original is matched within a bounded number of steps; where the output is over, so is the
--- original; and at no moment has the output told what the original does not show.
+-- Each moment of the original is matched within a bounded number of steps. If the output is over, so is the original. At no
+-- moment has the output told anything that the original does not show.
 pub record SameRuns (m : Module) (hooks : Hooks) (o : Module) (s : Script) : Type 0 where
   pub each : (n : ℕ) → (k : ℕ) × (n ≤ k) × (k ≤ cost m * (n + 1)) × Matches m hooks o s n k
   pub ends : (k : ℕ) → IsOver o s k → IsOver m s k × Matches m hooks o s k k
@@ -64,7 +64,7 @@ pub record Same (m : Module) (hooks : Hooks) (o : Module) : Type 0 where
   pub links : (s : Script) → IsScriptInRange s → link o s ≡ link m s
   pub runs : (s : Script) → IsScriptInRange s → link m s ≡ None → SameRuns m hooks o s
 
--- what reports are made of: the events that the output has told are those of the original, all of them where it is over
+-- what reports are made of: the events that the output has told begin those of the original, and are all of them if it is over
 pub record ReportsCompose (m : Module) (hooks : Hooks) (o : Module) (s : Script) (k : ℕ) : Type 0 where
   pub all : IsOver o s k → events_in (told_so_far m hooks o s k) ≡ events_in (shown_so_far m hooks s k)
   pub some : IsPrefix (events_in (told_so_far m hooks o s k)) (events_in (shown_so_far m hooks s k))

@@ -10,14 +10,14 @@ use std::alloc::Global;
 use std::marker::Model;
 use wasm_num::NoMemory;
 
-/// The types of hooks, each once, in the order of first need, which contracts see as their list. The number of parameters
-/// tells them apart, by which a type is found in time that does not grow with their number.
+/// The types of hooks, each once, in the order of first need. Contracts see a list. No two of these types have equally many
+/// parameters, so a type is found by this number, in time that does not grow with the number of types.
 pub(crate) struct HookTypes {
     types: Vec<FuncType>,
     lengths: IndexSet<usize>,
 }
 
-// By a call of its own, so that a way out past it is one step in a proof.
+// Dropped by hand: each early return past a value of this type then costs one proof step instead of one per field.
 impl Drop for HookTypes {
     fn drop(self) {
         let HookTypes {
@@ -39,7 +39,7 @@ impl Model for HookTypes {
 }
 
 impl HookTypes {
-    /// The types of the hooks of these keys. An `Err` comes where there is no memory.
+    /// The types of the hooks of these keys. An `Err` comes only if memory runs out.
     pub(crate) fn of(alloc: Global, keys: &[HookKey]) -> Result<HookTypes, NoMemory>
         ensures { IfOk result (λ types. types ≡ hook_types keys.now) }
     {
@@ -55,7 +55,7 @@ impl HookTypes {
         Ok(HookTypes { types, lengths })
     }
 
-    /// Where a hook's type stands among them.
+    /// The place of a hook's type among these types, from 0; `None` if it is not one of them.
     pub(crate) fn find(&self, ty: &FuncType) -> Option<usize>
         ensures { result ≡ find_type self.now ty.now }
     {

@@ -1,4 +1,4 @@
-// The module with hooks.
+// Makes the module with hooks.
 
 ghost use Rattle.std.specs.Prelude.{◌≡◌, ◌<◌, ◌≤◌, ℕ, List, length, IfOk, IsErrOf, OnOk};
 ghost use Rattle.module_ast.specs.Binary.{module_bytes, Gram, IsWithin};
@@ -33,9 +33,9 @@ pub struct Made {
 pub enum InstrumentFault {
     /// An import names the module that hooks are imported from.
     HookModuleTaken,
-    /// The module with hooks has this many bytes, and more than were allowed.
+    /// The module with hooks has `length` bytes, which is more than is allowed.
     TooLarge { length: u64 },
-    /// The allocator gave no memory.
+    /// Memory ran out.
     NoMemory,
 }
 
@@ -47,16 +47,21 @@ impl From<AllocError> for InstrumentFault {
     }
 }
 
-/// The module with the hooks of the selected groups, each of its bodies by the rewriter. Its bytes are a valid module that
-/// under every script does what the original does, and whose hook calls, read with the information, are the original's
-/// events of these groups.
+/// The module with the hooks of the selected groups. The rewriter makes each of its bodies. Its bytes are a valid module that
+/// under every script does what the original does. Its hook calls, read with the information, are the original's events of
+/// these groups.
 ///
-/// `HookModuleTaken` comes where an import of any kind names the hooks' module, else `TooLarge` where there are more than
-/// `max` bytes, before any body is made, and `NoMemory` where memory ends on the way. The bodies are gone over by as
-/// many threads as `jobs` says, 1 to 64, each a part of them, first for the hooks that they need, then for their sizes, and
-/// then they are rewritten; the bytes and the information do not depend on the number of jobs. A thread spells each
-/// rewritten body and drops it before it makes the next one; so beside the module and the output there are no more than
-/// one rewritten body for each job, and the bytes of those of a round, of which there are about 2,097,152 for each job.
+/// - `HookModuleTaken` exactly if an import of any kind names the module that hooks are imported from.
+/// - Otherwise `TooLarge` if there are more than `max` bytes. This is known before any body is made.
+/// - `NoMemory` if memory runs out on the way.
+///
+/// As many threads as `jobs` says, 1 to 64, go over the bodies, and each takes a part of them: first to find the hooks that
+/// they need, then to find their sizes, and then to rewrite them. The bytes and the information do not depend on the number of
+/// jobs.
+///
+/// A thread spells each rewritten body and drops it before it makes the next one. So in addition to the module and the output
+/// there are at most one rewritten body for each job, and the bytes of the bodies of one round, which are about 2,097,152 for
+/// each job.
 pub fn instrument<R: Threads + Sync, W: Rewriter>(
     rt: &R,
     alloc: Global,

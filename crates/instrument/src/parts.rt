@@ -1,4 +1,4 @@
-// The parts of a module with hooks that differ from the original's.
+// Makes the parts of a module with hooks, outside its bodies, that differ from those of the original.
 
 ghost use Rattle.std.specs.Prelude.{◌≡◌, ◌+◌, ◌^◌, ◌<◌, length, IfOk};
 ghost use Rattle.instrument.specs.Output.{hook_types, hook_import, hook_imports, hook_module_text};
@@ -15,7 +15,8 @@ use std::alloc::Global;
 use wasm_encode::Outline;
 use wasm_num::NoMemory;
 
-/// Types and imports that go behind the original's, and exports, start and elements that stand in place of its own.
+/// The types and imports that come after those of the original, and the exports, the start function and the element segments
+/// that replace those of the original.
 pub(crate) struct Parts {
     pub(crate) types: HookTypes,
     pub(crate) imports: Seq<Import>,
@@ -24,7 +25,7 @@ pub(crate) struct Parts {
     pub(crate) elements: Seq<Element>,
 }
 
-// By a call of its own, so that a way out past it is one step in a proof.
+// Dropped by hand: each early return past a value of this type then costs one proof step instead of one per field.
 impl Drop for Parts {
     fn drop(self) {
         let Parts {
@@ -37,14 +38,14 @@ impl Drop for Parts {
     }
 }
 
-// The module that hooks are imported from, as a name.
+// The name of the module that hooks are imported from.
 fn hook_module(alloc: Global) -> Result<Name, NoMemory>
     ensures { IfOk result (λ name. name ≡ hook_module_text) }
 {
     Ok(Name::from_string(String::from_str(alloc, HOOK_MODULE)?))
 }
 
-// The import of the hook of a key.
+// The import of the hook of a key. `types` has the types of the hooks.
 fn hook_import(
     alloc: Global,
     m: &Module,
@@ -82,7 +83,7 @@ fn hook_imports(
 }
 
 impl HookPlan<'_> {
-    /// The parts that differ. An `Err` comes where there is no memory.
+    /// The parts of the output that differ. An `Err` comes only if memory runs out.
     pub(crate) fn parts(&self, alloc: Global) -> Result<Parts, NoMemory>
         ensures { IfOk result (λ parts. parts ≡ parts_of self.now) }
     {
@@ -100,7 +101,7 @@ impl HookPlan<'_> {
 }
 
 impl Parts {
-    /// The module with these parts, all else lent from the original.
+    /// The outline of the output: these parts, and all else borrowed from the original.
     pub(crate) fn outline<'p>(&'p self, m: &'p Module) -> Outline<'p>
         ensures { (plan : Planned) → m.now ≡ plan.module → self.now ≡ parts_of plan → result ≡ new_outline plan }
     {

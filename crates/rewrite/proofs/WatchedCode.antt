@@ -12,15 +12,16 @@ use Rattle.module_ast.specs.Structure.{Tree, done, plain, Plain, unreachable, br
 use Rattle.module_ast.proofs.Plains.{the_plain}
 use Rattle.index_remap.specs.declared.Remap.{Remap}
 use Rattle.index_remap.specs.Remap.{map_tree}
+use Rattle.hook_mono.specs.Keys.{is_wanted}
 use Rattle.hook_mono.specs.Needed.{Site}
 use Rattle.wasm_sem.proofs.Straight.{none_some}
 use Rattle.rewrite_needs.specs.declared.watching.Telling.{Telling}
 use Rattle.rewrite_needs.specs.declared.watching.Telling.TheVariants.{Before, Int, Local, Global, Kept}
 use Rattle.rewrite_needs.specs.declared.watching.Watch.{Watch}
-use Rattle.rewrite_needs.specs.Watching.{watch, watch_at, instr_watch, or_none, watch_temps}
+use Rattle.rewrite_needs.specs.Watching.{watch, watch_at, instr_watch, is_untold, or_none, kept_temps}
 use Rattle.rewrite_needs.specs.Room.{instr_temps}
 use Rattle.rewrite_needs.specs.Temporaries.{branch_temps}
-use Rattle.rewrite_needs.proofs.Rows.{watched_temps, other_temps}
+use Rattle.rewrite_needs.proofs.Rows.{unwanted, wanted, watched_temps, other_temps}
 use Rattle.rewrite.specs.Setting.{Setting, wants, tell}
 use Rattle.rewrite.specs.Templates.{told_by, told_code, branch_code, template_by, template}
 use Rattle.rewrite.specs.Emitted.{HasRoom, template_of, branch_of}
@@ -87,20 +88,32 @@ copy_is r s p i copy x e h = (the_plain i, refl, before_back copy (the_plain i) 
 -- ---- its template
 
 -- where its hook is not called, it stands alone
-pub told_off : (w : Setting) (p : ℤ) (key : HookKey) (told : Telling) (i : Plain) → told_by false w p key told i ≡ i ∷ []
+told_off : (w : Setting) (p : ℤ) (key : HookKey) (told : Telling) (i : Plain) → told_by false w p key told i ≡ i ∷ []
 told_off w p key Before i = refl
 told_off w p key told i = refl
 
 module _ (w : Setting) (p : ℕ) where
   module _ (i : Instr) where
-    pub watched_room : (x : Watch) → instr_watch w.site p i ≡ Some x → HasRoom w.pool (instr_temps w.hooks w.site p i) → HasRoom w.pool (watch_temps w.hooks x)
-    watched_room x e h = subst (HasRoom w.pool) (watched_temps w.site p w.hooks (plain_of i) x e) h
+    pub watched_room : (x : Watch) → instr_watch w.site p i ≡ Some x → is_untold w.hooks (instr_watch w.site p i) ≡ false → HasRoom w.pool (instr_temps w.hooks w.site p i)
+        → HasRoom w.pool (kept_temps true x.told)
+    watched_room x e f h =
+        let called = wanted w.hooks (instr_watch w.site p i) x e f in
+        subst (HasRoom w.pool) (watched_temps w.site p w.hooks (plain_of i) x e ∙ ap (λ b. kept_temps b x.told) called) h
 
     pub other_room : instr_watch w.site p i ≡ None → HasRoom w.pool (instr_temps w.hooks w.site p i) → HasRoom w.pool (or_none (branch_temps w.hooks w.site) (plain_of i))
     other_room e h = subst (HasRoom w.pool) (other_temps w.site p w.hooks (plain_of i) e) h
 
-    pub watched_template : (ss : List Scope) (x : Watch) (q : Plain) → plain_of i ≡ Some q → instr_watch w.site p i ≡ Some x → template_of w ss p i ≡ told_code w p x.key x.told q
+    watched_template : (ss : List Scope) (x : Watch) (q : Plain) → plain_of i ≡ Some q → instr_watch w.site p i ≡ Some x → template_of w ss p i ≡ told_code w p x.key x.told q
     watched_template ss x q is e = ap (or_none (template w ss p)) is ∙ ap (template_by w ss p q) (sym (ap (watch_at w.site p) is) ∙ e)
+
+    -- with its hook called, and without
+    pub told_template : (ss : List Scope) (x : Watch) (q : Plain) → plain_of i ≡ Some q → instr_watch w.site p i ≡ Some x → is_untold w.hooks (instr_watch w.site p i) ≡ false
+        → template_of w ss p i ≡ told_by true w (pos p) x.key x.told q
+    told_template ss x q is e f = watched_template ss x q is e ∙ ap (λ b. told_by b w (pos p) x.key x.told q) (wanted w.hooks (instr_watch w.site p i) x e f)
+
+    pub untold_template : (ss : List Scope) (x : Watch) (q : Plain) → plain_of i ≡ Some q → instr_watch w.site p i ≡ Some x → is_wanted w.hooks x.key ≡ false
+        → template_of w ss p i ≡ q ∷ []
+    untold_template ss x q is e f = watched_template ss x q is e ∙ ap (λ b. told_by b w (pos p) x.key x.told q) f ∙ told_off w (pos p) x.key x.told q
 
     pub other_template : (ss : List Scope) → instr_watch w.site p i ≡ None → branch_of w ss p i ≡ template_of w ss p i
     other_template ss e = go (plain_of i) e

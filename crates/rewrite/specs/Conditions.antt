@@ -9,13 +9,13 @@ use Rattle.rewrite.specs.Setting.{Setting, remap}
 use Rattle.rewrite_needs.specs.Temporaries.{pool_of}
 use Rattle.rewrite.specs.Rewrite.{setting_of}
 
--- the numbers of the hooks, of the functions that are called, and of the locals with the temporaries fit
+-- the indices of the hooks, of the functions that are called, and of the locals with the temporaries fit
 pub record HasNumbers (w : Setting) : Type 0 where
   pub hooks : w.imports + length w.keys < 2 ^ 32
   pub calls : Maps (remap w) w.site.body.code
   pub locals : w.pool.base + w.pool.ints + w.pool.longs < 2 ^ 32
 
--- so it is for a defined function of a module with these hooks
+-- the same of a defined function of a module with these hooks
 abbrev pub CanRewrite : Module → (defined : ℕ) → Hooks → List HookKey → (imports : ℕ) → Type 0
 CanRewrite m defined hooks keys imports = (s : Site) → slice_get (sites m) defined ≡ Some s → HasNumbers (setting_of hooks keys imports s)
 

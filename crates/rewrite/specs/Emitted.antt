@@ -19,7 +19,7 @@ use Rattle.branch_resolve.specs.Scopes.{target, end_of}
 use Rattle.branch_resolve.specs.declared.EndOf.{EndOf}
 use Rattle.rewrite.specs.Setting.{Setting, tells, wants}
 
--- the end of a block
+-- the call of the end hook of a block, if ends are selected
 abbrev pub block_end_code : Setting → EndOf → List Plain
 block_end_code w b = tells w b.end (keys.End b.kind) (i32_const b.begin ∷ [])
 
@@ -36,7 +36,7 @@ opened openings.Block ty a t = block ty a t
 opened openings.Loop ty a t = loop ty a t
 opened openings.If ty a t = if_then ty a t
 
--- 1 where the types are the same
+-- 1 if the types are the same, and 0 otherwise
 abbrev pub one_if_same : ValType → ValType → ℕ
 one_if_same I32 I32 = 1
 one_if_same I64 I64 = 1
@@ -51,11 +51,11 @@ HasRoom pool (ts ∷ tss) = HasTemps pool 0 ts × HasRoom pool tss
 abbrev pub template_of : Setting → List Scope → (p : ℕ) → Instr → List Plain
 template_of w scopes p i = or_none (template w scopes p) (plain_of i)
 
--- as a live branch or call
+-- the same as a live branch or call
 abbrev pub branch_of : Setting → List Scope → (p : ℕ) → Instr → List Plain
 branch_of w scopes p i = or_none (branch_code w scopes p) (plain_of i)
 
--- a call through the table, where it is told and where it is not
+-- a call through the table, with its hook calls if calls are selected
 abbrev pub indirect_template : Setting → (p ty : ℕ) → FuncType → List Plain
 indirect_template w p ty t = cond (wants w (keys.IndirectPre t.params)) (indirect_code w p ty t (temps w.pool (I32 ∷ t.params))) (call_indirect ty ∷ [])
 
@@ -63,7 +63,7 @@ indirect_template w p ty t = cond (wants w (keys.IndirectPre t.params)) (indirec
 abbrev pub target_word : List Block → (label : ℕ) → ℕ
 target_word blocks label = cast_unsigned w32 (unwrap_or (target blocks label) (pos 0))
 
--- an instruction of the program that passes no ends by itself: none of a branch to one label and of a return
+-- an instruction of the program that passes no ends by itself, as each does but br, br_if and return
 abbrev pub PassesNone : Instr → Type 0
 PassesNone (Br l) = ⊥
 PassesNone (BrIf l) = ⊥

@@ -1,4 +1,4 @@
-// The blocks around a place, with the bytes of their ends.
+// The blocks around a place, with the bytes of the hook calls for their ends.
 
 ghost use Rattle.std.specs.Prelude.{◌≡◌, ◌∷◌, [], ◌<◌, ◌≤◌, ◌^◌, length, drop, OnOk};
 ghost use Rattle.module_ast.specs.Binary.{plain_bytes};
@@ -15,15 +15,15 @@ use module_ast::code::Instr;
 use std::alloc::{AllocError, Global};
 use wasm_encode::plain_length;
 
-/// The blocks around a place, and for each how many bytes the calls of the end hooks take of it and of those around it, which
-/// depend on what a body is rewritten by.
+/// The blocks around a place, and for each of them how many bytes the calls of the end hooks take, for the block itself and
+/// for all blocks around it. The bytes depend on the setting.
 #[derive(Drop)]
 pub(crate) struct Around {
     pub(crate) scopes: Scopes,
     pub(crate) sums: EndSums,
 }
 
-// The bytes of a constant.
+// How many bytes a constant has.
 fn const_length(value: i32) -> u64
     ensures length { result ≡ length (plain_bytes (i32_const value)) }
     ensures bound { result ≤ 16 }
@@ -31,7 +31,7 @@ fn const_length(value: i32) -> u64
     plain_length(&Instr::I32Const(value))
 }
 
-// The bytes of a call.
+// How many bytes a call has.
 fn call_length(func: u32) -> u64
     ensures length { result ≡ length (plain_bytes (call func)) }
     ensures bound { result ≤ 16 }
@@ -40,7 +40,7 @@ fn call_length(func: u32) -> u64
 }
 
 impl Setting<'_> {
-    // The bytes of the call of a block's end hook.
+    // How many bytes the call of the end hook of a block has: none if ends are not selected.
     fn end_length(&self, block: EndOf) -> u64
         ensures length { result ≡ plains_length (block_end_code self.now block) }
         ensures bound { result ≤ 64 }
@@ -66,7 +66,7 @@ impl Around {
         }
     }
 
-    /// Enters a block. An `Err` comes where there is no memory.
+    /// Enters a block. An `Err` comes if there is no memory.
     pub(crate) fn enter(&mut self, setting: &Setting<'_>, block: Block) -> Result<(), AllocError>
         requires few { length self.old.scopes < 2 ^ 32 }
         requires sums { AreSummed setting.now self.old }

@@ -1,4 +1,4 @@
-// Live instructions that pass the ends of blocks.
+// Live branches and returns, which leave blocks and so pass their ends.
 
 ghost use Rattle.std.specs.Prelude.{◌≡◌, ◌∷◌, OnOk, ◌<◌, ◌^◌, List};
 ghost use Rattle.module_ast.specs.Structure.Trees as tree;
@@ -24,7 +24,7 @@ use std::alloc::{AllocError, Global};
 use wasm_num::ValType;
 
 impl Setting<'_> {
-    // A branch: where it leads is told, and then the ends that it passes.
+    // Adds a `br`. The hook calls before it tell where it leads, and then the ends that it passes.
     pub(crate) fn push_br<S: Sink>(
         &self,
         alloc: Global,
@@ -50,7 +50,7 @@ impl Setting<'_> {
         put(Instr::Br(label), sink, code)
     }
 
-    // A `return`: the results are told, and then the ends of all open blocks.
+    // Adds a `return`. The hook calls before it tell the results, and then the ends of all open blocks.
     pub(crate) fn push_return<S: Sink>(
         &self,
         alloc: Global,
@@ -69,14 +69,14 @@ impl Setting<'_> {
         put(Instr::Return, sink, code)
     }
 
-    // Whether a `br_if` has a template: branches on a condition or ends are selected.
+    // Whether a `br_if` gets hook calls: it does if `br_if` or ends are selected.
     fn watches_br_if(&self) -> bool
         ensures { result ≡ watches_br_if self.now.hooks }
     {
         self.has(GroupName::BrIf) || self.has(GroupName::End)
     }
 
-    // The ends that the branch passes where it is taken, where ends are selected.
+    // Adds the hook calls for the ends that a `br_if` passes, if ends are selected. They are made when the branch is taken.
     fn push_taken<S: Sink>(
         &self,
         alloc: Global,
@@ -100,7 +100,7 @@ impl Setting<'_> {
         sink.put_block(Opening::If, BlockType::Empty, told, code)
     }
 
-    /// Adds a live `br_if` by its template.
+    /// Adds a live `br_if` by its template. An `Err` comes if there is no memory.
     pub(crate) fn push_br_if<S: Sink>(
         &self,
         alloc: Global,

@@ -23,7 +23,7 @@ use std::alloc::{AllocError, Global};
 use wasm_num::ValType;
 
 impl<'m> Setting<'m> {
-    // After a call the results.
+    // Adds the hook call after a call, which tells the results.
     fn push_post(
         &self,
         alloc: Global,
@@ -39,7 +39,7 @@ impl<'m> Setting<'m> {
         self.push_saved(alloc, position as i32, &key, &[], results, code)
     }
 
-    // Before a call its function and the arguments.
+    // Adds the hook call before a call, which tells the function and the arguments.
     fn push_pre(
         &self,
         alloc: Global,
@@ -56,7 +56,7 @@ impl<'m> Setting<'m> {
         self.push_saved(alloc, position as i32, &key, &[func], params, code)
     }
 
-    // A call of a function with these parameters and results.
+    // Adds the call of a function that has these parameters and results.
     fn push_called(
         &self,
         alloc: Global,
@@ -80,8 +80,8 @@ impl<'m> Setting<'m> {
         self.push_post(alloc, position, results, code)
     }
 
-    /// Adds a live call by its template: its function is remapped, and where calls are selected, the arguments are told before
-    /// it and the results behind it.
+    /// Adds a live call by its template. Its function is remapped. If calls are selected, a hook call before it tells the
+    /// arguments, and one after it the results. An `Err` comes if there is no memory.
     pub(crate) fn push_call_of(
         &self,
         alloc: Global,
@@ -98,7 +98,7 @@ impl<'m> Setting<'m> {
         self.push_called(alloc, func, params, results, position, code)
     }
 
-    // A call through the table of a function with these parameters and results.
+    // Adds the call through the table of a function that has these parameters and results.
     fn push_called_indirect(
         &self,
         alloc: Global,
@@ -120,7 +120,7 @@ impl<'m> Setting<'m> {
         self.push_indirect(alloc, ty, params, results, &temps, position, code)
     }
 
-    // The slot's number is in the first temporary, and the arguments go into those behind it.
+    // The same with these temporaries. The index of the slot goes into the first, and the arguments go into those after it.
     fn push_indirect(
         &self,
         alloc: Global,
@@ -143,7 +143,7 @@ impl<'m> Setting<'m> {
         }
     }
 
-    // A call through the table whose slot and arguments go into these temporaries.
+    // The same with a temporary for the index of the slot, and those for the arguments.
     fn push_in_slot(
         &self,
         alloc: Global,
@@ -170,8 +170,8 @@ impl<'m> Setting<'m> {
         self.push_post(alloc, position, results, code)
     }
 
-    /// Adds a live call through the table by its template: where calls are selected, the slot and the arguments are told
-    /// before it and the results behind it.
+    /// Adds a live call through the table by its template. If calls are selected, a hook call before it tells the slot and the
+    /// arguments, and one after it the results. An `Err` comes if there is no memory.
     pub(crate) fn push_indirect_of(
         &self,
         alloc: Global,
@@ -188,7 +188,7 @@ impl<'m> Setting<'m> {
     }
 }
 
-// An i32 for the slot's number, and the parameters.
+// An i32 for the index of the slot, and the parameters after it.
 fn with_slot(alloc: Global, params: &[ValType]) -> Result<Vec<ValType>, AllocError>
     ensures { IfOk result (λ types. types.items ≡ I32 ∷ params.now) }
 {

@@ -1,4 +1,4 @@
-// The bytes of end hooks' calls, summed along the open blocks.
+// The bytes of the calls of end hooks, summed along the open blocks.
 
 ghost use Rattle.std.specs.Prelude.{◌≡◌, ◌+◌, ◌-◌, ◌<◌, ◌^◌, ◌∷◌, [], length, drop, OnOk};
 ghost use Rattle.module_ast.specs.Lists.{first_or};
@@ -6,8 +6,9 @@ ghost use Rattle.module_ast.specs.Lists.{first_or};
 use std::alloc::{AllocError, Global};
 use std::marker::Model;
 
-/// For each open block, how many bytes stand for its end and for those of the blocks around it. So what a branch costs
-/// that leaves a thousand blocks is one difference. Contracts see a list, which begins with the innermost block's sum.
+/// For each open block, how many bytes the calls of the end hooks have for it and for all blocks around it. A difference of two
+/// sums then says what a branch costs, however many blocks it leaves. Contracts see a list that begins with the sum of the
+/// innermost block.
 #[derive(Drop)]
 pub(crate) struct EndSums {
     sums: Vec<u64>,
@@ -31,7 +32,7 @@ impl EndSums {
         }
     }
 
-    // The sum of the block that has so many blocks inside it, and 0 where there is none.
+    // The sum of the block that has `inside` open blocks inside it, or 0 if there is no such block.
     fn outward(&self, inside: usize) -> u64
         ensures { result ≡ first_or (drop inside self.now) 0 }
     {
@@ -42,21 +43,21 @@ impl EndSums {
         sums[sums.len() - 1 - inside]
     }
 
-    /// The ends of all blocks.
+    /// How many bytes there are for the ends of all open blocks.
     pub fn all(&self) -> u64
         ensures { result ≡ first_or self.now 0 }
     {
         self.outward(0)
     }
 
-    /// The ends of the blocks that a branch to this label leaves.
+    /// How many bytes there are for the ends of the blocks that a branch to this label leaves.
     pub fn left_by(&self, label: u32) -> u64
         ensures { result ≡ first_or self.now 0 - first_or (drop (label + 1) self.now) 0 }
     {
         self.all().saturating_sub(self.outward(label as usize + 1))
     }
 
-    /// Enters a block whose end has so many bytes.
+    /// Enters a block whose own end takes this many bytes. An `Err` comes if there is no memory.
     pub fn enter(&mut self, length: u64) -> Result<(), AllocError>
         requires { length + first_or self.old 0 < 2 ^ 64 }
         ensures { OnOk result (self.new ≡ (length + first_or self.old 0) ∷ self.old) }

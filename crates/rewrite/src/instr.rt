@@ -1,4 +1,4 @@
-// Live instructions with no sequence in them.
+// Live instructions that have no sequence in them.
 
 ghost use Rattle.std.specs.Prelude.{◌≡◌, ◌++◌, ◌∷◌, OnOk, ◌<◌, ◌^◌, List};
 ghost use Rattle.module_ast.specs.Structure.Trees as tree;
@@ -28,7 +28,7 @@ use module_ast::labels::Labels;
 use std::alloc::{AllocError, Global};
 
 impl<'m> Setting<'m> {
-    // The calls of the end hooks of the blocks that a branch to the label leaves.
+    // Adds the calls of the end hooks of the blocks that a branch to the label leaves.
     pub(crate) fn push_left(
         &self,
         alloc: Global,
@@ -45,7 +45,7 @@ impl<'m> Setting<'m> {
         self.push_ends(&ends, code)
     }
 
-    // The calls of the end hooks of all open blocks.
+    // Adds the calls of the end hooks of all open blocks.
     pub(crate) fn push_all_ends(
         &self,
         alloc: Global,
@@ -61,8 +61,8 @@ impl<'m> Setting<'m> {
         self.push_ends(&ends, code)
     }
 
-    /// Adds the hook call that tells a branch, where its group is selected: its label, the position that the label leads to (0
-    /// where there is no such block), and what these temporaries hold. An `Err` comes where there is no memory.
+    /// Adds the hook call that tells a branch, if its group is selected. The call tells the label, the position that the label
+    /// leads to (0 if there is no such block), and the words of these temporaries. An `Err` comes if there is no memory.
     pub fn push_branch_tell(
         &self,
         group: GroupName,
@@ -81,7 +81,7 @@ impl<'m> Setting<'m> {
         self.push_tell(position, &HookKey::Plain(group), &words, temps, code)
     }
 
-    // A `br_table`, whose index is told before it where branch tables or ends are selected.
+    // Adds a `br_table`. A hook call before it tells the index, if branch tables or ends are selected.
     fn push_table(
         &self,
         alloc: Global,
@@ -100,7 +100,7 @@ impl<'m> Setting<'m> {
         push_one(code, Instr::BrTable(labels, last))
     }
 
-    // A live `br_table` or call by its template. It adds nothing for other instructions.
+    // Adds a live `br_table` or call by its template. It adds nothing for another instruction.
     fn push_calling(
         &self,
         alloc: Global,
@@ -122,8 +122,8 @@ impl<'m> Setting<'m> {
         }
     }
 
-    /// Adds a live instruction by its template: one with no sequence in it, other than a `br`, a `br_if` and a `return`, which
-    /// pass ends. An `Err` comes where there is no memory.
+    /// Adds a live instruction by its template. The instruction has no sequence in it, and is not a `br`, a `br_if` or a
+    /// `return`, which pass ends. An `Err` comes if there is no memory.
     pub(crate) fn push_plain(
         &self,
         alloc: Global,
@@ -137,17 +137,20 @@ impl<'m> Setting<'m> {
         requires maps { Maps (remap self.now) (before instr.now done) }
         ensures { OnOk result ((ss : List Scope) → code.new.items ≡ code.old.items ++ instrs (template_of self.now ss position instr.now)) }
     {
+        if self.is_untold(instr) {
+            return push_one(code, self.remap.map_instr(alloc, instr)?);
+        }
         match self.watch(position, instr) {
             Some(watch) => {
                 let copy = self.remap.map_instr(alloc, instr)?;
-                self.push_watched(alloc, &watch, copy, position, code)
+                self.push_watched(alloc, &watch, copy, position as i32, code)
             }
             None => self.push_calling(alloc, instr, position, code),
         }
     }
 }
 
-// Where a branch to the label leads, as a word; 0 where the label is past the function's block.
+// The position that a branch to the label leads to, as a word. It is 0 if the function has no block with the label.
 fn target_word(scopes: &Scopes, label: u32) -> u32
     ensures { result ≡ target_word scopes.now label }
 {

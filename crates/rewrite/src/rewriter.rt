@@ -14,9 +14,10 @@ use module_ast::module::Body;
 use std::alloc::Global;
 use wasm_num::NoMemory;
 
-/// What rewrites bodies, each by itself. Several threads may ask it at once.
+/// A way to rewrite bodies, each by itself. Several threads may use it at once.
 pub trait Rewriter: Sync {
-    /// The body with the hooks of the selected groups, under the conditions of `rewrite_body` and as it answers.
+    /// The body with the hooks of the selected groups, under the conditions of `rewrite_body` and with its result. An `Err`
+    /// comes if there is no memory.
     fn body(
         &self,
         alloc: Global,
@@ -30,7 +31,7 @@ pub trait Rewriter: Sync {
         ensures { IfOk result (λ made. option_map (λ s. rewritten_body (setting_of hooks table.now remap.imports s)) (slice_get (sites body.entry.module) body.entry.defined) ≡ Some made) };
 }
 
-/// Rewrites by `rewrite_body`.
+/// The `Rewriter` that calls `rewrite_body`.
 #[derive(Clone, Copy)]
 pub struct PlainRewriter;
 

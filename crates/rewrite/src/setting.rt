@@ -1,25 +1,25 @@
 // What the rewriting of a body reads.
 
-ghost use Rattle.std.specs.Prelude.{◌≡◌, length, slice_get, Some, IfOk};
+ghost use Rattle.std.specs.Prelude.{◌≡◌, ℕ, length, slice_get, Some, IfOk};
 ghost use Rattle.hook_select.specs.Groups.{has};
 ghost use Rattle.hook_mono.specs.Needed.{sites};
-ghost use Rattle.rewrite_needs.specs.Watching.{instr_watch};
-ghost use Rattle.rewrite.specs.Setting.{wants};
+ghost use Rattle.rewrite_needs.specs.Watching.{instr_watch, is_untold};
 ghost use Rattle.rewrite.specs.Rewrite.{setting_of};
 ghost use Rattle.rewrite.specs.Conditions.{CanRewrite, IsReady};
 
 use code_valid::TypedBody;
-use hook_mono::{HookKey, HookTable};
+use hook_mono::HookTable;
 use hook_select::{GroupName, Hooks};
 use i64_split::Pool;
 use index_remap::Remap;
 use module_ast::code::Instr;
-use rewrite_needs::{Site, Watch, is_wanted, pool_of, watch_of};
+use rewrite_needs::{Site, Watch, is_untold, pool_of, watch_of};
 use std::alloc::Global;
 use std::marker::Model;
 use wasm_num::NoMemory;
 
-/// What the rewriting of a body reads: the selected groups, the hooks of the module, the function, and its temporaries.
+/// What the rewriting of a body reads: the selected groups, the hooks of the module, how functions are remapped, the function
+/// itself, and its temporaries.
 #[derive(Drop)]
 pub(crate) struct Setting<'m> {
     pub(crate) hooks: Hooks,
@@ -45,8 +45,8 @@ impl<'m> Model for Setting<'m> {
 }
 
 impl<'m> Setting<'m> {
-    /// For the function of this body, under the conditions of `rewrite_body`. It takes time in proportion to the body. An `Err`
-    /// comes where there is no memory.
+    /// The setting for the function that has this body, under the conditions of `rewrite_body`. It takes time in proportion to
+    /// the body. An `Err` comes if there is no memory.
     pub fn of(
         alloc: Global,
         body: &TypedBody<'m>,
@@ -71,14 +71,15 @@ impl<'m> Setting<'m> {
         })
     }
 
-    /// Whether the hook of the key is called.
-    pub fn wants(&self, key: &HookKey) -> bool
-        ensures { result ≡ wants self.now key.now }
+    /// Whether an instruction has a hook of its own that is not called. The instruction is then its own template.
+    pub fn is_untold(&self, instr: &Instr) -> bool
+        ensures { (p : ℕ) → result ≡ is_untold self.now.hooks (instr_watch self.now.site p instr.now) }
     {
-        is_wanted(self.hooks, key)
+        is_untold(&self.hooks, instr)
     }
 
-    /// What is told of an instruction at a position, where it neither branches nor calls and has no sequence in it.
+    /// What is told of an instruction at a position. Nothing is told here of a branch, a call or an instruction with a sequence
+    /// in it.
     pub fn watch(&self, position: u32, instr: &Instr) -> Option<Watch>
         ensures { result ≡ instr_watch self.now.site position instr.now }
     {

@@ -13,7 +13,7 @@ use module_ast::code::{BlockType, Code, Instr};
 use std::alloc::{AllocError, Global};
 use wasm_encode::{block_type_length, instrs_length};
 
-/// What opens a block with one sequence in it.
+/// The instruction that opens a block with one sequence in it.
 #[derive(Clone, Copy)]
 pub(crate) enum Opening {
     Block,
@@ -21,23 +21,23 @@ pub(crate) enum Opening {
     If,
 }
 
-/// What a sequence of instructions is made into: the code itself, or the number of its bytes. Templates add their
-/// instructions to a list, of which a sink takes what it does not keep there.
+/// What the code of a rewritten body goes into. One sink makes the code itself, another counts its bytes. Templates add their
+/// instructions to a list, and the sink takes from this list what it does not keep there.
 pub(crate) trait Sink: Drop {
     /// What a whole sequence is made into.
     type Whole: Drop;
 
-    /// That of a sequence.
+    /// What the sink makes of a sequence.
     ghost made: { Tree → Self.Whole };
 
-    /// That of what was taken, with this sequence behind it.
+    /// What the sink makes of all that it has taken, with this sequence after it.
     ghost whole: { Self → Tree → Self.Whole };
 
-    /// One that took nothing.
+    /// A sink that has taken nothing yet.
     fn new() -> Self
         ensures { (t : Tree) → whole result t ≡ made t };
 
-    /// An empty list for a sequence of about so many instructions. An `Err` comes where there is no memory.
+    /// An empty list for a sequence of about `count` instructions. An `Err` comes if there is no memory.
     fn list(alloc: Global, count: usize) -> Result<Vec<Instr>, AllocError>
         ensures { IfOk result (λ code. code.items ≡ []) };
 
@@ -45,8 +45,7 @@ pub(crate) trait Sink: Drop {
     fn settle(&mut self, code: &mut Vec<Instr>)
         ensures { (t : Tree) → whole self.new (onto code.new.items t) ≡ whole self.old (onto code.old.items t) };
 
-    /// Takes the calls of the end hooks of the blocks that a branch to the label leaves. An `Err` comes where there is no
-    /// memory.
+    /// Takes the calls of the end hooks of the blocks that a branch to the label leaves. An `Err` comes if there is no memory.
     fn put_left(
         &mut self,
         alloc: Global,
@@ -58,7 +57,7 @@ pub(crate) trait Sink: Drop {
         requires { AreSummed setting.now around.now }
         ensures { OnOk result ((t : Tree) → whole self.new (onto code.new.items t) ≡ whole self.old (onto code.old.items (plains (block_ends_code setting.now (ends around.now.scopes label)) t))) };
 
-    /// Takes those of all open blocks. An `Err` comes where there is no memory.
+    /// Takes the calls of the end hooks of all open blocks. An `Err` comes if there is no memory.
     fn put_all(
         &mut self,
         alloc: Global,
@@ -69,7 +68,7 @@ pub(crate) trait Sink: Drop {
         requires { AreSummed setting.now around.now }
         ensures { OnOk result ((t : Tree) → whole self.new (onto code.new.items t) ≡ whole self.old (onto code.old.items (plains (all_ends_code setting.now around.now.scopes) t))) };
 
-    /// Takes a block, loop or `if` with this sequence in it. An `Err` comes where there is no memory.
+    /// Takes a block, loop or `if` with this sequence in it. An `Err` comes if there is no memory.
     fn put_block(
         &mut self,
         opening: Opening,
@@ -79,7 +78,7 @@ pub(crate) trait Sink: Drop {
     ) -> Result<(), AllocError>
         ensures { OnOk result ((a t : Tree) → inside ≡ made a → whole self.new (onto code.new.items t) ≡ whole self.old (onto code.old.items (opened opening ty a t))) };
 
-    /// Takes an `if` with these sequences as its parts. An `Err` comes where there is no memory.
+    /// Takes an `if` with these sequences as its parts. An `Err` comes if there is no memory.
     fn put_both(
         &mut self,
         ty: BlockType,
@@ -89,12 +88,12 @@ pub(crate) trait Sink: Drop {
     ) -> Result<(), AllocError>
         ensures { OnOk result ((a b t : Tree) → inside ≡ made a → other ≡ made b → whole self.new (onto code.new.items t) ≡ whole self.old (onto code.old.items (if_else ty a b t))) };
 
-    /// What the sequence is made into that ends here. An `Err` comes where there is no memory.
+    /// What the sink makes of the sequence, which ends here. An `Err` comes if there is no memory.
     fn finish(self, alloc: Global, code: Vec<Instr>) -> Result<Self::Whole, AllocError>
         ensures { IfOk result (λ all. all ≡ whole self (onto code.items done)) };
 }
 
-/// Adds an instruction. An `Err` comes where there is no memory.
+/// Adds an instruction. An `Err` comes if there is no memory.
 pub(crate) fn put<S: Sink>(
     instr: Instr,
     sink: &mut S,
@@ -107,7 +106,7 @@ pub(crate) fn put<S: Sink>(
     Ok(())
 }
 
-/// Makes the code: all of it stays in the list.
+/// The sink that makes the code. All of it stays in the list.
 #[derive(Drop)]
 pub(crate) struct Kept;
 
@@ -180,14 +179,15 @@ impl Sink for Kept {
     }
 }
 
-/// Counts the bytes of the code, up to 2^64 - 1: nothing of it is made but what a template puts into the list.
+/// The sink that counts the bytes of the code, up to 2^64 - 1. It drops what a template adds to the list as soon as that is
+/// counted.
 #[derive(Drop)]
 pub(crate) struct Counted {
     bytes: u64,
 }
 
 impl Counted {
-    // So many bytes more.
+    // Adds these bytes to the count.
     fn add(&mut self, bytes: u64)
         ensures { self.new.bytes ≡ min (self.old.bytes + bytes) (2 ^ 64 - 1) }
     {
@@ -238,7 +238,7 @@ impl Sink for Counted {
         Ok(())
     }
 
-    // The opcode, the type, what is inside, and the `end`.
+    // Counts the opcode, the type, the sequence inside, and the `end`.
     fn put_block(
         &mut self,
         _opening: Opening,
@@ -251,7 +251,7 @@ impl Sink for Counted {
         Ok(())
     }
 
-    // The same, and the `else`.
+    // Counts the opcode, the type, both sequences, the `else`, and the `end`.
     fn put_both(
         &mut self,
         ty: BlockType,

@@ -20,7 +20,7 @@ use module_ast::module::Group;
 use std::alloc::Global;
 use wasm_num::NoMemory;
 
-// The bytes of groups of locals.
+// How many bytes groups of locals have.
 fn groups_length(groups: &[Group]) -> u64
     ensures length { result ≡ length (items_bytes group_bytes groups.now) }
     ensures bound { result ≤ 11 * length groups.now }
@@ -33,7 +33,8 @@ fn groups_length(groups: &[Group]) -> u64
 }
 
 impl Setting<'_> {
-    // Those of the groups of locals, the temporaries' among them, with their number in front.
+    // How many bytes the locals of the body have: the number of their groups, and the groups, those of the temporaries
+    // included.
     fn locals_length(&self, alloc: Global) -> Result<u64, NoMemory>
         requires { length (body_bytes self.now.site.body) ≤ longest_file }
         ensures length { IfOk result (λ n. n ≡ length (vec_bytes group_bytes (self.now.site.body.groups ++ pool_groups self.now.pool))) }
@@ -45,7 +46,7 @@ impl Setting<'_> {
         Ok(count + groups_length(own) + groups_length(&added))
     }
 
-    // Those of the body: its locals, its code, and the `end` behind it.
+    // How many bytes the body has: its locals, its code, and the `end` after it.
     fn rewritten_length(&self, alloc: Global) -> Result<u64, NoMemory>
         requires ready { IsReady self.now }
         requires narrow { IsNarrow longest_file self.now.site.context }
@@ -59,9 +60,9 @@ impl Setting<'_> {
     }
 }
 
-/// How many bytes the body that `rewrite_body` makes has, under the same conditions: those that stand behind its size in
-/// the code section, and at most 2^36 for each of the original's. It takes time in proportion to the body as it is,
-/// however many ends its branches pass. An `Err` comes where there is no memory. (Standard, 5.5.13)
+/// How many bytes the body has that `rewrite_body` makes under the same conditions. They come after the size of the body in
+/// the code section, and are at most 2^36 for each byte of the original body. It takes time in proportion to the original
+/// body, however many ends its branches pass. An `Err` comes if there is no memory. (Standard, 5.5.13)
 pub fn size_of(
     alloc: Global,
     body: TypedBody<'_>,
@@ -74,7 +75,7 @@ pub fn size_of(
     ensures length { IfOk result (λ n. option_map (λ s. size_of (setting_of hooks table.now remap.imports s)) (slice_get (sites body.entry.module) body.entry.defined) ≡ Some n) }
     ensures bound { IfOk result (λ n. (s : Site) → slice_get (sites body.entry.module) body.entry.defined ≡ Some s → n ≤ 2 ^ 36 * length (body_bytes s.body)) }
 {
-    // Its module is whole, so that it came from a file.
+    // For the proof: the module is whole, so the body is one that a file can have.
     let _ = body.marks();
     let setting = Setting::of(alloc, &body, hooks, table, remap)?;
     setting.rewritten_length(alloc)

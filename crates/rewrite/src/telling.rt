@@ -20,7 +20,7 @@ use module_ast::code::Instr;
 use std::alloc::AllocError;
 use wasm_num::BlockKind;
 
-// Adds constants of these 32 bits each.
+// Adds a constant for each of these words.
 pub(crate) fn push_constants(code: &mut Vec<Instr>, words: &[u32]) -> Result<(), AllocError>
     ensures { OnOk result (code.new.items ≡ code.old.items ++ instrs (map constant words.now)) }
 {
@@ -31,7 +31,8 @@ pub(crate) fn push_constants(code: &mut Vec<Instr>, words: &[u32]) -> Result<(),
 }
 
 impl<'m> Setting<'m> {
-    /// Adds the function and the position.
+    /// Adds the words with which each hook call begins: the index of the function and the position. An `Err` comes if there is
+    /// no memory.
     pub(crate) fn push_location(
         &self,
         position: i32,
@@ -43,21 +44,22 @@ impl<'m> Setting<'m> {
         push_two(code, Instr::I32Const(func), Instr::I32Const(position))
     }
 
-    /// The index of a hook's function.
+    /// The function index of a hook.
     pub(crate) fn hook_index(&self, key: &HookKey) -> u32
         ensures { result ≡ hook_index self.now key.now }
     {
         self.remap.imports + self.table.find(key).unwrap_or(0)
     }
 
-    /// Adds the call of a hook.
+    /// Adds the call of a hook, without its words. An `Err` comes if there is no memory.
     pub(crate) fn push_call(&self, key: &HookKey, code: &mut Vec<Instr>) -> Result<(), AllocError>
         ensures { OnOk result (code.new.items ≡ code.old.items ++ instrs (call (hook_index self.now key.now) ∷ [])) }
     {
         push_one(code, Instr::Call(self.hook_index(key)))
     }
 
-    /// Adds the call of a hook at a position with these constants and the words of these temporaries.
+    /// Adds the call of a hook at a position with these constants and the words of these temporaries. An `Err` comes if there
+    /// is no memory.
     pub(crate) fn push_tell(
         &self,
         position: i32,
@@ -74,7 +76,8 @@ impl<'m> Setting<'m> {
         self.push_call(key, code)
     }
 
-    /// Adds the call of the hook of a group that is a key by itself, where the group is selected.
+    /// Adds the call of the hook of a group that is a key by itself, if the group is selected. An `Err` comes if there is no
+    /// memory.
     pub(crate) fn push_plain_tell(
         &self,
         position: i32,
@@ -89,7 +92,7 @@ impl<'m> Setting<'m> {
         self.push_tell(position, &HookKey::Plain(group), &[], &[], code)
     }
 
-    /// Adds the call of the begin hook of a block, where it is selected. An `Err` comes where there is no memory.
+    /// Adds the call of the begin hook of a block, if begins are selected. An `Err` comes if there is no memory.
     pub fn push_begin(
         &self,
         position: i32,
@@ -104,7 +107,7 @@ impl<'m> Setting<'m> {
         self.push_tell(position, &HookKey::Begin(kind), &[], &[], code)
     }
 
-    /// Adds the call of the end hook of a block, where it is selected. An `Err` comes where there is no memory.
+    /// Adds the call of the end hook of a block, if ends are selected. An `Err` comes if there is no memory.
     pub fn push_end(&self, block: EndOf, code: &mut Vec<Instr>) -> Result<(), AllocError>
         ensures { OnOk result (code.new.items ≡ code.old.items ++ instrs (block_end_code self.now block)) }
     {
@@ -116,7 +119,7 @@ impl<'m> Setting<'m> {
         self.push_call(&HookKey::End(block.kind), code)
     }
 
-    /// Adds the calls of the end hooks of these blocks, where they are selected. An `Err` comes where there is no memory.
+    /// Adds the calls of the end hooks of these blocks, if ends are selected. An `Err` comes if there is no memory.
     pub fn push_ends(&self, blocks: &[EndOf], code: &mut Vec<Instr>) -> Result<(), AllocError>
         ensures { OnOk result (code.new.items ≡ code.old.items ++ instrs (block_ends_code self.now blocks.now)) }
     {

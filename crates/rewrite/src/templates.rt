@@ -1,4 +1,4 @@
-// Parts of templates: values told.
+// Parts of templates that tell values.
 
 ghost use Rattle.std.specs.Prelude.{◌≡◌, ◌++◌, ◌∷◌, [], map, OnOk, IfOk};
 ghost use Rattle.wasm_num.specs.declared.ValType.TheVariants.{I32};
@@ -28,8 +28,8 @@ pub(crate) fn list(alloc: Global, types: &[ValType]) -> Result<Seq<ValType>, All
 }
 
 impl<'m> Setting<'m> {
-    /// Adds the code that keeps operands of these types in temporaries, and the hook call that tells them behind these
-    /// constants.
+    /// Adds the code that keeps operands of these types in temporaries, and the hook call that tells them after these
+    /// constants. An `Err` comes if there is no memory.
     pub(crate) fn push_saved(
         &self,
         alloc: Global,
@@ -47,8 +47,8 @@ impl<'m> Setting<'m> {
         self.push_tell(position, key, first, &temps, code)
     }
 
-    /// Adds the hook call that tells the condition or index on top, which stays, where `wanted`. An `Err` comes where there is
-    /// no memory.
+    /// Adds the hook call that tells the condition or index on top of the operand stack, if `wanted`. The operand stays there.
+    /// An `Err` comes if there is no memory.
     pub fn push_tell_before(
         &self,
         position: i32,
@@ -67,7 +67,8 @@ impl<'m> Setting<'m> {
         self.push_tell(position, &HookKey::Plain(group), &[], &temps, code)
     }
 
-    /// Adds the hook call that tells the function's results, where it is selected. An `Err` comes where there is no memory.
+    /// Adds the hook call that tells the results of the function, if returns are selected. An `Err` comes if there is no
+    /// memory.
     pub fn push_results(
         &self,
         alloc: Global,
@@ -86,8 +87,8 @@ impl<'m> Setting<'m> {
     }
 }
 
-/// Adds the code that leaves the top operand where it stands, and in the temporary too: a `local.tee` of one temporary, and
-/// nothing of none or of several. An `Err` comes where there is no memory.
+/// Adds the code that leaves the top operand on the operand stack and in the temporary too: a `local.tee` if there is one
+/// temporary, and nothing otherwise. An `Err` comes if there is no memory.
 pub fn push_tee(temps: &[Temp], code: &mut Vec<Instr>) -> Result<(), AllocError>
     ensures { OnOk result (code.new.items ≡ code.old.items ++ instrs (tee_code temps.now)) }
 {

@@ -1,13 +1,13 @@
-// Instructions that are watched: where their hook is called, what they take and give stays in temporaries.
+// Instructions whose own hook is called. Temporaries keep what they take and give.
 
-ghost use Rattle.std.specs.Prelude.{◌≡◌, ◌++◌, ◌∷◌, [], true, take, drop, OnOk, ◌<◌, ◌^◌};
+ghost use Rattle.std.specs.Prelude.{◌≡◌, ◌++◌, ◌∷◌, [], true, take, drop, OnOk};
 ghost use Rattle.module_ast.specs.Structure.Trees as tree;
 ghost use Rattle.module_ast.specs.Structure.{Plain, instr_of, local_tee};
 ghost use Rattle.i64_split.specs.Split.{temps, words_by, words_code, sets, gets, HasTemps};
 ghost use Rattle.i64_split.specs.Pushing.{instrs};
-ghost use Rattle.rewrite_needs.specs.Watching.{kept_temps, watch_temps};
+ghost use Rattle.rewrite_needs.specs.Watching.{kept_temps};
 ghost use Rattle.rewrite.specs.Setting.{tell};
-ghost use Rattle.rewrite.specs.Templates.{keep_code, tee_code, kept_code, args_code, told_by, told_code};
+ghost use Rattle.rewrite.specs.Templates.{keep_code, tee_code, kept_code, args_code, told_by};
 ghost use Rattle.rewrite.specs.Emitted.{HasRoom, one_if_same};
 
 use crate::setting::Setting;
@@ -19,17 +19,27 @@ use rewrite_needs::{Telling, Watch};
 use std::alloc::{AllocError, Global};
 use wasm_num::{NumOp, ValType};
 
-// Adds the code that leaves operands where they stand, and in these temporaries too.
+// Adds the code that leaves operands on the operand stack and in these temporaries too.
 fn push_keep(temps: &[Temp], code: &mut Vec<Instr>) -> Result<(), AllocError>
     ensures { OnOk result (code.new.items ≡ code.old.items ++ instrs (keep_code temps.now)) }
 {
     match temps {
         [] => Ok(()),
+        [a] => push_one(code, Instr::LocalTee(a.local)),
+        [a, b] => {
+            let keep = Instr::LocalTee(a.local);
+            push_three(
+                code,
+                Instr::LocalSet(b.local),
+                keep,
+                Instr::LocalGet(b.local),
+            )
+        }
         [first, rest @ ..] => push_keep_first(first.local, rest, code),
     }
 }
 
-// The same, the first in this local.
+// The same with the first temporary apart from the rest.
 fn push_keep_first(first: u32, rest: &[Temp], code: &mut Vec<Instr>) -> Result<(), AllocError>
     ensures { OnOk result (code.new.items ≡ code.old.items ++ instrs (sets rest.now ++ local_tee first ∷ gets rest.now)) }
 {
@@ -38,21 +48,21 @@ fn push_keep_first(first: u32, rest: &[Temp], code: &mut Vec<Instr>) -> Result<(
     push_gets(code, rest)
 }
 
-// So many of these temporaries, or all.
+// The first `count` of these temporaries, or all if there are fewer.
 fn first_of(temps: &[Temp], count: usize) -> &[Temp]
     ensures { result.now ≡ take count temps.now }
 {
     temps.split_at(count.min(temps.len())).0
 }
 
-// Those behind them.
+// The temporaries after the first `count`.
 fn behind(temps: &[Temp], count: usize) -> &[Temp]
     ensures { result.now ≡ drop count temps.now }
 {
     temps.split_at(count.min(temps.len())).1
 }
 
-// Adds an instruction that leaves its operands in the first temporaries, and its result in the other if there is one.
+// Adds an instruction, with code that keeps its operands in temporaries, and its result in another if there is one.
 fn push_kept(
     operands: &[Temp],
     left: &[Temp],
@@ -87,7 +97,7 @@ fn push_global_words(ty: ValType, global: u32, code: &mut Vec<Instr>) -> Result<
     }
 }
 
-// Adds the code that pushes what is told beside temporaries.
+// Adds the code that pushes what a hook call tells besides the words of temporaries.
 fn push_args(told: &Telling, code: &mut Vec<Instr>) -> Result<(), AllocError>
     ensures { OnOk result (code.new.items ≡ code.old.items ++ instrs (args_code told.now)) }
 {
@@ -113,7 +123,7 @@ fn push_args(told: &Telling, code: &mut Vec<Instr>) -> Result<(), AllocError>
     }
 }
 
-// 1 where the types are the same, else 0.
+// 1 if the types are the same, and 0 otherwise.
 fn are_same(a: ValType, b: ValType) -> u32
     ensures { result ≡ one_if_same a b }
 {
@@ -135,7 +145,7 @@ impl<'m> Setting<'m> {
         }]
     }
 
-    /// Temporaries of these types, at once.
+    /// Temporaries of these types, each in a local of its own.
     pub(crate) fn two_temps(&self, a: ValType, b: ValType) -> [Temp; 2]
         requires { HasTemps self.now.pool 0 (a ∷ b ∷ []) }
         ensures { result ≡ temps self.now.pool (a ∷ b ∷ []) }
@@ -151,7 +161,7 @@ impl<'m> Setting<'m> {
         [first, second]
     }
 
-    /// Temporaries of these types, at once.
+    /// Temporaries of these types, each in a local of its own.
     pub(crate) fn three_temps(&self, a: ValType, b: ValType, c: ValType) -> [Temp; 3]
         requires { HasTemps self.now.pool 0 (a ∷ b ∷ c ∷ []) }
         ensures { result ≡ temps self.now.pool (a ∷ b ∷ c ∷ []) }
@@ -171,7 +181,7 @@ impl<'m> Setting<'m> {
         [first, second, third]
     }
 
-    // Adds the hook call of what is told, with the words of these temporaries.
+    // Adds the hook call that tells this, and the words of these temporaries.
     fn push_told(
         &self,
         position: i32,
@@ -187,7 +197,8 @@ impl<'m> Setting<'m> {
         self.push_call(&watch.key, code)
     }
 
-    // Adds an instruction whose first temporaries are those of its operands, and what is told of it behind it.
+    // Adds an instruction and the hook call after it. The first temporaries are for its operands, and one after them is for
+    // its result.
     fn push_kept_told(
         &self,
         position: i32,
@@ -205,7 +216,7 @@ impl<'m> Setting<'m> {
         self.push_told(position, watch, temps, code)
     }
 
-    // The same in temporaries of these types.
+    // The same with temporaries of these types.
     fn push_in_temps(
         &self,
         alloc: Global,
@@ -239,8 +250,8 @@ impl<'m> Setting<'m> {
         }
     }
 
-    // Where its hook is called.
-    fn push_wanted(
+    /// Adds a live instruction and the hook call that tells it. An `Err` comes if there is no memory.
+    pub(crate) fn push_watched(
         &self,
         alloc: Global,
         watch: &Watch,
@@ -269,26 +280,6 @@ impl<'m> Setting<'m> {
                 push_one(code, instr)?;
                 self.push_told(position, watch, &[], code)
             }
-        }
-    }
-
-    /// Adds a live instruction and, where its hook is called, what is told of it. An `Err` comes where there is no memory.
-    pub(crate) fn push_watched(
-        &self,
-        alloc: Global,
-        watch: &Watch,
-        instr: Instr,
-        position: u32,
-        code: &mut Vec<Instr>,
-    ) -> Result<(), AllocError>
-        requires low { position < 2 ^ 31 }
-        requires room { HasRoom self.now.pool (watch_temps self.now.hooks watch.now) }
-        ensures { OnOk result ((i : Plain) → instr ≡ instr_of i → code.new.items ≡ code.old.items ++ instrs (told_code self.now position watch.now.key watch.now.told i)) }
-    {
-        if self.wants(&watch.key) {
-            self.push_wanted(alloc, watch, instr, position as i32, code)
-        } else {
-            push_one(code, instr)
         }
     }
 }

@@ -16,18 +16,18 @@ use Rattle.rewrite_needs.specs.declared.needs.Needs.{Needs}
 use Rattle.rewrite_needs.specs.declared.watching.Watch.{Watch}
 use Rattle.rewrite_needs.specs.Watching.{watch, or_none}
 
--- the keys with one more, where its hook is called
+-- the keys with one more, if its hook is called
 abbrev pub with_wanted : Hooks → List HookKey → HookKey → List HookKey
 with_wanted hooks table key = cond (is_wanted hooks key) (with_key table key) table
 
--- with each of these
+-- the keys with each of these, if its hook is called
 abbrev pub with_each_wanted : Hooks → List HookKey → List HookKey → List HookKey
 with_each_wanted hooks table more = fold (with_wanted hooks) table more
 
 abbrev pub with_needed : Needs → List HookKey → Needs
 with_needed n more = record n { table = with_each_wanted n.hooks n.table more }
 
--- ---- the keys of a place, the ends that a branch leaves aside
+-- ---- the keys of a place, without the ends that a branch passes
 
 abbrev pub own_keys : Site → (p : ℕ) → Option Plain → List HookKey
 own_keys s p o = or_none (plain_keys s [] p) o
@@ -35,7 +35,7 @@ own_keys s p o = or_none (plain_keys s [] p) o
 abbrev pub instr_keys : Site → (p : ℕ) → Instr → List HookKey
 instr_keys s p i = own_keys s p (plain_of i)
 
--- those of an instruction of which nothing else is told: of a branch or a call
+-- these keys, if the instruction has no row in Watching, so that it branches or calls
 abbrev pub keys_unless : Option Watch → List HookKey → List HookKey
 keys_unless None keys = keys
 keys_unless (Some x) keys = []
@@ -50,9 +50,9 @@ told_keys s p (Opens b) = open_keys b.kind
 told_keys s p (Alternates a b then_live) = when then_live (keys.End a.kind ∷ []) ++ keys.Begin b.kind ∷ []
 told_keys s p (Closes b) = close_keys s b.kind
 
--- ---- the blocks that are left
+-- ---- the blocks that a branch leaves
 
--- how many of the blocks around an instruction it stays in
+-- how many of the blocks around an instruction it does not leave
 abbrev pub blocks_kept : (depth : ℕ) → Option Plain → ℕ
 blocks_kept depth None = depth
 blocks_kept depth (Some (br l)) = depth - (l + 1)
@@ -67,7 +67,7 @@ abbrev pub blocks_kept_at : (depth : ℕ) → Opcode → ℕ
 blocks_kept_at depth (Acts i) = blocks_kept_by depth i.now
 blocks_kept_at depth _ = depth
 
--- the innermost of the open blocks, and those around it, where at least so many blocks are around it
+-- the innermost open block, and the open blocks around it, if at least `kept` blocks are around it
 abbrev pub first_left : (kept : ℕ) → List OpenBlock → Option BlockKind
 first_left kept [] = None
 first_left kept (b ∷ bs) = cond (leb kept b.around) (Some b.kind) None
@@ -76,12 +76,12 @@ abbrev pub rest_left : (kept : ℕ) → List OpenBlock → List OpenBlock
 rest_left kept [] = []
 rest_left kept (b ∷ bs) = cond (leb kept b.around) bs (b ∷ bs)
 
--- without all that have so many around them
+-- the open blocks without the inner ones that have at least `kept` blocks around them
 abbrev pub all_left : (kept : ℕ) → List OpenBlock → List OpenBlock
 all_left kept [] = []
 all_left kept (b ∷ bs) = cond (leb kept b.around) (all_left kept bs) (b ∷ bs)
 
--- with the keys of their ends
+-- the keys with those of the ends of these blocks
 abbrev pub with_ends : Hooks → (kept : ℕ) → List OpenBlock → List HookKey → List HookKey
 with_ends hooks kept [] table = table
 with_ends hooks kept (b ∷ bs) table = cond (leb kept b.around) (with_ends hooks kept bs (with_wanted hooks table (keys.End b.kind))) table
@@ -118,6 +118,6 @@ after_opcode s depth x n = cond x.live (after_live s depth x.position x.opcode n
 abbrev pub into_block : (depth : ℕ) → Opcode → Needs → Needs
 into_block depth opcode n = record n { stack = with_open_block depth (kind_opened opcode) n.stack }
 
--- behind a place with so many blocks around it
+-- after a place with so many blocks around it
 abbrev pub after_place : Site → (depth : ℕ) → Place → Needs → Needs
 after_place s depth x n = into_block depth x.opcode (after_opcode s depth x (left_out_to depth n))

@@ -4,7 +4,7 @@ use Rattle.wasm_sem.specs.Types.{ValType}
 use Rattle.wasm_num.specs.declared.ValType.TheVariants.{I32}
 use Rattle.module_ast.specs.Places.{Mark}
 
--- each stands behind the one before it, and the first at p or behind it
+-- each stands after the one before it, and the first at p or after it
 abbrev pub MarksRiseFrom : (p : ℕ) → List Mark → Type 0
 MarksRiseFrom p [] = Unit {0}
 MarksRiseFrom p (m ∷ ms) = (p ≤ m.place) × MarksRiseFrom (m.place + 1) ms

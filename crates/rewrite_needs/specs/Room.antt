@@ -12,27 +12,27 @@ use Rattle.rewrite_needs.specs.Temporaries.{plain_temps, code_temps}
 use Rattle.rewrite_needs.specs.declared.pool.Measured.{Measured}
 use Rattle.rewrite_needs.specs.declared.pool.Room.{Room}
 
--- for these at once
+-- room for values of these types at once
 abbrev pub room_for : List ValType → Room
 room_for types = record { ints = ints_in types; longs = longs_in types }
 
--- with one more
+-- room for one value more
 abbrev pub with_one : Room → ValType → Room
 with_one r I32 = record r { ints = r.ints + 1 }
 with_one r I64 = record r { longs = r.longs + 1 }
 
--- enough for both
+-- room that is enough for either
 abbrev pub wider : Room → Room → Room
 wider r more = record { ints = max r.ints more.ints; longs = max r.longs more.longs }
 
--- enough for each of these
+-- room that is enough for each of these lists too
 abbrev pub widened : Room → List (List ValType) → Room
 widened r lists = fold (λ r types. wider r (room_for types)) r lists
 
 abbrev pub no_room : Room
 no_room = record { ints = 0; longs = 0 }
 
--- where they are wanted
+-- the same for one list, if it is wanted
 abbrev pub widened_where : Bool → Room → List ValType → Room
 widened_where wanted r types = widened r (when wanted (types ∷ []))
 
@@ -41,9 +41,9 @@ widened_where wanted r types = widened r (when wanted (types ∷ []))
 abbrev pub instr_temps : Hooks → Site → (p : ℕ) → Instr → List (List ValType)
 instr_temps hooks s p i = or_none (plain_temps hooks s p) (plain_of i)
 
--- ---- a body gone over from a place on
+-- ---- a body that is measured from a place on
 
--- behind a sequence: enough for its templates too, where it is live
+-- after a sequence: room that is enough for its templates too, if it is live
 abbrev pub behind_code : Hooks → Site → Tree → Measured → Measured
 behind_code hooks s k m = record {
   room = widened m.room (when m.live (code_temps hooks s m.position k));
@@ -51,6 +51,6 @@ behind_code hooks s k m = record {
   position = m.position + code_size k;
 }
 
--- behind the end of a part
+-- after the end of a part
 abbrev pub behind_part : Hooks → Site → Tree → Measured → Measured
 behind_part hooks s k m = record { room = (behind_code hooks s k m).room; live = m.live; position = m.position + code_size k + 1 }

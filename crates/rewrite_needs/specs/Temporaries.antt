@@ -16,15 +16,15 @@ use Rattle.rewrite_needs.specs.Watching.{watch, watch_temps}
 use Rattle.i64_split.specs.declared.Pool.{Pool}
 use Rattle.i64_split.specs.Split.{ints_in, longs_in}
 
--- where the hook is called, temporaries of these types at once
+-- temporaries of these types at once, if the hook is called
 abbrev pub wanted_temps : Hooks → HookKey → List ValType → List (List ValType)
 wanted_temps hooks key types = when (is_wanted hooks key) (types ∷ [])
 
--- whether a br_if has a template
+-- whether a br_if gets hook calls
 abbrev pub watches_br_if : Hooks → Bool
 watches_br_if hooks = has hooks groups.BrIf || has hooks groups.End
 
--- those of a live instruction that branches or calls; around a call the arguments' and the results' are not needed at once
+-- the temporaries of a live branch or call. A call does not need those of its arguments and those of its results at once.
 abbrev pub branch_temps : Hooks → Site → Plain → List (List ValType)
 branch_temps hooks s (br_if l) = when (watches_br_if hooks) ((I32 ∷ []) ∷ [])
 branch_temps hooks s (br_table ls l) = wanted_temps hooks (keys.Plain groups.BrTable) (I32 ∷ [])
@@ -40,7 +40,7 @@ abbrev pub temps_by : Hooks → Site → Plain → Option Watch → List (List V
 temps_by hooks s i None = branch_temps hooks s i
 temps_by hooks s i (Some x) = watch_temps hooks x
 
--- those of any live instruction
+-- the temporaries of any live instruction
 abbrev pub plain_temps : Hooks → Site → (p : ℕ) → Plain → List (List ValType)
 plain_temps hooks s p i = temps_by hooks s i (watch s p i)
 
@@ -80,7 +80,7 @@ abbrev pub greatest : {A : Type 0} → (A → ℕ) → List A → ℕ
 greatest f [] = 0
 greatest f (x ∷ xs) = max (f x) (greatest f xs)
 
--- behind the function's own locals, as many of each type as one template needs at most
+-- the temporaries come after the function's own locals, as many of each type as one template needs at most
 abbrev pub pool_of : Hooks → Site → Pool
 pool_of hooks s = record {
   base = length s.context.locals;

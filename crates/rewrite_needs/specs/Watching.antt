@@ -1,5 +1,5 @@
 -- What is told of an instruction that neither branches nor calls: a row for each.
-use Rattle.std.specs.Prelude.{ℕ, List, [], ◌∷◌, ◌++◌, length, Bool, Option, None, Some}
+use Rattle.std.specs.Prelude.{ℕ, List, [], ◌∷◌, ◌++◌, length, Bool, false, not, Option, None, Some}
 use Rattle.wasm_sem.specs.Types.{ValType, Instr, HookKey, Hooks}
 use Rattle.wasm_num.specs.declared.ValType.TheVariants.{I32}
 use Rattle.wasm_num.specs.Shapes.{num_operands, num_result}
@@ -33,7 +33,7 @@ telling s p (i64_const z) = Some (Long z)
 telling s p (num op) = Some (Kept None (length (num_operands op)) (num_operands op ++ num_result op ∷ []))
 telling s p _ = None
 
--- by the hook of its one key
+-- told by the hook of the one key that the instruction needs
 abbrev pub watch_by : Option Telling → List HookKey → Option Watch
 watch_by None keys = None
 watch_by (Some told) (key ∷ []) = Some (record { key = key; told = told })
@@ -42,7 +42,7 @@ watch_by (Some told) keys = None
 abbrev pub watch : Site → (p : ℕ) → Plain → Option Watch
 watch s p i = watch_by (telling s p i) (plain_keys s [] p i)
 
--- of an instruction of the program
+-- the same of an instruction of the program
 abbrev pub watch_at : Site → (p : ℕ) → Option Plain → Option Watch
 watch_at s p None = None
 watch_at s p (Some i) = watch s p i
@@ -50,7 +50,20 @@ watch_at s p (Some i) = watch s p i
 abbrev pub instr_watch : Site → (p : ℕ) → Instr → Option Watch
 instr_watch s p i = watch_at s p (plain_of i)
 
--- the temporaries that it needs, where its hook is called
+-- the key, what is told, and whether the hook is there but is not called
+abbrev pub watch_key : Option Watch → Option HookKey
+watch_key None = None
+watch_key (Some x) = Some x.key
+
+abbrev pub watch_told : Option Watch → Option Telling
+watch_told None = None
+watch_told (Some x) = Some x.told
+
+abbrev pub is_untold : Hooks → Option Watch → Bool
+is_untold hooks None = false
+is_untold hooks (Some x) = not (is_wanted hooks x.key)
+
+-- the temporaries that it needs, if its hook is called
 abbrev pub kept_temps : (wanted : Bool) → Telling → List (List ValType)
 kept_temps wanted (Dropped t) = when wanted ((t ∷ []) ∷ [])
 kept_temps wanted (Kept offset n types) = when wanted (types ∷ [])
@@ -59,7 +72,7 @@ kept_temps wanted _ = []
 abbrev pub watch_temps : Hooks → Watch → List (List ValType)
 watch_temps hooks x = kept_temps (is_wanted hooks x.key) x.told
 
--- what an instruction of the program has, and nothing of one with a sequence in it
+-- the list of an instruction of the program. It is empty if the instruction has a sequence in it.
 abbrev pub or_none : {A : Type 0} → (Plain → List A) → Option Plain → List A
 or_none f None = []
 or_none f (Some i) = f i

@@ -10,5 +10,4 @@ mod watching;
 pub use needs::needs_of;
 pub use pool::pool_of;
 pub use site::Site;
-pub use wanted::is_wanted;
-pub use watching::{Telling, Types, Watch, watch_of};
+pub use watching::{Telling, Types, Watch, is_untold, watch_of};

@@ -1,19 +1,18 @@
 // The temporaries of a body.
 
-ghost use Rattle.std.specs.Prelude.{◌≡◌, ◌+◌, ◌<◌, ◌≤◌, ◌^◌, ◌&&◌, [], ◌∷◌, length};
+ghost use Rattle.std.specs.Prelude.{◌≡◌, ◌+◌, ◌<◌, ◌≤◌, ◌^◌, ◌&&◌, [], ◌∷◌, true, length};
 ghost use Rattle.wasm_num.specs.declared.ValType.TheVariants.{I32};
 ghost use Rattle.hook_select.specs.declared.GroupName.TheVariants as groups;
 ghost use Rattle.hook_select.specs.Groups.{has};
 ghost use Rattle.module_ast.specs.Structure.{plain_of, IsPlainInstr, before, Tree, done};
 ghost use Rattle.module_ast.specs.Places.{code_size};
 ghost use Rattle.module_ast.specs.Validation.Limits.{longest_file};
-ghost use Rattle.rewrite_needs.specs.Watching.{or_none, watch_temps};
+ghost use Rattle.rewrite_needs.specs.Watching.{or_none, kept_temps};
 ghost use Rattle.rewrite_needs.specs.Temporaries.{branch_temps, pool_of, body_temps};
 ghost use Rattle.rewrite_needs.specs.Room.{room_for, with_one, wider, widened, widened_where, no_room, instr_temps, behind_code, behind_part};
 
 use crate::site::Site;
-use crate::wanted::is_wanted;
-use crate::watching::{Telling, Watch, watch_of};
+use crate::watching::{Telling, is_untold, telling_of};
 use hook_select::{GroupName, Hooks};
 use i64_split::Pool;
 use module_ast::code::{Code, Instr};
@@ -27,7 +26,7 @@ pub struct Room {
 }
 
 impl Room {
-    // For values of these types.
+    // Room for values of these types at once.
     fn of(types: &[ValType]) -> Room
         ensures is { result ≡ room_for types.now }
         ensures few { result.ints + result.longs ≡ length types.now }
@@ -42,7 +41,7 @@ impl Room {
         Room { ints, longs }
     }
 
-    // For one value more.
+    // Room for one value more, which has this type.
     fn with(self, ty: ValType) -> Room
         requires { self.ints + self.longs + 1 < 2 ^ 64 }
         ensures { result ≡ with_one self ty }
@@ -60,7 +59,7 @@ impl Room {
         }
     }
 
-    // Enough for both.
+    // Room that is enough for either.
     fn or(self, more: Room) -> Room
         ensures { result ≡ wider self more }
     {
@@ -70,7 +69,7 @@ impl Room {
         }
     }
 
-    // Enough for values of these types too, where they are wanted.
+    // Room that is enough for values of these types too, if they are wanted.
     fn or_types(self, wanted: bool, types: &[ValType]) -> Room
         ensures { result ≡ widened_where wanted self types.now }
     {
@@ -81,7 +80,7 @@ impl Room {
         }
     }
 
-    // Enough for an i32 and values of these types too, where they are wanted.
+    // Room that is enough for an i32 and values of these types too, if they are wanted.
     fn or_behind_i32(self, wanted: bool, types: &[ValType]) -> Room
         ensures { result ≡ widened_where wanted self (I32 ∷ types.now) }
     {
@@ -92,19 +91,18 @@ impl Room {
         }
     }
 
-    // Enough for what is kept of an instruction too.
-    fn or_watch(self, hooks: Hooks, watch: &Watch) -> Room
-        ensures { result ≡ widened self (watch_temps hooks watch.now) }
+    // Room that is enough for what is told of an instruction too.
+    fn or_told(self, told: &Telling) -> Room
+        ensures { result ≡ widened self (kept_temps true told.now) }
     {
-        let wanted = is_wanted(hooks, &watch.key);
-        match &watch.told {
-            Telling::Dropped(ty) => self.or_types(wanted, &[*ty]),
-            Telling::Kept(_, _, types) => self.or_types(wanted, types.as_slice()),
+        match told {
+            Telling::Dropped(ty) => self.or_types(true, &[*ty]),
+            Telling::Kept(_, _, types) => self.or_types(true, types.as_slice()),
             _ => self,
         }
     }
 
-    // Enough for a branch or a call too.
+    // Room that is enough for the template of a branch or a call too.
     fn or_branch(self, site: &Site, hooks: Hooks, instr: &Instr) -> Room
         ensures { result ≡ widened self (or_none (branch_temps hooks site.now) (plain_of instr.now)) }
     {
@@ -133,18 +131,22 @@ impl Room {
         }
     }
 
-    // Enough for an instruction too.
+    // Room that is enough for the template of an instruction too.
     fn or_instr(self, site: &Site, hooks: Hooks, position: u32, instr: &Instr) -> Room
         ensures { result ≡ widened self (instr_temps hooks site.now position instr.now) }
     {
-        match watch_of(site, position, instr) {
-            Some(watch) => self.or_watch(hooks, &watch),
+        if is_untold(&hooks, instr) {
+            return self;
+        }
+        match telling_of(site, position, instr) {
+            Some(told) => self.or_told(&told),
             None => self.or_branch(site, hooks, instr),
         }
     }
 }
 
-// How far a body is gone over: enough for the templates before, and whether what comes next is live, and where it stands.
+// How far a body has been measured: the room that the templates so far need, whether the next instruction is live, and the
+// position of that instruction.
 #[derive(Clone, Copy)]
 pub struct Measured {
     pub room: Room,
@@ -153,14 +155,14 @@ pub struct Measured {
 }
 
 impl Measured {
-    // Enough for values of these types too, where they are wanted and what comes next is live.
+    // Room that is enough for values of these types too, if they are wanted and the next instruction is live.
     fn or_types(self, wanted: bool, types: &[ValType]) -> Room
         ensures { result ≡ widened_where (self.live && wanted) self.room types.now }
     {
         self.room.or_types(self.live && wanted, types)
     }
 
-    // Behind an instruction with no sequence in it.
+    // The measure after an instruction that has no sequence in it.
     fn behind_plain(self, site: &Site, hooks: Hooks, instr: &Instr) -> Measured
         requires few { self.position + 1 < 2 ^ 32 }
         requires plain { IsPlainInstr instr.now }
@@ -177,7 +179,7 @@ impl Measured {
         }
     }
 
-    // Behind an opcode with this room.
+    // The measure after an opcode, with this room.
     fn with_opcode(self, room: Room) -> Measured
         requires { self.position + 1 < 2 ^ 32 }
         ensures { result ≡ record self { room = room; position = self.position + 1 } }
@@ -189,7 +191,7 @@ impl Measured {
         }
     }
 
-    // Behind the opcode of an `if`.
+    // The measure after the opcode of an `if`.
     fn behind_if(self, hooks: Hooks) -> Measured
         requires { self.position + 1 < 2 ^ 32 }
         ensures { result ≡ record self { room = widened_where (self.live && has hooks groups.If) self.room (I32 ∷ []); position = self.position + 1 } }
@@ -198,7 +200,7 @@ impl Measured {
         self.with_opcode(room)
     }
 
-    // From the first instruction of a part of a body to behind its end, which is as live as its begin.
+    // The measure after a part of a body and its `else` or `end`. Code there is live if the part begins live.
     #[cycle(measured)]
     fn behind_part(self, site: &Site, hooks: Hooks, code: &Code) -> Measured
         requires { self.position + code_size code.now + 1 < 2 ^ 32 }
@@ -212,7 +214,7 @@ impl Measured {
         }
     }
 
-    // Behind a sequence.
+    // The measure after a sequence.
     #[cycle(measured)]
     fn behind_code(self, site: &Site, hooks: Hooks, code: &Code) -> Measured
         requires { self.position + code_size code.now < 2 ^ 32 }
@@ -225,7 +227,7 @@ impl Measured {
         here
     }
 
-    // Behind an instruction.
+    // The measure after an instruction.
     #[cycle(measured)]
     fn behind_instr(self, site: &Site, hooks: Hooks, instr: &Instr) -> Measured
         requires { self.position + code_size (before instr.now done) < 2 ^ 32 }
@@ -245,7 +247,7 @@ impl Measured {
     }
 }
 
-// How many temporaries of each type one template of the function needs at most, gone over place by place.
+// How many temporaries of each type one template of the function needs at most, found place by place.
 fn room_of(site: &Site, hooks: Hooks) -> Room
     requires { code_size site.now.body.code + 1 ≤ longest_file }
     ensures { result ≡ widened no_room (body_temps hooks site.now) }
@@ -259,9 +261,9 @@ fn room_of(site: &Site, hooks: Hooks) -> Room
     end.or_types(hooks.has(GroupName::Return), site.results())
 }
 
-/// The temporaries that the hooks of a function need where these groups are selected: behind the function's own locals, as
-/// many of each type as one template needs at most. The body has at most 2 ^ 28 positions, and all locals with these have
-/// numbers below 2 ^ 32. It takes time in proportion to the body.
+/// The temporaries that the hooks of a function need if these groups are selected. They come after the function's own locals,
+/// and there are as many of each type as one template needs at most. The body has at most 2 ^ 28 positions, and the indices of
+/// all locals, temporaries included, are below 2 ^ 32. It takes time in proportion to the body.
 pub fn pool_of(site: &Site, hooks: Hooks) -> Pool
     requires few { code_size site.now.body.code + 1 ≤ longest_file }
     requires fits { let pool = pool_of hooks site.now in pool.base + pool.ints + pool.longs < 2 ^ 32 }

@@ -8,8 +8,8 @@ use hook_mono::HookKey;
 use hook_select::{GroupName, Hooks};
 use wasm_num::NumOp;
 
-// The group of a number instruction: `unary` where it takes one operand, else `binary`.
-fn num_group(op: NumOp) -> GroupName
+// The group of a number instruction: `unary` if it takes one operand, and `binary` otherwise.
+pub(crate) fn num_group(op: NumOp) -> GroupName
     ensures { result ≡ num_group (num_operands op) }
 {
     match op.operand_types() {
@@ -39,9 +39,9 @@ fn key_group(key: &HookKey) -> GroupName
     }
 }
 
-/// Whether the hook of the key is called where these groups are selected. The ends that a br_table may run into stand behind
-/// its one hook.
-pub fn is_wanted(hooks: Hooks, key: &HookKey) -> bool
+// Whether the hook of the key is called if these groups are selected. The one hook of a `br_table` tells the index, from which
+// the ends of the blocks that the branch leaves follow. So it is called too if only ends are selected.
+pub(crate) fn is_wanted(hooks: Hooks, key: &HookKey) -> bool
     ensures { result ≡ is_wanted hooks key.now }
 {
     match key {

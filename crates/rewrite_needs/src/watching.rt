@@ -1,21 +1,20 @@
 // What is told of an instruction that neither branches nor calls.
 
-ghost use Rattle.std.specs.Prelude.{◌≡◌, ◌∷◌, ◌++◌, []};
+ghost use Rattle.std.specs.Prelude.{◌≡◌, ◌∷◌, ◌++◌, [], ℕ};
 ghost use Rattle.wasm_num.specs.Shapes.{num_operands, num_result};
-ghost use Rattle.module_ast.specs.Places.{type_of_local, type_of_global};
-ghost use Rattle.hook_mono.specs.declared.HookKey.TheVariants as keys;
-ghost use Rattle.rewrite_needs.specs.declared.watching.Telling.TheVariants.{Local, Global};
-ghost use Rattle.rewrite_needs.specs.Watching.{instr_watch};
+ghost use Rattle.hook_mono.specs.Needed.{Site as Shown};
+ghost use Rattle.rewrite_needs.specs.Watching.{instr_watch, watch_key, watch_told, is_untold};
 
 use crate::site::Site;
+use crate::wanted::num_group;
 use hook_mono::HookKey;
-use hook_select::GroupName;
+use hook_select::{GroupName, Hooks};
 use module_ast::code::Instr;
 use module_ast::ops::VarOp;
 use std::marker::Model;
 use wasm_num::{NumOp, ValType};
 
-/// At most three types of values, which contracts see as a list.
+/// Up to three types of values. Contracts see a list.
 #[derive(Drop)]
 pub struct Types {
     items: [ValType; 3],
@@ -61,7 +60,7 @@ impl Types {
         }
     }
 
-    // Those of the operands and of the result.
+    // The types of the operands and of the result.
     fn of_num(op: NumOp) -> Types
         ensures { result ≡ num_operands op ++ num_result op ∷ [] }
     {
@@ -73,7 +72,7 @@ impl Types {
         }
     }
 
-    /// The types in order.
+    /// The types, in order.
     pub fn as_slice(&self) -> &[ValType]
         ensures { result.now ≡ self.now }
     {
@@ -81,99 +80,117 @@ impl Types {
     }
 }
 
-/// What the hook call of an instruction tells behind the function and the position.
+/// What the hook call of an instruction tells after the index of the function and the position.
 #[derive(Drop)]
 pub enum Telling {
-    /// Nothing. The call stands before the instruction, and else behind it.
+    /// Nothing. This hook call comes before the instruction. Each other one comes after it.
     Before,
     /// This constant.
     Int(i32),
-    /// The words of this constant.
+    /// The two words of this constant, the low word first.
     Long(i64),
-    /// The index of a local, and its value, of this type.
+    /// The index of a local, and the value of the local, which has this type.
     Local(u32, ValType),
-    /// The index of a global, and its value, of this type.
+    /// The index of a global, and the value of the global, which has this type.
     Global(u32, ValType),
-    /// The operand of this type, which goes into a temporary instead of being dropped.
+    /// The operand, which has this type. It goes into a temporary instead of being dropped.
     Dropped(ValType),
-    /// An offset if there is one, and what the instruction takes and gives, which it leaves in temporaries of these types:
-    /// the first so many are of its operands, and one behind them is of its result.
+    /// The offset of an access to memory if it is one, and the operands and the result, which the template keeps in temporaries
+    /// of these types. The number says how many of the temporaries are for operands. One after them is for the result.
     Kept(Option<u32>, usize, Types),
 }
 
-/// What is told of an instruction: by the hook of which key, and what.
+/// What is told of an instruction: the key of the hook that is called, and what the call tells.
 #[derive(Drop)]
 pub struct Watch {
     pub key: HookKey,
     pub told: Telling,
 }
 
-// What is told of an instruction on a variable.
-fn local_told(site: &Site, op: VarOp, local: u32) -> (HookKey, Telling)
-    ensures { let ty = type_of_local site.now.context local in result ≡ (keys.Local op ty, Local local ty) }
+/// Whether an instruction has a hook of its own that is not called if these groups are selected. The instruction is then its
+/// own template. To ask first is quicker than to find out what would be told.
+pub fn is_untold(hooks: &Hooks, instr: &Instr) -> bool
+    ensures { (s : Shown) (p : ℕ) → result ≡ is_untold hooks.now (instr_watch s p instr.now) }
 {
-    let ty = site.local_type(local);
-    (HookKey::Local(op, ty), Telling::Local(local, ty))
+    match instr {
+        Instr::Unreachable => !hooks.unreachable,
+        Instr::Nop => !hooks.nop,
+        Instr::Drop => !hooks.drop,
+        Instr::Select => !hooks.select,
+        Instr::LocalGet(_) | Instr::LocalSet(_) | Instr::LocalTee(_) => !hooks.local,
+        Instr::GlobalGet(_) | Instr::GlobalSet(_) => !hooks.global,
+        Instr::Load(_, _) => !hooks.load,
+        Instr::Store(_, _) => !hooks.store,
+        Instr::MemorySize => !hooks.memory_size,
+        Instr::MemoryGrow => !hooks.memory_grow,
+        Instr::I32Const(_) | Instr::I64Const(_) => !hooks.const_,
+        Instr::Num(op) => !hooks.has(num_group(*op)),
+        _ => false,
+    }
 }
 
-fn global_told(site: &Site, op: VarOp, global: u32) -> (HookKey, Telling)
-    ensures { let ty = type_of_global site.now.context global in result ≡ (keys.Global op ty, Global global ty) }
+// The key of the hook that tells an instruction at a position. A branch, a call and an instruction with a sequence in it have
+// none here.
+pub(crate) fn key_of(site: &Site, position: u32, instr: &Instr) -> Option<HookKey>
+    ensures { result ≡ watch_key (instr_watch site.now position instr.now) }
 {
-    let ty = site.global_type(global);
-    (HookKey::Global(op, ty), Telling::Global(global, ty))
+    let key = match instr {
+        Instr::Unreachable => HookKey::Plain(GroupName::Unreachable),
+        Instr::Nop => HookKey::Plain(GroupName::Nop),
+        Instr::Drop => HookKey::Drop(site.mark_at(position)),
+        Instr::Select => HookKey::Select(site.mark_at(position)),
+        Instr::LocalGet(x) => HookKey::Local(VarOp::Get, site.local_type(*x)),
+        Instr::LocalSet(x) => HookKey::Local(VarOp::Set, site.local_type(*x)),
+        Instr::LocalTee(x) => HookKey::Local(VarOp::Tee, site.local_type(*x)),
+        Instr::GlobalGet(x) => HookKey::Global(VarOp::Get, site.global_type(*x)),
+        Instr::GlobalSet(x) => HookKey::Global(VarOp::Set, site.global_type(*x)),
+        Instr::Load(op, _) => HookKey::Load(*op),
+        Instr::Store(op, _) => HookKey::Store(*op),
+        Instr::MemorySize => HookKey::Plain(GroupName::MemorySize),
+        Instr::MemoryGrow => HookKey::Plain(GroupName::MemoryGrow),
+        Instr::I32Const(_) => HookKey::Const(ValType::I32),
+        Instr::I64Const(_) => HookKey::Const(ValType::I64),
+        Instr::Num(op) => HookKey::Num(*op),
+        _ => return None,
+    };
+    Some(key)
 }
 
-/// What is told of an instruction at a position, where it neither branches nor calls and has no sequence in it.
+// What the hook call of an instruction at a position tells. A branch, a call and an instruction with a sequence in it have
+// nothing here.
+pub(crate) fn telling_of(site: &Site, position: u32, instr: &Instr) -> Option<Telling>
+    ensures { result ≡ watch_told (instr_watch site.now position instr.now) }
+{
+    let int = ValType::I32;
+    let told = match instr {
+        Instr::Unreachable | Instr::Nop => Telling::Before,
+        Instr::Drop => Telling::Dropped(site.mark_at(position)),
+        Instr::Select => {
+            let ty = site.mark_at(position);
+            Telling::Kept(None, 3, Types::three(ty, ty, int))
+        }
+        Instr::LocalGet(x) | Instr::LocalSet(x) | Instr::LocalTee(x) => {
+            Telling::Local(*x, site.local_type(*x))
+        }
+        Instr::GlobalGet(x) | Instr::GlobalSet(x) => Telling::Global(*x, site.global_type(*x)),
+        Instr::Load(op, arg) => Telling::Kept(Some(arg.offset), 1, Types::two(int, op.ty())),
+        Instr::Store(op, arg) => Telling::Kept(Some(arg.offset), 2, Types::two(int, op.ty())),
+        Instr::MemorySize => Telling::Kept(None, 0, Types::one(int)),
+        Instr::MemoryGrow => Telling::Kept(None, 1, Types::two(int, int)),
+        Instr::I32Const(value) => Telling::Int(*value),
+        Instr::I64Const(value) => Telling::Long(*value),
+        Instr::Num(op) => Telling::Kept(None, op.operands(), Types::of_num(*op)),
+        _ => return None,
+    };
+    Some(told)
+}
+
+/// The key of the hook that tells an instruction at a position, and what the call tells. A branch, a call and an instruction
+/// with a sequence in it have neither. It takes the time of two look-ups in the site at most.
 pub fn watch_of(site: &Site, position: u32, instr: &Instr) -> Option<Watch>
     ensures { result ≡ instr_watch site.now position instr.now }
 {
-    let int = ValType::I32;
-    let (key, told) = match instr {
-        Instr::Unreachable => (HookKey::Plain(GroupName::Unreachable), Telling::Before),
-        Instr::Nop => (HookKey::Plain(GroupName::Nop), Telling::Before),
-        Instr::Drop => {
-            let ty = site.mark_at(position);
-            (HookKey::Drop(ty), Telling::Dropped(ty))
-        }
-        Instr::Select => {
-            let ty = site.mark_at(position);
-            let types = Types::three(ty, ty, int);
-            (HookKey::Select(ty), Telling::Kept(None, 3, types))
-        }
-        Instr::LocalGet(x) => local_told(site, VarOp::Get, *x),
-        Instr::LocalSet(x) => local_told(site, VarOp::Set, *x),
-        Instr::LocalTee(x) => local_told(site, VarOp::Tee, *x),
-        Instr::GlobalGet(x) => global_told(site, VarOp::Get, *x),
-        Instr::GlobalSet(x) => global_told(site, VarOp::Set, *x),
-        Instr::Load(op, arg) => {
-            let types = Types::two(int, op.ty());
-            (
-                HookKey::Load(*op),
-                Telling::Kept(Some(arg.offset), 1, types),
-            )
-        }
-        Instr::Store(op, arg) => {
-            let types = Types::two(int, op.ty());
-            (
-                HookKey::Store(*op),
-                Telling::Kept(Some(arg.offset), 2, types),
-            )
-        }
-        Instr::MemorySize => {
-            let told = Telling::Kept(None, 0, Types::one(int));
-            (HookKey::Plain(GroupName::MemorySize), told)
-        }
-        Instr::MemoryGrow => {
-            let told = Telling::Kept(None, 1, Types::two(int, int));
-            (HookKey::Plain(GroupName::MemoryGrow), told)
-        }
-        Instr::I32Const(value) => (HookKey::Const(ValType::I32), Telling::Int(*value)),
-        Instr::I64Const(value) => (HookKey::Const(ValType::I64), Telling::Long(*value)),
-        Instr::Num(op) => {
-            let told = Telling::Kept(None, op.operands(), Types::of_num(*op));
-            (HookKey::Num(*op), told)
-        }
-        _ => return None,
-    };
+    let key = key_of(site, position, instr)?;
+    let told = telling_of(site, position, instr)?;
     Some(Watch { key, told })
 }

@@ -22,7 +22,7 @@ mod whole;
 
 use crate::bodies::entries_length;
 pub use crate::code_length::{instrs_length, plain_length};
-pub use crate::outline::{Outline, code_section_length, put_code_head, put_entry};
+pub use crate::outline::{Outline, code_section_length, put_code_head, with_entry};
 pub use crate::types::block_type_length;
 use crate::whole::{module_length, spell_module};
 use module_ast::module::Module;

@@ -1,6 +1,6 @@
 // Modules whose parts are lent, and whose bodies come one at a time.
 
-ghost use Rattle.std.specs.Prelude.{◌≡◌, ◌++◌, ◌+◌, ◌<◌, ◌^◌, OnOk, length};
+ghost use Rattle.std.specs.Prelude.{◌≡◌, ◌++◌, ◌+◌, ◌<◌, ◌^◌, IfOk, MatchResult, OnOk, length};
 ghost use Rattle.leb_binary.specs.Shortest.{unsigned_bytes};
 ghost use Rattle.module_ast.specs.Binary.{body_bytes, vec_section, func_type_bytes, import_bytes, table_bytes, limits_bytes, global_bytes, export_bytes, start_bytes, element_bytes};
 ghost use Rattle.wasm_encode.specs.Outline.{front_bytes, back_bytes, entry_bytes, code_head};
@@ -92,18 +92,29 @@ impl Outline<'_> {
         Ok(())
     }
 
-    /// Adds the header and the sections before that of code (5.5.15). `Err` if memory runs out; `out` may then have a part
-    /// of these bytes.
+    // The header and the sections before that of code.
+    fn front(&self, alloc: Global) -> Result<Vec<u8>, AllocError>
+        requires types { length self.now.types < 2 ^ 64 }
+        requires imports { length self.now.imports < 2 ^ 64 }
+        ensures { IfOk result (λ front. front.items ≡ front_bytes self.now) }
+    {
+        let mut front = Vec::new(alloc);
+        front.extend_from_slice(&[0x00, 0x61, 0x73, 0x6D, 0x01, 0x00, 0x00, 0x00])?;
+        self.put_functions(alloc, &mut front)?;
+        self.put_stores(alloc, &mut front)?;
+        self.put_uses(alloc, &mut front)?;
+        Ok(front)
+    }
+
+    /// Adds the header and the sections before that of code (5.5.15). They are written apart first, so an `Err`, which comes if
+    /// memory runs out, leaves `out` as it was.
     pub fn put_front(&self, alloc: Global, out: &mut Vec<u8>) -> Result<(), AllocError>
         requires types { length self.now.types < 2 ^ 64 }
         requires imports { length self.now.imports < 2 ^ 64 }
-        ensures { OnOk result (out.new.items ≡ out.old.items ++ front_bytes self.now) }
+        ensures { MatchResult result (λ _. out.new.items ≡ out.old.items ++ front_bytes self.now) (λ _. out.new.items ≡ out.old.items) }
     {
-        out.extend_from_slice(&[0x00, 0x61, 0x73, 0x6D, 0x01, 0x00, 0x00, 0x00])?;
-        self.put_functions(alloc, out)?;
-        self.put_stores(alloc, out)?;
-        self.put_uses(alloc, out)?;
-        Ok(())
+        let front = self.front(alloc)?;
+        out.extend_from_slice(&front)
     }
 
     /// How many bytes follow the section of code.
@@ -114,12 +125,15 @@ impl Outline<'_> {
         section_length(11, self.segments)
     }
 
-    /// Adds what follows the section of code. `Err` if memory runs out; `out` may then have a part of these bytes.
+    /// Adds what follows the section of code. It is written apart first, so an `Err`, which comes if memory runs out, leaves
+    /// `out` as it was.
     pub fn put_back(&self, out: &mut Vec<u8>) -> Result<(), AllocError>
         requires { length (back_bytes self.now) < 2 ^ 63 }
-        ensures { OnOk result (out.new.items ≡ out.old.items ++ back_bytes self.now) }
+        ensures { MatchResult result (λ _. out.new.items ≡ out.old.items ++ back_bytes self.now) (λ _. out.new.items ≡ out.old.items) }
     {
-        put_section(out, 11, self.segments)
+        let mut back = Vec::new(*out.allocator());
+        put_section(&mut back, 11, self.segments)?;
+        out.extend_from_slice(&back)
     }
 }
 
@@ -137,25 +151,28 @@ pub fn code_section_length(count: u64, size: u64) -> u64
 }
 
 /// Adds what stands in the section of code before its `count` entries of `size` bytes together (5.5.13): nothing if there
-/// are none. `Err` if memory runs out; `out` may then have a part of these bytes.
+/// are none. It is written apart first, so an `Err`, which comes if memory runs out, leaves `out` as it was.
 pub fn put_code_head(out: &mut Vec<u8>, count: u64, size: u64) -> Result<(), AllocError>
     requires { size < 2 ^ 63 }
-    ensures { OnOk result (out.new.items ≡ out.old.items ++ code_head count size) }
+    ensures { MatchResult result (λ _. out.new.items ≡ out.old.items ++ code_head count size) (λ _. out.new.items ≡ out.old.items) }
 {
     if count == 0 {
         return Ok(());
     }
-    out.push(10)?;
-    put_u64(out, unsigned_length(count) + size)?;
-    put_u64(out, count)
+    let mut head = Vec::new(*out.allocator());
+    head.push(10)?;
+    put_u64(&mut head, unsigned_length(count) + size)?;
+    put_u64(&mut head, count)?;
+    out.extend_from_slice(&head)
 }
 
-/// Adds a body of `size` bytes with its size before it (5.5.13). `Err` if memory runs out; `out` may then have a part of
-/// these bytes.
-pub fn put_entry(out: &mut Vec<u8>, body: &Body, size: u64) -> Result<(), AllocError>
+/// These bytes, and after them a body of `size` bytes with its size before it (5.5.13). Each byte of the body is written once.
+/// `Err` if memory runs out; the bytes are dropped then.
+pub fn with_entry(mut out: Vec<u8>, body: &Body, size: u64) -> Result<Vec<u8>, AllocError>
     requires { size ≡ length (body_bytes body.now) }
-    ensures { OnOk result (out.new.items ≡ out.old.items ++ entry_bytes body.now) }
+    ensures { IfOk result (λ all. all.items ≡ out.items ++ entry_bytes body.now) }
 {
-    put_u64(out, size)?;
-    body.put(out)
+    put_u64(&mut out, size)?;
+    body.put(&mut out)?;
+    Ok(out)
 }

@@ -5,8 +5,8 @@ use Rattle.instrument.specs.Plan.{new_bodies}
 use Rattle.instrument.proofs.PlannedEntries.{size_is, entry_made, entries_more}
 use Rattle.instrument.proofs.entries.RoundJob.piece.Goals as goal
 
-pub put_entry-requires : goal.put_entry-requires
-put_entry-requires g c =
+pub with_entry-requires : goal.with_entry-requires
+with_entry-requires g c =
     let r = c.args.self.now in
     size_is r.plan.now r.sizes.now c.loop-defined.defined c.in_ok-body.body c.requires.sizes_are (c.request-asked.ensures.makes c.in_ok-body.body c.in_ok-body.ensures)
 
@@ -17,9 +17,8 @@ loop-defined-preserved g c =
     let from = bound_at c.args.self.now.bounds.now c.args.index in
     let b = c.in_ok-body.body in
     let within : l.defined < length (new_bodies p) = omega (arith, c.loop-defined-test.true, c.requires.within) in
-    let made : slice_get (new_bodies p) l.defined ≡ Some b = c.request-asked.ensures.makes b c.in_ok-body.ensures in
-    let put : c.put_entry.new.out.items ≡ l.entries.items ++ entry_bytes b = c.in_ok-put_entry.ensures in (
-      put ∙ ap (λ (e : List ℕ). e ++ entry_bytes b) l.invariant.0 ∙ ap (λ (e : List ℕ). entries_at p from l.defined ++ e) (entry_made p l.defined b made)
+    let made : slice_get (new_bodies p) l.defined ≡ Some b = c.request-asked.ensures.makes b c.in_ok-body.ensures in (
+      c.in_ok-entries-2.ensures ∙ ap (λ (e : List ℕ). e ++ entry_bytes b) l.invariant.0 ∙ ap (λ (e : List ℕ). entries_at p from l.defined ++ e) (entry_made p l.defined b made)
           ∙ sym (entries_more p from l.defined l.invariant.1 within),
       omega (arith, l.invariant.1),
     )
