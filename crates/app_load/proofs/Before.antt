@@ -32,8 +32,8 @@ too_long_before name cap long (Some a) (Some b) i j k p l m = (m.0, sym (p name)
 too_long_before name cap long None (Some b) i j k p l m = absurd p
 too_long_before name cap long (Some a) None i j k p l m = absurd p
 
-pub cause_before : (read : Read) (a b c : ShelfState) (status : ℕ) (text : List ℕ) → Unchanged a.contents b.contents → a.read_faults ≤ b.read_faults
-    → ReadCause read b c status text → ReadCause read a c status text
+pub cause_before : (read : Read) (a b c : ShelfState) (status : ℕ) (text : List ℕ) → Unchanged a.contents b.contents
+    → a.read_faults read.name ≤ b.read_faults read.name → ReadCause read b c status text → ReadCause read a c status text
 cause_before read a b c _ _ p l (missing m) = missing (missing_before read.name _ _ _ _ _ p l m)
 cause_before read a b c _ _ p l (too_long long t) = too_long long (too_long_before read.name read.cap long _ _ _ _ _ p l t)
 cause_before read a b c _ _ p l (unread r) = unread (rose_before _ _ _ l r)

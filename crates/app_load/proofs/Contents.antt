@@ -39,7 +39,7 @@ unchanged_after (Some a) (Some b) None p q = absurd q
 
 -- no call was made
 pub none_read : (at : ShelfState) → OnlyRead 0 at at
-none_read at = record { contents = unchanged_same at.contents; reads = refl; writes = refl; read_faults = omega arith; write_faults = refl }
+none_read at = record { contents = unchanged_same at.contents; reads = refl; writes = refl; read_faults = λ name. omega arith; write_faults = refl }
 
 pub none_written : (at : ShelfState) → OnlyWrote 0 at at
 none_written at = record { reads = refl; writes = refl; read_faults = refl; write_faults = omega arith }
@@ -50,7 +50,7 @@ read_then more a b c p q = record {
   contents = unchanged_after a.contents b.contents c.contents p.contents q.contents;
   reads = q.reads ∙ ap (after_calls more) p.reads;
   writes = q.writes ∙ p.writes;
-  read_faults = omega (arith, p.read_faults, q.read_faults);
+  read_faults = λ name. omega (arith, p.read_faults name, q.read_faults name);
   write_faults = q.write_faults ∙ p.write_faults;
 }
 

@@ -25,9 +25,9 @@ data Fate (plan : Option Plan) (contents : Contents) (status : ℕ) : Type 0 whe
 -- where these contents are told
 module _ {plan : Option Plan} {old new : ShelfState} (contents : Contents) (told : old.contents ≡ Some contents) where
   read_fate : (read : Read) (status : ℕ) (text : List ℕ) → Comes (Some contents) plan read → ReadCause read old new status text → Fate plan contents status
-  read_fate read _ _ c (missing m) = bad read c (absent (subst (λ h. IsMissing h read.name old.read_faults new.read_faults) told m))
+  read_fate read _ _ c (missing m) = bad read c (absent (subst (λ h. IsMissing h read.name (old.read_faults read.name) (new.read_faults read.name)) told m))
   read_fate read _ _ c (too_long long t) =
-      let s = subst (λ h. IsTooLong h read.name read.cap long old.read_faults new.read_faults) told t in
+      let s = subst (λ h. IsTooLong h read.name read.cap long (old.read_faults read.name) (new.read_faults read.name)) told t in
       bad read c (over s.0 s.1 s.3)
   read_fate read _ _ c (unread r) = faulty (inl refl)
   read_fate read _ _ c (refuted bytes status text i r) =

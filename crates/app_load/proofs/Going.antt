@@ -35,7 +35,7 @@ cause_on : (read : Read) (next : Value read.want → Plan) (value : Value read.w
 cause_on read next value old mid new was is _ _ g once (no_command e only s) = cc
 cause_on read next value old mid new was is _ _ g once (unread other status text way r only s) =
     unread other status text (inr (value, g, comes_before old.contents mid.contents (next value) other once.contents way))
-    (cause_before other old mid new status text once.contents once.read_faults r)
+    (cause_before other old mid new status text once.contents (once.read_faults other.name) r)
     (subst (λ n. OnlyRead (suc n) old new) (sym (came_before old.contents mid.contents (next value) other once.contents way)) (read_then _ old mid new once only)) s
 cause_on read next value old mid new was is _ _ g once (refused reason text way only s) =
     refused reason text (value, g, leads_before old.contents mid.contents (next value) (refuses reason text) once.contents way)

@@ -1,4 +1,3 @@
-pub mod KindLists
 pub mod Fed
 pub mod Files
 pub mod Scripts

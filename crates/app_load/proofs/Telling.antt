@@ -38,7 +38,7 @@ read_tells : (plan : Option Plan) (old new : ShelfState) (was is : List ToolStat
     → Tells plan old new was is before after status (class_of status)
 read_tells plan old new was is before after read _ _ c (missing m) u s = ((read, c, inl m), (u, s))
 read_tells plan old new was is before after read _ _ c (too_long long t) u s = ((read, c, inr (long, t)), (u, s))
-read_tells plan old new was is before after read _ _ c (unread r) u s = (r, (u, s))
+read_tells plan old new was is before after read _ _ c (unread r) u s = ((read, c, r), (u, s))
 read_tells plan old new was is before after read _ _ c (refuted bytes status text i r) u s =
     let w = refuted_wrong read.name read.want bytes status text r in
     elim (wrong_class read.want bytes status w) [

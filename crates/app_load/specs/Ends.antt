@@ -23,8 +23,8 @@ abbrev pub WrittenPart : Option Plan → (old new : Option Contents) → Type 0
 WrittenPart plan old new = (e : Effect) × Leads old plan (does e) × WroteSome e.files old new
 
 -- Why a command is refused, which calls of the shelf were made, which events the analyses took, and the status and the
--- line. The reads that were made are those of the plan up to the refused read, up to the ending, or up to the moment
--- when memory ran out. Nothing else was read.
+-- line. As many reads were made as the plan has up to the refused read, up to the ending, or up to the moment when memory
+-- ran out.
 pub data Cause (plan : Option Plan) (old new : ShelfState) (was is : List ToolState) : (status : ℕ) → (text : List ℕ) → Type 0 where
   no_command : plan ≡ None → OnlyRead 0 old new → is ≡ was → Cause plan old new was is 2 bad_words_text
   unread : (read : Read) (status : ℕ) (text : List ℕ) (way : Comes old.contents plan read) → ReadCause read old new status text
@@ -56,10 +56,12 @@ pub data Ends (plan : Option Plan) (old new : ShelfState) (was is : List ToolSta
 
 -- ---- what a status tells, by its class
 
--- nothing stands under a name that is read, or more bytes than the cap do; if the contents are unknown, the count rose
-abbrev pub IsUnread : Option Plan → (held : Option Contents) → (old new : ℕ) → Type 0
+-- nothing stands under a name that is read, or more bytes than the cap do; if the contents are unknown, the count at the name rose
+abbrev pub IsUnread : Option Plan → (held : Option Contents) → (old new : (name : List ℕ) → ℕ) → Type 0
 IsUnread plan held old new =
-    (read : Read) × Comes held plan read × (IsMissing held read.name old new ⊎ ((long : ℕ) × IsTooLong held read.name read.cap long old new))
+    (read : Read)
+    × Comes held plan read
+    × (IsMissing held read.name (old read.name) (new read.name) ⊎ ((long : ℕ) × IsTooLong held read.name read.cap long (old read.name) (new read.name)))
 
 -- a read of the plan got bytes that are not what they must be
 abbrev pub IsRefuted : Option Plan → (held : Option Contents) → (status : ℕ) → Type 0
@@ -78,7 +80,8 @@ abbrev pub Tells : Option Plan → (old new : ShelfState) → (was is : List Too
 Tells plan old new was is before after status of_words = (plan ≡ None) × IsKept old.contents new.contents was is
 Tells plan old new was is before after status of_names =
     IsUnread plan old.contents old.read_faults new.read_faults × IsKept old.contents new.contents was is
-Tells plan old new was is before after status of_reads = Rose old.read_faults new.read_faults × IsKept old.contents new.contents was is
+Tells plan old new was is before after status of_reads =
+    ((read : Read) × Comes old.contents plan read × Rose (old.read_faults read.name) (new.read_faults read.name)) × IsKept old.contents new.contents was is
 Tells plan old new was is before after status of_bytes = IsRefuted plan old.contents status × IsKept old.contents new.contents was is
 Tells plan old new was is before after status of_scripts =
     (IsRefuted plan old.contents status ⊎ LeadsToRefusal plan old.contents status) × IsKept old.contents new.contents was is

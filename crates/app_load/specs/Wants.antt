@@ -150,9 +150,9 @@ pub record Gives (held : Option Contents) (read : Read) (value : Value read.want
 
 -- why the read gives no value, with the status and the line
 pub data ReadCause (read : Read) (old new : ShelfState) : (status : ℕ) → (text : List ℕ) → Type 0 where
-  missing : IsMissing old.contents read.name old.read_faults new.read_faults → ReadCause read old new 3 (missing_text read.name)
-  too_long : (long : ℕ) → IsTooLong old.contents read.name read.cap long old.read_faults new.read_faults → ReadCause read old new 3 (too_long_text read.name long)
-  unread : Rose old.read_faults new.read_faults → ReadCause read old new 4 (unread_text read.name)
+  missing : IsMissing old.contents read.name (old.read_faults read.name) (new.read_faults read.name) → ReadCause read old new 3 (missing_text read.name)
+  too_long : (long : ℕ) → IsTooLong old.contents read.name read.cap long (old.read_faults read.name) (new.read_faults read.name) → ReadCause read old new 3 (too_long_text read.name long)
+  unread : Rose (old.read_faults read.name) (new.read_faults read.name) → ReadCause read old new 4 (unread_text read.name)
   refuted : (bytes : List ℕ) (status : ℕ) (text : List ℕ) → IsRead old.contents read bytes → Refutes read.name read.want bytes status text
       → ReadCause read old new status text
   unread_no_memory : ReadCause read old new 14 no_memory_text

@@ -98,16 +98,17 @@ pub fn read_kinds(list: &str) -> Option<Kinds>
 {
     match list {
         "all" => Some(Kinds::all()),
-        _ => with_named(Kinds::none(), list),
+        _ => read_names(list),
     }
 }
 
-// The set `kinds` with the kinds added that the pieces of `list` name, or None if a piece names no kind.
-fn with_named(kinds: Kinds, list: &str) -> Option<Kinds>
-    ensures { result ≡ with_named kinds (pieces list.now) }
+// The set of the kinds that the pieces of a list name, or None if a piece names no kind.
+fn read_names(list: &str) -> Option<Kinds>
+    ensures { result ≡ with_named no_kinds (pieces list.now) }
 {
-    match list.split_once(',') {
-        Some((name, later)) => with_named(kinds.with(kind_named(name)?), later),
-        None => Some(kinds.with(kind_named(list)?)),
+    let mut kinds = Kinds::none();
+    for name in list.split(',') {
+        kinds = kinds.with(kind_named(name)?);
     }
+    Some(kinds)
 }

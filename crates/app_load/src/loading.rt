@@ -1,9 +1,8 @@
 // Valid modules, scripts, information and traces, read from a shelf.
 
-ghost use Rattle.std.specs.Prelude.{◌≡◌, ◌^◌, ◌<◌, ◌≤◌, List, IfOk, IfErr, OnOk, length, string_bytes};
+ghost use Rattle.std.specs.Prelude.{◌≡◌, ◌≤◌, List, IfOk, IfErr, OnOk, length, string_bytes};
 ghost use Rattle.outside_io.specs.Outside.{OnlyRead};
 ghost use Rattle.module_ast.specs.Binary.{Gram};
-ghost use Rattle.module_ast.specs.Structure.{funcs_of};
 ghost use Rattle.module_ast.specs.Validation.{IsValid, deepest, longest_file};
 ghost use Rattle.static_info.specs.Belongs.{Belongs};
 ghost use Rattle.static_info.specs.Form.{IsWellFormed};
@@ -19,7 +18,6 @@ ghost use Rattle.app_load.specs.Wants.{AreKept, Gives, IsRead, Want, read_as, in
 use crate::printing::{Refusal, refused};
 use crate::status::Status;
 use module_ast::module::{LONGEST_FILE, LONGEST_NARROW_FILE, Limits, Module, Which};
-use module_ast::spaces::Counts;
 use name_map::{Names, no_names, read_names};
 use outside_io::{ReadFault, Shelf};
 use par_phase::Jobs;
@@ -77,26 +75,28 @@ pub fn load_named<R: Threads + Sync, S: Shelf>(
     ensures refused { IfErr result (λ r. RefusedBy (named_read name.now cap limits.now keeps) (S.seen shelf.old) (S.seen shelf.new) r) }
     ensures once { OnlyRead 1 (S.seen shelf.old) (S.seen shelf.new) }
 {
-    // for the proof: the limit of functions fits in 32 bits
-    let _functions = limits.functions;
     let bytes = read(alloc, name, cap, shelf)?;
     let module = valid_module(rt, alloc, name, bytes.as_slice(), limits, jobs)?;
-    match kept_names(alloc, bytes.as_slice(), module.module(), keeps) {
+    match kept_names(alloc, bytes.as_slice(), &module, keeps) {
         Ok(names) => Ok((module, names)),
         Err(_) => Err(Refusal::NoMemory),
     }
 }
 
 // The names that the file of a module carries if `keeps` is set, and otherwise no names.
-fn kept_names(alloc: Global, bytes: &[u8], m: &Module, keeps: bool) -> Result<Names, AllocError>
+fn kept_names(
+    alloc: Global,
+    bytes: &[u8],
+    m: &ValidModule,
+    keeps: bool,
+) -> Result<Names, AllocError>
     requires file { Gram bytes.now m.now }
-    requires few { length (funcs_of m.now) < 2 ^ 32 }
     ensures { IfOk result (AreKept keeps bytes.now m.now) }
 {
     if !keeps {
         return Ok(no_names(alloc));
     }
-    read_names(alloc, bytes, Counts::of(m).funcs as u32)
+    read_names(alloc, bytes, m.func_count())
 }
 
 /// Reads the script that stands under `name`, of at most 16,777,216 bytes. One call of the shelf is made, and no name

@@ -4,7 +4,7 @@ use Rattle.std.proofs.lemmas.List.Elements.{All-nil, All-weaker}
 use Rattle.leb_binary.specs.Shortest.{unsigned_bytes}
 use Rattle.leb_binary.specs.Texts.{Text}
 use Rattle.wasm_sem.specs.Types.{Module, Hooks}
-use Rattle.module_ast.specs.declared.module.Which.TheVariants.{Functions}
+use Rattle.module_ast.specs.declared.module.Which.TheVariants.{Functions, Types}
 use Rattle.module_ast.specs.Ascii.{ascii_text}
 use Rattle.module_ast.specs.Binary.{module_bytes, sized_bytes, Gram, Fits, IsWithin}
 use Rattle.module_ast.specs.Structure.{imported_funcs, funcs_of}
@@ -28,6 +28,7 @@ use Rattle.instrument.specs.Accepted.{IsAccepted}
 use Rattle.instrument.specs.Output.{hook_remap, output, output_bytes}
 use Rattle.instrument.specs.Shell.{Shell, with_customs}
 use Rattle.instrument.proofs.Customs.{valid_same, within_same, customs_same}
+use Rattle.instrument.proofs.OutputNeeds.{needed_count}
 use Rattle.instrument.proofs.OutputRules.{funcs_counted, output_is_valid}
 use Rattle.instrument.proofs.OutputSame.{same}
 use Rattle.instrument.proofs.OutputShell.{output_has_shell}
@@ -56,10 +57,9 @@ named_or_not r names = by names.module names.functions names.locals
         inr (λ e. (let k = ap (λ (n : Names). n.locals) e in cc), λ e. (let k = ap (λ (n : Names). n.locals) e in cc))
 
 -- their indices in the output have 32 bits
-pub few_mapped : (m : Module) (hooks : Hooks) → IsValid m → IsWithin narrow m → length (funcs_of m) + length (needed_keys m hooks) < 2 ^ 32
-few_mapped m hooks valid within =
-    let most = (output_is_within m hooks valid within Functions).0 in
-    omega (arith, most, funcs_counted m hooks (needed_keys m hooks), length-append (imported_funcs m.imports) m.funcs)
+pub few_mapped : (m : Module) (hooks : Hooks) → IsWithin narrow m → length (funcs_of m) + length (needed_keys m hooks) < 2 ^ 32
+few_mapped m hooks within =
+    omega (arith, (within Functions).0, (within Types).0, needed_count m hooks, length-append (imported_funcs m.imports) m.funcs)
 
 pub maps_below : {A : Type 0} (index : A → ℕ) (r : Remap) (count : ℕ) (xs : List A) → All (λ x. index x < count) xs → count + r.added < 2 ^ 32
     → All (λ x. MapsIndex r (index x)) xs

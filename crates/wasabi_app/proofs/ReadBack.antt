@@ -201,7 +201,7 @@ module _ (contents : Contents) (plan : Plan) (script : List ℕ) (only : OnlyBad
   is_last : (read : Read) → ComesTo (Some contents) plan read → IsBad contents read 3 → IsBad contents (script_read script) 3
   is_last read comes bad = subst (λ (r : Read). IsBad contents r 3) (only read 3 comes bad) bad
 
-  unread_script : (old new : ℕ) → IsUnread (Some plan) (Some contents) old new → IsBad contents (script_read script) 3
+  unread_script : (old new : (name : List ℕ) → ℕ) → IsUnread (Some plan) (Some contents) old new → IsBad contents (script_read script) 3
   unread_script old new (read, comes, inl missing) = is_last read comes (absent missing)
   unread_script old new (read, comes, inr (long, (bytes, there, is, above))) = is_last read comes (over bytes there above)
 

@@ -8,7 +8,7 @@ ghost use Rattle.module_ast.specs.Validation.{narrow, wide, longest_file, longes
 ghost use Rattle.name_map.specs.Laws.{AreProper};
 ghost use Rattle.name_map.specs.Written.{name_section_bytes};
 ghost use Rattle.instrument.specs.Made.{IsMade};
-ghost use Rattle.instrument.specs.Output.{output_bytes};
+ghost use Rattle.instrument.specs.Output.{hook_remap, output_bytes};
 ghost use Rattle.wasm_sem.specs.Execution.{IsFree};
 ghost use Rattle.app_load.specs.Files.{IsFit};
 ghost use Rattle.wasabi_app.specs.Hooking.{GetsNone};
@@ -21,9 +21,8 @@ use crate::output_bound::OutputBound;
 use app_load::{Refusal, Status, refused};
 use hook_select::Hooks;
 use index_remap::Remap;
-use instrument::{InstrumentFault, Made, instrument, needed_hooks};
+use instrument::{InstrumentFault, Made, hook_remap, instrument, needed_hooks};
 use module_ast::module::{LONGEST_FILE, Limits};
-use module_ast::spaces::Counts;
 use name_map::{Names, map_names, no_names, put_section};
 use par_phase::Jobs;
 use rewrite::PlainRewriter;
@@ -151,8 +150,7 @@ fn with_names(
     ensures refused { IfErr result (GetsNone subject.now.name.now subject.now.module.now (named_length subject.now.module.now hooks subject.now.names.now) bound) }
 {
     let Made { mut bytes, info } = made;
-    let added = info.hooks.as_slice().len();
-    let Ok(()) = put_names(alloc, &mut bytes, subject, hooks, added) else {
+    let Ok(()) = put_names(alloc, &mut bytes, subject, hooks, info.remap()) else {
         return Err(Refusal::NoMemory);
     };
     let length = bytes.len() as u64;
@@ -162,23 +160,21 @@ fn with_names(
     Ok(Made { bytes, info })
 }
 
-// Appends the section of the names in an output with `added` hooks. After an `Err`, no clause says what was appended.
+// Appends the section of the names in an output, whose function indices change so. After an `Err`, no clause says what
+// was appended.
 fn put_names(
     alloc: Global,
     out: &mut Vec<u8>,
     subject: &Subject<'_>,
     hooks: Hooks,
-    added: usize,
+    remap: Remap,
 ) -> Result<(), AllocError>
     requires limits { IsWithin narrow subject.now.module.now }
     requires proper { AreProper (length (funcs_of subject.now.module.now)) subject.now.names.now }
-    requires added { added ≡ length (needed_keys subject.now.module.now hooks) }
+    requires remap { remap ≡ hook_remap subject.now.module.now (needed_keys subject.now.module.now hooks) }
     ensures { OnOk result (out.new.items ≡ out.old.items ++ name_section_bytes (output_names subject.now.module.now hooks subject.now.names.now)) }
 {
-    let module = subject.module.module();
-    let imports = Counts::of_imports(module.imports.as_slice()).funcs as u32;
-    let added = added as u32;
-    let names = map_names(alloc, subject.names, Remap { imports, added })?;
+    let names = map_names(alloc, subject.names, remap)?;
     put_section(alloc, out, &names)
 }
 
@@ -221,9 +217,10 @@ fn whole_length<R: Threads + Sync>(
     requires is { bare ≡ length (output_bytes subject.now.module.now hooks) }
     ensures { IfOk result (λ whole. whole ≡ named_length subject.now.module.now hooks subject.now.names.now) }
 {
-    let added = needed_hooks(rt, alloc, subject.module, hooks, jobs.count())?.len();
+    let table = needed_hooks(rt, alloc, subject.module, hooks, jobs.count())?;
+    let remap = hook_remap(subject.module, &table);
     let mut section = Vec::new(alloc);
-    put_names(alloc, &mut section, subject, hooks, added as usize)?;
+    put_names(alloc, &mut section, subject, hooks, remap)?;
     bare.checked_add(section.len() as u64).ok_or(AllocError)
 }
 

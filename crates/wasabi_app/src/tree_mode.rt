@@ -186,11 +186,9 @@ fn told(alloc: Global, script: &Script, treed: &Treed) -> Result<Printed, Refusa
     ensures text { IfOk result (λ t. t.text.items ≡ run_text script.now.calls (told_outcome treed.now.outcome) ++ nodes_text treed.now.nodes.items) }
     ensures no_memory { IfErr result (λ r. r ≡ Refusal.NoMemory) }
 {
-    match tree_text(alloc, script, treed) {
-        Ok(text) => Ok(Printed {
-            status: status_of(&treed.outcome),
-            text: text.into_bytes(),
-        }),
-        Err(_) => Err(Refusal::NoMemory),
-    }
+    let text = tree_text(alloc, script, treed)?;
+    Ok(Printed {
+        status: status_of(&treed.outcome),
+        text: text.into_bytes(),
+    })
 }

@@ -27,7 +27,6 @@ use app_runs::{Played, Tally, play, run_script, run_text, status_of};
 use instrument::Made;
 use module_ast::name::Name;
 use module_ast::seq::Seq;
-use module_ast::spaces::Counts;
 use module_gen::make;
 use par_phase::Jobs;
 use report::events_line;
@@ -266,9 +265,8 @@ fn sizes(alloc: Global, number: u64, m: &ValidModule, hooked: &Made) -> Result<S
     ensures { IfOk result (λ text. string_bytes text ≡ sizes_text number (length (module_bytes m.now)) (length (funcs_of m.now))
         (length hooked.now.bytes.items) (length hooked.now.info.hooks)) }
 {
-    let module = m.module();
-    let bytes = encoded_length(module);
-    let functions = Counts::of(module).funcs;
+    let bytes = encoded_length(m.module());
+    let functions = m.func_count();
     let output = hooked.bytes.len();
     let hooks = hooked.info.hooks.as_slice().len();
     sizes_text(alloc, number, bytes, functions, output, hooks)
@@ -278,7 +276,7 @@ fn sizes_text(
     alloc: Global,
     number: u64,
     bytes: u64,
-    functions: usize,
+    functions: u32,
     output: usize,
     hooks: usize,
 ) -> Result<String, NoMemory>

@@ -1,9 +1,6 @@
 -- What was read, or why nothing was.
 use Rattle.std.proofs.Common.{length, ap, subst, arith}
 use Rattle.std.proofs.lemmas.Result.{IfErr-weaker, err_from_is_err_and}
-use Rattle.wasm_sem.specs.Types.{Module}
-use Rattle.module_ast.specs.declared.module.Which.TheVariants.{Functions}
-use Rattle.module_ast.specs.Structure.{funcs_of}
 use Rattle.app_load.specs.Files.{IsFit}
 use Rattle.app_load.specs.Wants.{AreKept, a_named_module, unread_no_memory}
 use Rattle.app_load.proofs.Loaded.{refuted_by}
@@ -21,11 +18,6 @@ returns-in_err-module-clause-refused g c =
     rw (p.1, p.2)
     (refuted_by want _ _ _ _ c.in_ok-bytes.bytes.items _ (c.in_ok-bytes.ensures.ok want) (rw c.as_slice.ensures.value at c.in_err-module.ensures.refused))
 
-pub kept_names-requires-clause-few : goal.kept_names-requires-clause-few
-kept_names-requires-clause-few g c =
-    let count = (c.in_ok-module.ensures.ok.0.within Functions).0 in
-    omega (arith, count, ap (λ (m : Module). length (funcs_of m)) c.«module».ensures.module)
-
 pub returns-in-Ok-clause-ok : goal.returns-in-Ok-clause-ok
 returns-in-Ok-clause-ok g c =
     let want = a_named_module c.args.limits.now c.args.keeps in
@@ -33,7 +25,7 @@ returns-in-Ok-clause-ok g c =
     record {
       bytes = c.in_ok-bytes.bytes.items;
       read_well = c.in_ok-bytes.ensures.ok want;
-      spelled = (fit, c.in_ok-module.ensures.ok.1, rw (c.as_slice-2.ensures.value, c.«module».ensures.module) at c.in-Ok.ensures);
+      spelled = (fit, c.in_ok-module.ensures.ok.1, rw c.as_slice-2.ensures.value at c.in-Ok.ensures);
     }
 
 pub returns-clause-refused : goal.returns-clause-refused

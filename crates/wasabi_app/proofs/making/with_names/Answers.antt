@@ -1,12 +1,23 @@
 -- An output with its names is no longer than the bound, or is refused.
 use Rattle.std.proofs.Common.{◌≡◌, ◌++◌, length, ap, subst, ◌∙◌, arith, rules}
 use Rattle.name_map.specs.Written.{name_section_bytes}
+use Rattle.static_info.specs.declared.Info.{Info}
+use Rattle.static_info.specs.Read.{info_remap}
 use Rattle.wasabi_app.specs.KeptNames.{output_names}
 use Rattle.wasabi_app.specs.Making.{named_length}
 use Rattle.wasabi_app.specs.Texts.{too_large_text}
 use Rattle.app_load.specs.Outcomes.{IsRefusal}
 use Rattle.wasabi_app.proofs.Hooking.{unhooked_large, unhooked_no_memory}
+use Rattle.wasabi_app.proofs.KeptNames.{few_mapped}
 use Rattle.wasabi_app.proofs.making.with_names.Goals as goal
+
+pub remap-requires : goal.remap-requires
+remap-requires c =
+    let few = few_mapped c.args.subject.now.module.now c.args.hooks c.requires.limits in
+    omega (arith, few, ap (λ (i : Info). length i.hooks) c.requires.made.information)
+
+pub put_names-requires-clause-remap : goal.put_names-requires-clause-remap
+put_names-requires-clause-remap c = c.remap.ensures ∙ ap info_remap c.requires.made.information
 
 pub returns-in_default-clause-refused : goal.returns-in_default-clause-refused
 returns-in_default-clause-refused c =
