@@ -1,25 +1,19 @@
 -- A tree that takes items, one list after another.
-use Rattle.std.proofs.Common.{◌≡◌, ◌+◌, List, [], ◌∷◌, ◌++◌, length, Option, Some, None, option_map, option_and_then, unwrap_or, refl, sym, ap, ◌∙◌, arith, append_assoc, append-nil, length-append}
+use Rattle.std.proofs.Common.{◌≡◌, ◌+◌, List, [], ◌∷◌, ◌++◌, length, Option, Some, None, option_map, option_and_then, refl, sym, ap, ◌∙◌, arith, append_assoc, append-nil, length-append}
 use Rattle.std.proofs.lemmas.Option.{none-some, same_Some}
 use Rattle.wasm_sem.specs.Types.{Loc, Event}
 use Rattle.wasm_sem.specs.Execution.{TraceItem, entry, host_call, event, hook_call, events_in}
 use Rattle.wasm_sem.specs.Nests.{Bracket}
+use Rattle.wasm_sem.proofs.Chosen.{events_append}
 use Rattle.call_tree.specs.declared.tree.TreeFault.{TreeFault}
 use Rattle.call_tree.specs.declared.tree.TreeFault.TheVariants.{NotNested, NoMemory}
 use Rattle.call_tree.specs.Paths.{open_after, open_after_all}
 use Rattle.call_tree.specs.State.{TreeState, IsTreeRefusal, entered, fresh_tree, taken_by, state_with, state_of, state_behind, tree_behind}
-use Rattle.call_tree.specs.Unnested.{end_place, unnested_from, first_unnested}
+use Rattle.call_tree.specs.Unnested.{unnested_from, first_unnested}
 use Rattle.call_tree.proofs.Following.{following}
 use Rattle.call_tree.proofs.Unnested.{nested_all, refused_place, unnested_by}
 
 -- ---- the events of items
-
-pub events_append : (xs ys : List TraceItem) → events_in (xs ++ ys) ≡ events_in xs ++ events_in ys
-events_append [] ys = refl
-events_append (event e ∷ is) ys = ap (λ (t : List Event). e ∷ t) (events_append is ys)
-events_append (entry c ∷ is) ys = events_append is ys
-events_append (host_call f vs rs ws ∷ is) ys = events_append is ys
-events_append (hook_call h ∷ is) ys = events_append is ys
 
 pub events_more : (xs ys : List TraceItem) → length (events_in (xs ++ ys)) ≡ length (events_in xs) + length (events_in ys)
 events_more xs ys = ap length (events_append xs ys) ∙ length-append (events_in xs) (events_in ys)

@@ -11,11 +11,12 @@ use Rattle.std.proofs.lemmas.Cmp.{nat_list_cmp_total}
 use Rattle.std.proofs.lemmas.Map.Lookups.{exact_bytes}
 use Rattle.std.proofs.lemmas.Option.{same_Some, none-some}
 use Rattle.std.proofs.lemmas.List.{length-append, get_or_at}
+use Rattle.module_ast.proofs.Indexed.{IsIn, each_in}
 use Rattle.call_tree.specs.declared.Node.{Node}
 use Rattle.call_tree.specs.Counts.{with_entry, entry_at, path_at, node_of, nodes_of, path_counts}
 use Rattle.call_tree.specs.Table.{Link, link_at, listed, paths_of, tallied, kids, IsNodeTable}
 use Rattle.call_tree.proofs.PathOrder.{same_path, path_itself}
-use Rattle.call_tree.proofs.Preorder.{Among, Rises, behind, behind_rises, behind_within, complete, all_at, IsTree}
+use Rattle.call_tree.proofs.Preorder.{Rises, behind, behind_rises, behind_within, complete, IsTree}
 use Rattle.call_tree.proofs.Grown.{listed_step, paths_differ, length_grown}
 use Rattle.call_tree.proofs.Trees.{table_tree}
 
@@ -104,17 +105,17 @@ tallied_has q (p ∷ ps) (n ∷ ns) (suc j) same within here h = go (eq_by_cmp (
     go false h rest = rest h
 
 module _ (ps : List (List ℕ)) (ns : List ℕ) where
-  pairs_found : (q : List ℕ) (x : ℕ) (is : List ℕ) → find (slice_cmp nat_cmp) q (map (pair_at ps ns) is) ≡ Some x → (i : ℕ) × Among i is × (listed ps i ≡ q) × (number_at ns i ≡ x)
+  pairs_found : (q : List ℕ) (x : ℕ) (is : List ℕ) → find (slice_cmp nat_cmp) q (map (pair_at ps ns) is) ≡ Some x → (i : ℕ) × IsIn i is × (listed ps i ≡ q) × (number_at ns i ≡ x)
   pairs_found q x [] h = absurd (none-some x h)
   pairs_found q x (i ∷ is) h = go (eq_by_cmp (slice_cmp nat_cmp) q (listed ps i)) refl h (pairs_found q x is)
     where
       go : (b : Bool) → eq_by_cmp (slice_cmp nat_cmp) q (listed ps i) ≡ b → cond b (Some (number_at ns i)) (find (slice_cmp nat_cmp) q (map (pair_at ps ns) is)) ≡ Some x
-          → (find (slice_cmp nat_cmp) q (map (pair_at ps ns) is) ≡ Some x → (j : ℕ) × Among j is × (listed ps j ≡ q) × (number_at ns j ≡ x))
-          → (j : ℕ) × Among j (i ∷ is) × (listed ps j ≡ q) × (number_at ns j ≡ x)
+          → (find (slice_cmp nat_cmp) q (map (pair_at ps ns) is) ≡ Some x → (j : ℕ) × IsIn j is × (listed ps j ≡ q) × (number_at ns j ≡ x))
+          → (j : ℕ) × IsIn j (i ∷ is) × (listed ps j ≡ q) × (number_at ns j ≡ x)
       go true same h rest = (i, inl refl, sym (same_path q (listed ps i) same), same_Some (number_at ns i) x h)
       go false same h rest = let w = rest h in (w.0, inr w.1, w.2, w.3)
 
-  pairs_have : (q : List ℕ) (i : ℕ) (is : List ℕ) → Among i is → listed ps i ≡ q → find (slice_cmp nat_cmp) q (map (pair_at ps ns) is) ≡ None → ⊥
+  pairs_have : (q : List ℕ) (i : ℕ) (is : List ℕ) → IsIn i is → listed ps i ≡ q → find (slice_cmp nat_cmp) q (map (pair_at ps ns) is) ≡ None → ⊥
   pairs_have q i [] among here h = absurd among
   pairs_have q i (j ∷ is) (inl same) here h =
       none-some (number_at ns j) (sym h ∙ ap (λ b. cond b (Some (number_at ns j)) (find (slice_cmp nat_cmp) q (map (pair_at ps ns) is)))
@@ -168,14 +169,14 @@ module _ (links : List Link) (depths : List ℕ) (next : ℕ → List (ℕ × �
       (complete (length links) (listed (paths_of links)) (kids next) tree (suc w.0) (omega arith) (omega (arith, w.1, as_many))) w.2 k)
   found_same q None (Some y) h k =
       let w = pairs_found (paths_of links) counts q y (behind (kids next) (length links)) k in
-      let u = all_at (λ c. (0 < c) × (c ≤ length links)) (behind (kids next) (length links)) w.0 (behind_within (length links) (listed (paths_of links)) (kids next) tree) w.1 in
+      let u = each_in (λ c. (0 < c) × (c ≤ length links)) (behind (kids next) (length links)) w.0 w.1 (behind_within (length links) (listed (paths_of links)) (kids next) tree) in
       let e : w.0 ≡ suc (w.0 - 1) = omega (arith, u.0) in
       absurd (tallied_has q (paths_of links) counts (w.0 - 1) same_length (omega (arith, u.0, u.1, as_many))
       (ap (listed (paths_of links)) (sym e) ∙ w.2) h)
   found_same q (Some x) (Some y) h k =
       let v = tallied_found q x (paths_of links) counts h in
       let w = pairs_found (paths_of links) counts q y (behind (kids next) (length links)) k in
-      let u = all_at (λ c. (0 < c) × (c ≤ length links)) (behind (kids next) (length links)) w.0 (behind_within (length links) (listed (paths_of links)) (kids next) tree) w.1 in
+      let u = each_in (λ c. (0 < c) × (c ≤ length links)) (behind (kids next) (length links)) w.0 w.1 (behind_within (length links) (listed (paths_of links)) (kids next) tree) in
       let e : w.0 ≡ suc v.0 = paths_differ links depths next table w.0 (suc v.0) u.1 (omega (arith, v.1, as_many)) (w.2 ∙ sym v.2) in
       ap Some (sym v.3 ∙ (ap (number_at counts) (sym e) ∙ w.3))
 

@@ -11,9 +11,10 @@ use Rattle.std.proofs.lemmas.Cmp.{nat_cmp_total, tied_itself}
 use Rattle.std.proofs.lemmas.Map.Lookups.{exact_unsigned}
 use Rattle.std.proofs.lemmas.Option.{same_Some}
 use Rattle.std.proofs.lemmas.Bool.Decides.{nat_tests}
+use Rattle.module_ast.proofs.Indexed.{IsIn, all_in}
 use Rattle.call_tree.specs.Table.{Link, link, link_at, listed, paths_of, kids, IsNodeTable, IsChildBy}
 use Rattle.call_tree.proofs.PathOrder.{StandsApart, forks_apart}
-use Rattle.call_tree.proofs.Preorder.{Among, all_from, AreApart, IsTree}
+use Rattle.call_tree.proofs.Preorder.{AreApart, IsTree}
 use Rattle.call_tree.proofs.Grown.{listed_step}
 
 -- ---- entries by function
@@ -50,12 +51,12 @@ lists_lookup f c (e ∷ es) sorted (inr h) =
 
 -- ---- the places of entries
 
-value_listed : (c : ℕ) (es : List (ℕ × ℕ)) → Among c (values_of es) → (f : ℕ) × Lists f c es
+value_listed : (c : ℕ) (es : List (ℕ × ℕ)) → IsIn c (values_of es) → (f : ℕ) × Lists f c es
 value_listed c [] h = absurd h
 value_listed c (e ∷ es) (inl h) = (e.0, inl (ap (λ (b : ℕ). (e.0, b)) (sym h)))
 value_listed c (e ∷ es) (inr h) = let w = value_listed c es h in (w.0, inr w.1)
 
-listed_value : (f c : ℕ) (es : List (ℕ × ℕ)) → Lists f c es → Among c (values_of es)
+listed_value : (f c : ℕ) (es : List (ℕ × ℕ)) → Lists f c es → IsIn c (values_of es)
 listed_value f c [] h = absurd h
 listed_value f c (e ∷ es) (inl h) = inl (sym (ap (λ (x : ℕ × ℕ). x.1) h))
 listed_value f c (e ∷ es) (inr h) = inr (listed_value f c es h)
@@ -69,7 +70,7 @@ values_apart : (path : ℕ → List ℕ) (from : List ℕ) (es : List (ℕ × �
 unfolding IsStrictlySortedBy
 values_apart path from [] sorted known = tt
 values_apart path from (e ∷ es) sorted known = (
-  all_from (λ d. StandsApart (path e.1) (path d)) (values_of es)
+  all_in (λ d. StandsApart (path e.1) (path d)) (values_of es)
       (λ d among.
       let w = value_listed d es among in
       let less : nat_cmp e.0 w.0 ≡ Less = key_at (λ q. nat_cmp e.0 q ≡ Less) es w.0 d sorted.0 w.1 in

@@ -46,6 +46,7 @@ impl Pool {
 
     /// Temporaries of these types: the first i32 is temporary `skip` of its type, the first i64 temporary 0. An
     /// `AllocError` if memory runs out.
+    #[tactic(auto, using(std::proofs::lemmas::Grind::common_steps))]
     pub fn temps(
         &self,
         alloc: Global,

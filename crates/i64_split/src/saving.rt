@@ -90,6 +90,7 @@ fn push_sets_of(
 }
 
 // Appends code that pushes temporaries of these types, as `push_gets` does.
+#[tactic(auto, using(std::proofs::lemmas::Grind::common_steps))]
 fn push_gets_of(
     code: &mut Vec<Instr>,
     pool: &Pool,

@@ -21,15 +21,15 @@ lies_moved f fr below k h = record { values = h.values; spots = ap (moved_spots 
 
 -- ---- labels
 
-counted : (low : ℕ) (ls : List Label) → length (spots_of low ls) ≡ length ls
-counted low [] = refl
-counted low (l ∷ ls) = omega (arith, counted low ls)
+pub spots_count : (low : ℕ) (ls : List Label) → length (spots_of low ls) ≡ length ls
+spots_count low [] = refl
+spots_count low (l ∷ ls) = omega (arith, spots_count low ls)
 
 -- the innermost frame has its own and those inside
 pub labels_are : (f : Flat) (fr : Frame) (below : List Frame) → Lies f (fr ∷ below) → length f.spots - (first_base f.bases).labels ≡ length fr.outer + 1
 labels_are f fr below lies =
     let spots : length f.spots ≡ length (fr.top ∷ fr.outer) + length (all_spots below) =
-    ap length lies.spots ∙ length-append (spots_of (low_of fr below) (fr.top ∷ fr.outer)) (all_spots below) ∙ ap (λ n. n + length (all_spots below)) (counted (low_of fr below) (fr.top ∷ fr.outer)) in
+    ap length lies.spots ∙ length-append (spots_of (low_of fr below) (fr.top ∷ fr.outer)) (all_spots below) ∙ ap (λ n. n + length (all_spots below)) (spots_count (low_of fr below) (fr.top ∷ fr.outer)) in
     omega (arith, spots, ap (λ bs. (first_base bs).labels) lies.bases)
 
 -- ---- locals

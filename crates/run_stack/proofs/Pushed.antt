@@ -9,10 +9,6 @@ pub push_length : (vs xs : List Value) → length (push vs xs) ≡ length vs + l
 push_length [] xs = omega arith
 push_length (v ∷ vs) xs = let h = push_length vs (v ∷ xs) in omega (arith, h)
 
-pub push_append : (vs xs ys : List Value) → push vs xs ++ ys ≡ push vs (xs ++ ys)
-push_append [] xs ys = refl
-push_append (v ∷ vs) xs ys = push_append vs (v ∷ xs) ys
-
 -- they stand in turn, the last on top
 pub push_reversed : (vs xs : List Value) → push vs xs ≡ reverse vs ++ xs
 push_reversed [] xs = refl
@@ -23,7 +19,3 @@ push_reversed (v ∷ vs) xs =
 pub pushed_same : (vs us : List Value) → push vs [] ≡ push us [] → vs ≡ us
 pushed_same vs us h =
     sym (reverse-reverse vs) ∙ ap reverse (sym (append-nil (reverse vs)) ∙ sym (push_reversed vs []) ∙ h ∙ push_reversed us [] ∙ append-nil (reverse us)) ∙ reverse-reverse us
-
-pub push_more : (vs : List Value) (v : Value) (xs : List Value) → push (vs ++ v ∷ []) xs ≡ v ∷ push vs xs
-push_more [] v xs = refl
-push_more (w ∷ vs) v xs = push_more vs v (w ∷ xs)

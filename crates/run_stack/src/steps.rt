@@ -125,6 +125,7 @@ fn instruction<'m>(
 
 /// Makes the next step of the innermost frame, if that is no call: an instruction, or the end of a sequence. Takes
 /// memory only at a `memory.grow`; after an `Err` all is as before. (Standard, 4.4)
+#[tactic(auto, using(std::proofs::lemmas::Grind::common_steps))]
 #[inline(always)]
 pub fn advance(
     stack: &mut Stack,

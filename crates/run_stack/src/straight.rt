@@ -15,6 +15,7 @@ use wasm_num::{NumOp, NumTrap, Value, binary, unary};
 use wasm_sem::Trap;
 
 // `drop` and variables. (Standard, 4.4.2, 4.4.3)
+#[tactic(auto, using(std::proofs::lemmas::Grind::common_steps))]
 #[inline(always)]
 fn variable(stack: &mut Stack, globals: &mut Globals, instr: &Instr)
     requires kind { IsVariable instr.now }
@@ -54,6 +55,7 @@ fn variable(stack: &mut Stack, globals: &mut Globals, instr: &Instr)
 }
 
 // Loads, stores, and the size of the memory. Only `memory.grow` takes memory. (Standard, 4.4.4)
+#[tactic(auto, using(std::proofs::lemmas::Grind::common_steps))]
 #[inline(always)]
 fn access(stack: &mut Stack, memory: &mut Memory, instr: &Instr) -> Result<Option<Trap>, AllocError>
     requires kind { IsAccess instr.now }
@@ -128,6 +130,7 @@ fn is_unary(op: NumOp) -> bool
 }
 
 // A number instruction. (Standard, 4.4.1)
+#[tactic(auto, using(std::proofs::lemmas::Grind::common_steps))]
 #[inline(always)]
 fn number_op(stack: &mut Stack, op: NumOp) -> Option<Trap>
     requires before { (m : Held) × (g : List number) × (x : Moment) × IsMomentBefore stack.old m g (Instr.Num op) x }

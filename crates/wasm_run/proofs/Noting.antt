@@ -4,12 +4,12 @@ use Rattle.std.specs.Borrow.{Bor}
 use Rattle.wasm_sem.specs.Types.{Value, FuncType, Module, Event, GroupName}
 use Rattle.module_ast.specs.Lists.{when}
 use Rattle.module_ast.specs.Places.{function_scope}
-use Rattle.module_ast.specs.Structure.{is_start, Tree, code_of}
+use Rattle.module_ast.specs.Structure.{is_start, Tree}
 use Rattle.hook_select.specs.Events.{group_of}
 use Rattle.run_store.specs.Held.{Held}
 use Rattle.wasm_sem.specs.declared.HostAnswer.{HostAnswer}
 use Rattle.wasm_sem.specs.declared.Script.{Script}
-use Rattle.wasm_sem.specs.Execution.{TraceItem, entry, event, host_call, host_item, Callee, host, callee_type, Instance, instance, Frame, Env, Configuration, configuration, Next, run_of, values_of, answer_at, writes_done, told_invoke, told_popped, told_items, items_by, items, has_group}
+use Rattle.wasm_sem.specs.Execution.{TraceItem, entry, event, host_call, host_item, Callee, host, callee_type, Instance, instance, Frame, Env, Configuration, configuration, Next, run_of, values_of, answer_at, writes_done, told_invoke, told_items, items_by, items, has_group}
 use Rattle.wasm_sem.specs.Rules.{next_answer, answered_values}
 use Rattle.wasm_sem.proofs.Rules.{AreEvents, no_more, an_event, only_quiet, quiet_events, post_events, jump_events, begin_events, Invokes, begins, too_deep, replies, hears, StepRule, computes, halts, jumps, stays, calls, misses, opens, skips, falls, finishes, enters, rests, lacks, rule_of}
 use Rattle.wasm_run.specs.declared.note.Entry.{Entry}
@@ -27,7 +27,7 @@ use Rattle.run_stack.specs.Flat.{Flat}
 use Rattle.wasm_run.specs.Moves.{env_beside}
 use Rattle.wasm_run.specs.Noting.{host_items, noted_items, outside_items, last_outside, next_outside}
 use Rattle.run_stack.specs.Slots.{index_count}
-use Rattle.wasm_run.specs.Reaching.{Reaches, IsInvocation, IsTarget}
+use Rattle.wasm_run.specs.Reaching.{Reaches, IsTarget}
 use Rattle.wasm_run.specs.Running.{Run, configuration_of, KeepsConfiguration, IsRunning}
 use Rattle.wasm_run.proofs.Hooks.{nothing_told, told_with}
 

@@ -21,6 +21,7 @@ use Rattle.run_stack.specs.Flat.{Flat, PutsFrame}
 use Rattle.run_stack.specs.Kept.{ops_of, spots_of, all_values, low_of, all_spots, Lies}
 use Rattle.run_stack.specs.Comes.{IsUnstuck}
 use Rattle.run_stack.specs.Standing.{HasRoomFor, HasStepRoom, IsStanding, KeepsStore}
+use Rattle.run_stack.proofs.Lying.{spots_count}
 use Rattle.wasm_run.specs.Rooms.{HasOwnRoom, HaveRoom}
 
 -- ---- counts
@@ -28,10 +29,6 @@ use Rattle.wasm_run.specs.Rooms.{HasOwnRoom, HaveRoom}
 ops_count : (ls : List Label) → length (ops_of ls) ≡ operands_on ls
 ops_count [] = refl
 ops_count (l ∷ ls) = length-append l.ops (ops_of ls) ∙ ap (λ n. length l.ops + n) (ops_count ls)
-
-spots_count : (low : ℕ) (ls : List Label) → length (spots_of low ls) ≡ length ls
-spots_count low [] = refl
-spots_count low (l ∷ ls) = let h = spots_count low ls in omega (arith, h)
 
 -- how many values and labels frames have
 values_count : (fr : Frame) (below : List Frame) → length (all_values (fr ∷ below)) ≡ operands_on (fr.top ∷ fr.outer) + length fr.locals + length (all_values below)

@@ -1,5 +1,6 @@
 -- Where a call leads: the function of a direct call, the slot of one through the table, and what is told of a call of a hook.
-use Rattle.std.proofs.Common.{inl, ◌≡◌, ◌≢◌, ℕ, ◌-◌, ◌<◌, ◌≤◌, List, [], ◌∷◌, ◌++◌, length, take, drop, slice_index_or, Option, Some, None, Bool, true, false, cond, ◌&&◌, refl, sym, ap, ap₂, subst, ◌∙◌, arith, slice_get}
+use Rattle.std.proofs.Common.{inl, ◌≡◌, ◌≢◌, ℕ, ◌-◌, ◌<◌, ◌≤◌, List, [], ◌∷◌, ◌++◌, length, take, drop, slice_index_or, Option, Some, None, true, false, cond, refl, sym, ap, ap₂, subst, ◌∙◌, arith, slice_get}
+use Rattle.std.proofs.lemmas.Bool.{and_parts}
 use Rattle.std.proofs.lemmas.Option.{slice_get_within, same_Some}
 use Rattle.wasm_sem.specs.Types.{ValType, Value, FuncType, Module, Instr}
 use Rattle.wasm_num.specs.declared.Value.TheVariants.{I32, I64}
@@ -22,19 +23,15 @@ use Rattle.run_stack.specs.Standing.{IsCall}
 
 -- ---- the same types
 
-and_true : (a b : Bool) → (a && b) ≡ true → (a ≡ true) × (b ≡ true)
-and_true true b h = (refl, h)
-and_true false b h = absurd cc
-
 same_length : (ts us : List ValType) → have_same_types ts us ≡ true → length ts ≡ length us
 same_length [] [] h = refl
 same_length [] (u ∷ us) h = absurd cc
 same_length (t ∷ ts) [] h = absurd cc
-same_length (t ∷ ts) (u ∷ us) h = let n = same_length ts us (and_true (same_type t u) (have_same_types ts us) h).1 in omega (arith, n)
+same_length (t ∷ ts) (u ∷ us) h = let n = same_length ts us (and_parts (same_type t u) (have_same_types ts us) h).1 in omega (arith, n)
 
 -- so are their parameters
 pub same_params : (a b : FuncType) → same_func_type a b ≡ true → length a.params ≡ length b.params
-same_params a b h = same_length a.params b.params (and_true (have_same_types a.params b.params) (have_same_types a.results b.results) h).0
+same_params a b h = same_length a.params b.params (and_parts (have_same_types a.params b.params) (have_same_types a.results b.results) h).0
 
 -- ---- instructions that are no calls
 

@@ -1,5 +1,4 @@
 use Rattle.std.proofs.Common.{[], ◌∷◌, ◌++◌, arith, ap, ◌∙◌}
-use Rattle.std.proofs.lemmas.Grind.{common_steps}
 use Rattle.wasm_num.specs.declared.ValType.TheVariants.{I32}
 use Rattle.module_ast.specs.declared.code.Instr.TheVariants.{LocalGet}
 use Rattle.i64_split.proofs.Adding.{on_next}
@@ -33,21 +32,3 @@ loop-ty-preserved c = elim c.match-ty.branch [
         longs = omega arith;
       })
 ]
-
-pub returns-clause-added : goal.returns-clause-added
-returns-clause-added c = grind (arith, common_steps)
-
-pub returns-clause-prefix : goal.returns-clause-prefix
-returns-clause-prefix c = grind (arith, common_steps)
-
-pub local-requires : goal.local-requires
-local-requires c = grind (arith, common_steps)
-
-pub overflow_add-ints : goal.overflow_add-ints
-overflow_add-ints c = grind (arith, common_steps)
-
-pub local-requires-in-I64 : goal.local-requires-in-I64
-local-requires-in-I64 c = grind (arith, common_steps)
-
-pub overflow_add-longs : goal.overflow_add-longs
-overflow_add-longs c = grind (arith, common_steps)

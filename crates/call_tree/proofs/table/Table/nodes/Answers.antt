@@ -2,11 +2,12 @@ use Rattle.std.proofs.Common.{◌≡◌, ◌≢◌, ◌<◌, ◌≤◌, ℕ, zer
 use Rattle.std.specs.List.{flat_map}
 use Rattle.std.specs.Map.{values_of}
 use Rattle.std.proofs.lemmas.List.{append-nil, length-map, length-append, nil_from_length}
+use Rattle.module_ast.proofs.Indexed.{IsIn}
 use Rattle.call_tree.specs.declared.Node.{Node}
 use Rattle.call_tree.specs.declared.table.Place.{Place}
 use Rattle.call_tree.specs.Counts.{nodes_of, path_counts}
 use Rattle.call_tree.specs.Table.{kids, links_of, depths_of, counts_at, nexts_of, listed, paths_of, IsNodeTable}
-use Rattle.call_tree.proofs.Preorder.{below, behind, step, IsTree, Among}
+use Rattle.call_tree.proofs.Preorder.{below, behind, step, IsTree}
 use Rattle.call_tree.proofs.Trees.{table_tree}
 use Rattle.call_tree.proofs.Tallies.{node_at, nodes_in_order}
 use Rattle.call_tree.proofs.Held.{node_held, next_held, links_sized, counts_sized}
@@ -17,7 +18,7 @@ use Rattle.call_tree.proofs.table.Table.nodes.Goals.{In-Some}
 abbrev IsPlace : (n : ℕ) → ℕ → Type 0
 IsPlace n p = (0 < p) × (p ≤ n)
 
-kids_are_places : (n : ℕ) (path : ℕ → List ℕ) (tree : ℕ → List ℕ) → IsTree n path tree → (p i : ℕ) → Among i (tree p) → IsPlace n i
+kids_are_places : (n : ℕ) (path : ℕ → List ℕ) (tree : ℕ → List ℕ) → IsTree n path tree → (p i : ℕ) → IsIn i (tree p) → IsPlace n i
 kids_are_places n path tree is p i h = let u = is.up p i h in (omega (arith, u.0), u.1)
 
 abbrev many : List Place → ℕ

@@ -3,8 +3,8 @@ use Rattle.std.specs.Prelude.{reverse}
 use Rattle.std.proofs.lemmas.List.{length-reverse, take_more, reverse-append}
 use Rattle.wasm_sem.specs.Types.{Value}
 use Rattle.module_ast.specs.Validation.{push}
+use Rattle.module_ast.proofs.Behind.{push_both}
 use Rattle.run_stack.specs.Flat.{Flat}
-use Rattle.run_stack.proofs.Pushed.{push_more}
 use Rattle.ctrl_stack.proofs.Lists.{reverse-take}
 use Rattle.run_stack.proofs.stack.Stack.values_below.Goals as goal
 
@@ -18,7 +18,7 @@ loop-place-preserved c =
     let within : p < length xs = omega (arith, c.loop-place-test.true, c.len.ensures, c.self.inside.values.ok.0) in
     record {
       told = ap reverse (take_more xs p v within ∙ ap (λ (w : Value). take p xs ++ w ∷ []) (sym c.index.ensures)) ∙ reverse-append (take p xs) (v ∷ [])
-          ∙ ap (λ (ys : List Value). v ∷ ys) c.loop-place.invariant.told ∙ sym (push_more c.loop-place.below v low) ∙ ap (λ (vs : List Value). push vs low) (sym more);
+          ∙ ap (λ (ys : List Value). v ∷ ys) c.loop-place.invariant.told ∙ sym (push_both c.loop-place.below (v ∷ []) low) ∙ ap (λ (vs : List Value). push vs low) (sym more);
       size = omega (arith, ap length more, length-append c.loop-place.below (v ∷ []), c.loop-place.invariant.size);
     }
 
