@@ -3,10 +3,10 @@ use Rattle.std.proofs.Common.{◌≡◌, ℕ, ◌+◌, List, [], ◌∷◌, Bool
 use Rattle.std.specs.List.{position_from, cons_option}
 use Rattle.std.proofs.lemmas.Iterator.Adapters.{position_from-zero}
 use Rattle.hook_select.specs.declared.GroupName.{GroupName}
-use Rattle.hook_select.specs.declared.GroupName.TheVariants as groups
 use Rattle.hook_select.specs.declared.Hooks.{Hooks}
 use Rattle.hook_select.specs.Groups.{ListReading, has, hooks_of, group_eq, is_among, group_named, groups_named, reading_of, list_pieces, with_group}
 use Rattle.hook_select.specs.Groups.ListReading.{reads, unknown}
+use Rattle.hook_select.proofs.Sets.{hooks_alike, has_test}
 
 abbrev pub read_next : (place : ℕ) → Option GroupName → (GroupName → ListReading) → ListReading
 read_next place None later = unknown place
@@ -16,13 +16,6 @@ read_next place (Some g) later = later g
 abbrev pub rest_reads : (place : ℕ) → Hooks → List (List ℕ) → ListReading
 rest_reads place hooks [] = reads hooks
 rest_reads place hooks (name ∷ names) = read_next place (group_named name) (λ g. rest_reads (place + 1) (with_group hooks g) names)
-
-hooks_alike : (a b : GroupName → Bool) → ((g : GroupName) → a g ≡ b g) → hooks_of a ≡ hooks_of b
-hooks_alike a b same = λ i. hooks_of (λ g. same g i)
-
-has_test : (test : GroupName → Bool) (g : GroupName) → has (hooks_of test) g ≡ test g
-has_test test groups.Start = refl
-has_test test g = refl
 
 -- the first place that is unknown, else the set
 ends : Option ℕ → Hooks → ListReading

@@ -4,7 +4,8 @@
 pub mod laws;
 mod read;
 
-ghost use Rattle.std.specs.Prelude.{◌≡◌, true, false};
+ghost use Rattle.std.specs.Prelude.{◌≡◌, ◌↔◌, true, false, All, IsTrue};
+ghost use Rattle.hook_select.specs.Groups.{has};
 
 pub use crate::read::{UnknownGroup, group_named, read_list};
 use module_ast::module::Loc;
@@ -79,6 +80,52 @@ macro_rules! set_flag {
     (($hooks:ident, $it:expr) $($group:ident $flag:ident $name:literal)*) => {
         match $it {
             $(GroupName::$group => $hooks.$flag = true,)*
+        }
+    };
+}
+
+/// Passes to the macro `$to` what it is given here, and then each event with its number, its fields in order, and its group if it
+/// has one.
+#[macro_export]
+macro_rules! each_event {
+    ($to:ident($($given:tt)*)) => {
+        $to! {
+            ($($given)*)
+            1 Start(loc) Start
+            2 Nop(loc) Nop
+            3 Unreachable(loc) Unreachable
+            4 If(loc, cond) If
+            5 Br(loc, label, target) Br
+            6 BrIf(loc, label, target, cond) BrIf
+            7 BrTable(loc, index, label, target) BrTable
+            8 Begin(loc, kind) Begin
+            9 End(loc, kind, begin) End
+            10 Const(loc, value) Const
+            11 Unary(loc, op, a, result) Unary
+            12 Binary(loc, op, a, b, result) Binary
+            13 Drop(loc, value) Drop
+            14 Select(loc, first, second, cond) Select
+            15 Local(loc, op, index, value) Local
+            16 Global(loc, op, index, value) Global
+            17 Load(loc, op, offset, address, value) Load
+            18 Store(loc, op, offset, address, value) Store
+            19 MemorySize(loc, pages) MemorySize
+            20 MemoryGrow(loc, by, previous) MemoryGrow
+            21 CallPre(loc, callee, args) Call
+            22 IndirectPre(loc, ty, slot, callee, args) Call
+            23 CallPost(loc, results) Call
+            24 Return(loc, results) Return
+            25 Stray(hook)
+        }
+    };
+}
+
+// The group of an event.
+macro_rules! group_of {
+    (($it:expr) $($number:literal $event:ident($($field:ident),*) $($group:ident)?)*) => {
+        match $it {
+            $($(Event::$event { .. } => Some(GroupName::$group),)?)*
+            Event::Stray { .. } => None,
         }
     };
 }
@@ -308,7 +355,7 @@ pub struct Hooks {
 }
 
 impl Hooks {
-    ghost use Rattle.hook_select.specs.Groups.{has, hooks_of, with_group};
+    ghost use Rattle.hook_select.specs.Groups.{hooks_of, with_group};
 
     // Every group, or none.
     const fn each(is_in: bool) -> Hooks
@@ -338,6 +385,13 @@ impl Hooks {
         each_group!(flag_of(self, group))
     }
 
+    /// Whether no group is in the set.
+    pub fn is_empty(&self) -> bool
+        ensures { IsTrue result ↔ (self.now ≡ hooks_of (λ g. false)) }
+    {
+        has_none(self, &GroupName::ALL)
+    }
+
     /// The set with this group in addition.
     pub fn with(self, group: GroupName) -> Hooks
         ensures { result ≡ with_group self group }
@@ -348,6 +402,13 @@ impl Hooks {
     }
 }
 
+// Whether the set has none of these groups.
+fn has_none(hooks: &Hooks, groups: &[GroupName]) -> bool
+    ensures { IsTrue result ↔ All (λ g. has hooks.now g ≡ false) groups.now }
+{
+    groups.iter().all(|group| !hooks.has(*group))
+}
+
 impl Event {
     ghost use Rattle.hook_select.specs.Events.{group_of};
 
@@ -355,32 +416,6 @@ impl Event {
     pub fn group(&self) -> Option<GroupName>
         ensures { result ≡ group_of self.now }
     {
-        match self {
-            Event::Start { .. } => Some(GroupName::Start),
-            Event::Nop { .. } => Some(GroupName::Nop),
-            Event::Unreachable { .. } => Some(GroupName::Unreachable),
-            Event::If { .. } => Some(GroupName::If),
-            Event::Br { .. } => Some(GroupName::Br),
-            Event::BrIf { .. } => Some(GroupName::BrIf),
-            Event::BrTable { .. } => Some(GroupName::BrTable),
-            Event::Begin { .. } => Some(GroupName::Begin),
-            Event::End { .. } => Some(GroupName::End),
-            Event::Const { .. } => Some(GroupName::Const),
-            Event::Unary { .. } => Some(GroupName::Unary),
-            Event::Binary { .. } => Some(GroupName::Binary),
-            Event::Drop { .. } => Some(GroupName::Drop),
-            Event::Select { .. } => Some(GroupName::Select),
-            Event::Local { .. } => Some(GroupName::Local),
-            Event::Global { .. } => Some(GroupName::Global),
-            Event::Load { .. } => Some(GroupName::Load),
-            Event::Store { .. } => Some(GroupName::Store),
-            Event::MemorySize { .. } => Some(GroupName::MemorySize),
-            Event::MemoryGrow { .. } => Some(GroupName::MemoryGrow),
-            Event::CallPre { .. } => Some(GroupName::Call),
-            Event::IndirectPre { .. } => Some(GroupName::Call),
-            Event::CallPost { .. } => Some(GroupName::Call),
-            Event::Return { .. } => Some(GroupName::Return),
-            Event::Stray { .. } => None,
-        }
+        each_event!(group_of(self))
     }
 }

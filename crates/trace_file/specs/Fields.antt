@@ -6,46 +6,13 @@ use Rattle.leb_binary.specs.Leb.{IsInSize}
 use Rattle.leb_binary.specs.Shortest.{unsigned_bytes, signed_bytes}
 use Rattle.wasm_num.specs.declared.Value.{Value}
 use Rattle.wasm_num.specs.declared.Value.TheVariants.{I32, I64}
-use Rattle.wasm_num.specs.declared.BlockKind.{BlockKind}
-use Rattle.wasm_num.specs.declared.NumOp.{NumOp}
 use Rattle.module_ast.specs.declared.module.Loc.{Loc}
 use Rattle.module_ast.specs.declared.ops.VarOp.{VarOp}
 use Rattle.module_ast.specs.declared.ops.VarOp.TheVariants.{Get, Set, Tee}
-use Rattle.module_ast.specs.declared.ops.LoadOp.{LoadOp}
-use Rattle.module_ast.specs.declared.ops.StoreOp.{StoreOp}
 use Rattle.wasm_num.specs.Opcodes.{num_opcode}
 use Rattle.module_ast.specs.Binary.{load_opcode, store_opcode}
 use Rattle.wasm_num.specs.Kinds.{kind_number}
-
--- what a field contains
-pub data FieldType : Type 0 where
-  place : FieldType
-  number : FieldType
-  signed : FieldType
-  value : FieldType
-  block_kind : FieldType
-  var_op : FieldType
-  num_op : FieldType
-  load_op : FieldType
-  store_op : FieldType
-  callee : FieldType
-  values : FieldType
-
-abbrev pub FieldOf : FieldType → Type 0
-FieldOf place = Loc
-FieldOf number = ℕ
-FieldOf signed = ℤ
-FieldOf value = Value
-FieldOf block_kind = BlockKind
-FieldOf var_op = VarOp
-FieldOf num_op = NumOp
-FieldOf load_op = LoadOp
-FieldOf store_op = StoreOp
-FieldOf callee = Option ℕ
-FieldOf values = List Value
-
-abbrev pub Field : Type 0
-Field = (t : FieldType) × FieldOf t
+use Rattle.hook_select.specs.Fields.{FieldType, place, number, signed, value, block_kind, var_op, num_op, load_op, store_op, callee, values, FieldOf, Fields}
 
 -- a function, and a position in it
 abbrev pub place_bytes : Loc → List ℕ
@@ -78,18 +45,23 @@ callee_bytes (Some n) = 0x01 ∷ unsigned_bytes n
 abbrev pub values_bytes : List Value → List ℕ
 values_bytes vs = unsigned_bytes (length vs) ++ flat_map value_bytes vs
 
-abbrev pub field_bytes : Field → List ℕ
-field_bytes (place, loc) = place_bytes loc
-field_bytes (number, n) = unsigned_bytes n
-field_bytes (signed, z) = signed_bytes z
-field_bytes (value, v) = value_bytes v
-field_bytes (block_kind, k) = kind_number k ∷ []
-field_bytes (var_op, op) = var_number op ∷ []
-field_bytes (num_op, op) = num_opcode op ∷ []
-field_bytes (load_op, op) = load_opcode op ∷ []
-field_bytes (store_op, op) = store_opcode op ∷ []
-field_bytes (callee, c) = callee_bytes c
-field_bytes (values, vs) = values_bytes vs
+abbrev pub field_bytes : (t : FieldType) → FieldOf t → List ℕ
+field_bytes place loc = place_bytes loc
+field_bytes number n = unsigned_bytes n
+field_bytes signed z = signed_bytes z
+field_bytes value v = value_bytes v
+field_bytes block_kind k = kind_number k ∷ []
+field_bytes var_op op = var_number op ∷ []
+field_bytes num_op op = num_opcode op ∷ []
+field_bytes load_op op = load_opcode op ∷ []
+field_bytes store_op op = store_opcode op ∷ []
+field_bytes callee c = callee_bytes c
+field_bytes values vs = values_bytes vs
+
+-- the bytes of fields of these types, one after the other
+abbrev pub bytes_of : (ts : List FieldType) → Fields ts → List ℕ
+bytes_of [] fields = []
+bytes_of (t ∷ ts) fields = field_bytes t fields.0 ++ bytes_of ts fields.1
 
 -- Fields that fit: their numbers are of their sizes.
 abbrev pub FitsNumber : ℕ → Type 0
@@ -112,11 +84,15 @@ FitsCallee (Some n) = FitsNumber n
 abbrev pub FitValues : List Value → Type 0
 FitValues vs = FitsNumber (length vs) × AllByRecursion FitsValue vs
 
-abbrev pub FitsField : Field → Type 0
-FitsField (place, loc) = FitsLocation loc
-FitsField (number, n) = FitsNumber n
-FitsField (signed, z) = FitsSigned z
-FitsField (value, v) = FitsValue v
-FitsField (callee, c) = FitsCallee c
-FitsField (values, vs) = FitValues vs
-FitsField _ = Unit {0}
+abbrev pub FitsField : (t : FieldType) → FieldOf t → Type 0
+FitsField place loc = FitsLocation loc
+FitsField number n = FitsNumber n
+FitsField signed z = FitsSigned z
+FitsField value v = FitsValue v
+FitsField callee c = FitsCallee c
+FitsField values vs = FitValues vs
+FitsField _ x = Unit {0}
+
+abbrev pub FitFields : (ts : List FieldType) → Fields ts → Type 0
+FitFields [] fields = Unit {0}
+FitFields (t ∷ ts) fields = FitsField t fields.0 × FitFields ts fields.1

@@ -1,48 +1,16 @@
 // Writes and reads events: each is its tag and then its fields.
 
-ghost use Rattle.std.specs.Prelude.{◌≡◌, ◌≤◌, ◌^◌, length, ◌∷◌, ◌++◌, IfOk, IfErr, OnOk};
+ghost use Rattle.std.specs.Prelude.{◌≡◌, ◌≤◌, ◌^◌, ℕ, List, length, ◌∷◌, ◌++◌, IfOk, IfErr, OnOk};
+ghost use Rattle.hook_select.specs.Events.{types_at};
 ghost use Rattle.trace_file.specs.Begins.{BeginsWithSpelling, NoneBegins};
+ghost use Rattle.trace_file.specs.Fields.{bytes_of, FitFields};
 ghost use Rattle.trace_file.specs.Rows.{fields_bytes, event_bytes, FitsEvent, FitsTag};
 
 use crate::field::{ReadTraceFault, Take};
 use crate::put::{Put, TraceFault, put_byte};
-use hook_select::Event;
+use hook_select::{Event, each_event};
 use leb_binary::Cursor;
 use std::alloc::Global;
-
-// Gives the macro `$to` the arguments in parentheses, and after them each event with its tag and its fields in order.
-macro_rules! each_event {
-    ($to:ident($($given:ident),*)) => {
-        $to! {
-            $($given)*
-            1 Start(loc)
-            2 Nop(loc)
-            3 Unreachable(loc)
-            4 If(loc, cond)
-            5 Br(loc, label, target)
-            6 BrIf(loc, label, target, cond)
-            7 BrTable(loc, index, label, target)
-            8 Begin(loc, kind)
-            9 End(loc, kind, begin)
-            10 Const(loc, value)
-            11 Unary(loc, op, a, result)
-            12 Binary(loc, op, a, b, result)
-            13 Drop(loc, value)
-            14 Select(loc, first, second, cond)
-            15 Local(loc, op, index, value)
-            16 Global(loc, op, index, value)
-            17 Load(loc, op, offset, address, value)
-            18 Store(loc, op, offset, address, value)
-            19 MemorySize(loc, pages)
-            20 MemoryGrow(loc, by, previous)
-            21 CallPre(loc, callee, args)
-            22 IndirectPre(loc, ty, slot, callee, args)
-            23 CallPost(loc, results)
-            24 Return(loc, results)
-            25 Stray(hook)
-        }
-    };
-}
 
 // Fields, one after another, as nested pairs.
 macro_rules! fields {
@@ -54,7 +22,7 @@ macro_rules! fields {
 
 // Appends the tag and the fields of the event.
 macro_rules! put_rows {
-    ($out:ident $event:ident $($tag:literal $name:ident($($field:ident),*))*) => {
+    (($out:ident, $event:ident) $($tag:literal $name:ident($($field:ident),*) $($group:ident)?)*) => {
         match $event {
             $(Event::$name { $($field),* } => put_row($out, $tag, fields!($($field),*)),)*
         }
@@ -63,10 +31,10 @@ macro_rules! put_rows {
 
 // Takes the fields of the event that has the tag. `NotTrace` if no event has it.
 macro_rules! take_rows {
-    ($alloc:ident $cursor:ident $found:ident $($tag:literal $name:ident($($field:ident),*))*) => {
+    (($alloc:ident, $cursor:ident, $found:ident) $($tag:literal $name:ident($($field:ident),*) $($group:ident)?)*) => {
         match $found {
             $($tag => {
-                let fields!($($field),*) = Take::take($alloc, $cursor)?;
+                let fields!($($field),*) = take_row($alloc, $cursor, $found, $tag)?;
                 Ok(Event::$name { $($field),* })
             })*
             _ => Err(ReadTraceFault::NotTrace),
@@ -91,6 +59,21 @@ pub(crate) fn put_event(out: &mut Vec<u8>, event: &Event) -> Result<(), TraceFau
     ensures large { IfErr result (λ fault. fault ≡ TraceFault.TooLarge → 2 ^ 32 ≤ length (fields_bytes event.now)) }
 {
     each_event!(put_rows(out, event))
+}
+
+// Takes fields of an event with this tag, which is this number. `NotTrace` only if no such event begins here.
+fn take_row<R: Take>(
+    alloc: Global,
+    cursor: &mut Cursor<'_>,
+    tag: u8,
+    number: u8,
+) -> Result<R, ReadTraceFault>
+    requires same { tag ≡ number }
+    requires row { (bytes : List ℕ) → NoneBegins R.fits R.spelling bytes → NoneBegins (FitFields (types_at number)) (bytes_of (types_at number)) bytes }
+    ensures taken { IfOk result (λ fields. BeginsWithSpelling R.fits R.spelling cursor.old.left cursor.new.left fields) }
+    ensures none { IfErr result (λ fault. fault ≡ ReadTraceFault.NotTrace → NoneBegins (FitsTag tag) fields_bytes cursor.old.left) }
+{
+    R::take(alloc, cursor)
 }
 
 // Takes the fields of an event with this tag. `NotTrace` only if no such event begins here.
