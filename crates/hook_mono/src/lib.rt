@@ -8,11 +8,14 @@ mod plain;
 mod read;
 mod table;
 mod types;
+mod words;
 
 pub use crate::names::{name_of, with_letters};
+pub use crate::plain::plain_event;
 pub use crate::read::{key_of, letter_types};
 pub use crate::table::HookTable;
 pub use crate::types::type_of;
+pub use crate::words::Words;
 use hook_select::GroupName;
 use module_ast::ops::{LoadOp, StoreOp, VarOp};
 use module_ast::seq::Seq;

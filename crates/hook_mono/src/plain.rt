@@ -1,47 +1,97 @@
 // Groups that are a key by themselves.
 
 ghost use Rattle.std.specs.Prelude.{◌≡◌, filter};
-ghost use Rattle.std.specs.Option.{option_map};
-ghost use Rattle.hook_mono.specs.Plains.{is_plain, plain_row};
+ghost use Rattle.std.specs.Option.{option_map, option_to_list};
+ghost use Rattle.hook_mono.specs.Plains.{is_plain, plain_event, plain_hook};
+ghost use Rattle.hook_mono.specs.Values.{values_from};
 ghost use Rattle.hook_mono.specs.Names.{plain_name};
 ghost use Rattle.hook_mono.specs.Words.{plain_values};
 ghost use Rattle.hook_mono.specs.Reading.{named};
 
-use hook_select::GroupName;
+use crate::words::Words;
+use hook_select::{Event, GroupName};
+use module_ast::module::Loc;
 use wasm_num::ValType;
 
-// The name of a hook, and the types of its values that follow the function and the position.
-type PlainRow = (&'static str, &'static [ValType]);
+// Passes to the macro `$to` what it is given here, and then each group that is a key by itself, with the name of its hook and
+// the fields of its event behind the location. Each field is a word of the call, read as a number or as a signed number.
+// br_table is not among them: its event does not follow from the words alone.
+macro_rules! each_plain {
+    ($to:ident($($given:ident),*)) => {
+        $to! {
+            ($($given),*)
+            Start "start" ()
+            Nop "nop" ()
+            Unreachable "unreachable" ()
+            If "if" (cond: number)
+            Br "br" (label: number, target: signed)
+            BrIf "br_if" (label: number, target: signed, cond: number)
+            MemorySize "memory.size" (pages: number)
+            MemoryGrow "memory.grow" (by: number, previous: number)
+        }
+    };
+}
 
-// The row of a group that is a key by itself; none for other groups.
-fn plain_row(group: GroupName) -> Option<PlainRow>
-    ensures { option_map (λ row. (row.0.now, row.1.now)) result ≡ plain_row group }
+// The type of a word, however it is read.
+macro_rules! word_type {
+    ($read:ident) => {
+        ValType::I32
+    };
+}
+
+// The hook of a group.
+macro_rules! hook_of {
+    (($group:ident) $($plain:ident $name:literal ($($field:ident: $read:ident),*))*) => {
+        match $group {
+            $(GroupName::$plain => Some(($name, &[$(word_type!($read)),*])),)*
+            GroupName::BrTable => Some(("br_table", &[ValType::I32])),
+            _ => None,
+        }
+    };
+}
+
+// The event of a group, from the words.
+macro_rules! event_of {
+    (($group:ident, $loc:ident, $words:ident) $($plain:ident $name:literal ($($field:ident: $read:ident),*))*) => {
+        match $group {
+            $(GroupName::$plain => {
+                $(let $field = $words.$read();)*
+                Some(Event::$plain { $loc, $($field),* })
+            })*
+            _ => None,
+        }
+    };
+}
+
+// The name of a hook, and the types of its values that follow the function and the position.
+type PlainHook = (&'static str, &'static [ValType]);
+
+// The hook of a group that is a key by itself; none for other groups.
+fn plain_hook(group: GroupName) -> Option<PlainHook>
+    ensures { option_map (λ row. (row.0.now, row.1.now)) result ≡ plain_hook group }
 {
-    match group {
-        GroupName::Start => Some(("start", &[])),
-        GroupName::Nop => Some(("nop", &[])),
-        GroupName::Unreachable => Some(("unreachable", &[])),
-        GroupName::If => Some(("if", &[ValType::I32])),
-        GroupName::Br => Some(("br", &[ValType::I32, ValType::I32])),
-        GroupName::BrIf => Some(("br_if", &[ValType::I32, ValType::I32, ValType::I32])),
-        GroupName::BrTable => Some(("br_table", &[ValType::I32])),
-        GroupName::MemorySize => Some(("memory.size", &[ValType::I32])),
-        GroupName::MemoryGrow => Some(("memory.grow", &[ValType::I32, ValType::I32])),
-        _ => None,
-    }
+    each_plain!(hook_of(group))
+}
+
+/// The event of a call of the hook of a plain group other than br_table, from the words behind the position; `None` for other
+/// groups.
+pub fn plain_event(group: GroupName, loc: Loc, words: &mut Words) -> Option<Event>
+    ensures { option_to_list result ≡ plain_event group loc (values_from (plain_values group) words.old) }
+{
+    each_plain!(event_of(group, loc, words))
 }
 
 fn is_plain(group: GroupName) -> bool
     ensures { result ≡ is_plain group }
 {
-    plain_row(group).is_some()
+    plain_hook(group).is_some()
 }
 
 // The name of the hook of a plain group; empty for other groups.
 pub(crate) fn plain_name(group: GroupName) -> &'static str
     ensures { result.now ≡ plain_name group }
 {
-    match plain_row(group) {
+    match plain_hook(group) {
         Some((name, _)) => name,
         None => "",
     }
@@ -51,7 +101,7 @@ pub(crate) fn plain_name(group: GroupName) -> &'static str
 pub(crate) fn plain_values(group: GroupName) -> &'static [ValType]
     ensures { result.now ≡ plain_values group }
 {
-    match plain_row(group) {
+    match plain_hook(group) {
         Some((_, values)) => values,
         None => &[],
     }

@@ -1,5 +1,5 @@
 use Rattle.std.proofs.Common.{rules}
-use Rattle.hook_mono.proofs.plain.plain_row.Goals as goal
+use Rattle.hook_mono.proofs.plain.plain_hook.Goals as goal
 
 pub returns-in-BrIf : goal.returns-in-BrIf
 returns-in-BrIf c = search rules
