@@ -21,7 +21,7 @@ use Rattle.rewrite_needs.specs.declared.watching.Watch.{Watch}
 use Rattle.rewrite_needs.specs.Watching.{watch, watch_at, instr_watch, is_untold, or_none, kept_temps}
 use Rattle.rewrite_needs.specs.Room.{instr_temps}
 use Rattle.rewrite_needs.specs.Temporaries.{branch_temps}
-use Rattle.rewrite_needs.proofs.Rows.{unwanted, wanted, watched_temps, other_temps}
+use Rattle.rewrite_needs.proofs.Rows.{wanted, watched_temps, other_temps}
 use Rattle.rewrite.specs.Setting.{Setting, wants, tell}
 use Rattle.rewrite.specs.Templates.{told_by, told_code, branch_code, template_by, template}
 use Rattle.rewrite.specs.Emitted.{HasRoom, template_of, branch_of}

@@ -1,10 +1,9 @@
-use Rattle.std.proofs.Common.{◌≡◌, ◌<◌, ◌^◌, ℕ, List, Result, Ok, Err, IfOk, length, ap, ◌∙◌, subst, arith}
+use Rattle.std.proofs.Common.{◌≡◌, ◌<◌, ◌^◌, ℕ, List, Result, Ok, Err, IfOk, length, refl, ap, ◌∙◌, subst, arith}
 use Rattle.std.proofs.lemmas.Result.{IfOk-weaker}
 use Rattle.module_ast.specs.Binary.{Fits, IsModule, module_bytes, tree_of, without_customs}
 use Rattle.module_ast.proofs.ReadFits.{read_fits}
 use Rattle.wasm_sem.specs.Types.{Module}
 use Rattle.instrument.specs.Plan.{HookPlan}
-use Rattle.instrument.proofs.NoneNeeded.{same_hooks}
 use Rattle.instrument.proofs.Unhooked.{output_same}
 use Rattle.instrument.proofs.plan.HookPlan.write.Goals as goal
 
@@ -31,14 +30,14 @@ both_ok : {X E : Type 0} (r : Result X E) (P Q : X → Type 0) (R : Type 0) → 
 both_ok (Ok x) P Q R f p q = f x p q
 both_ok (Err e) P Q R f p q = tt
 
-pub returns-then-eq-clause-ok : goal.returns-then-eq-clause-ok
-returns-then-eq-clause-ok g c =
+pub returns-then-is_empty-clause-ok : goal.returns-then-is_empty-clause-ok
+returns-then-is_empty-clause-ok g c =
     let q : HookPlan = record { «module» = c.self.inside.module.now; hooks = c.self.inside.hooks } in
-    let same = output_same q c.args.self.now c.module.result.now c.self.view_is c.module.ensures.module (same_hooks c.self.inside.hooks c.none.result c.if-eq.ensures ∙ c.none.ensures) c.module.ensures.whole.bodies in
+    let same = output_same q c.args.self.now c.module.result.now c.self.view_is c.module.ensures.module (c.if-is_empty.ensures.0 refl) c.module.ensures.whole.bodies in
     IfOk-weaker c.encode.result _ _ (λ bytes is. is ∙ same) c.encode.ensures.ok
 
-pub returns-then-eq-clause-fit : goal.returns-then-eq-clause-fit
-returns-then-eq-clause-fit g c =
+pub returns-then-is_empty-clause-fit : goal.returns-then-is_empty-clause-fit
+returns-then-is_empty-clause-fit g c =
     let of : c.module.result.now ≡ c.args.self.now.module = c.module.ensures.module ∙ ap (λ (p : HookPlan). p.module) c.self.view_is in
     both_ok c.encode.result _ _ (Fits c.args.self.now.module)
     (λ bytes spelled few. subst Fits of (spelled_fits c.module.result.now bytes.items spelled (omega (arith, few, c.requires.most)))) c.encode.ensures.grammar c.encode.ensures.few
@@ -48,8 +47,8 @@ returns-clause-fit g c =
     let of : c.module-2.result.now ≡ c.args.self.now.module = c.module-2.ensures.module ∙ ap (λ (p : HookPlan). p.module) c.self.view_is in
     subst Fits of (c.encoded_length.ensures.fit (omega (arith, c.module-2.ensures.whole.size, ap (λ (m : Module). length (module_bytes m)) c.module-2.ensures.module)))
 
-pub returns-then-eq-clause-large : goal.returns-then-eq-clause-large
-returns-then-eq-clause-large g c =
+pub returns-then-is_empty-clause-large : goal.returns-then-is_empty-clause-large
+returns-then-is_empty-clause-large g c =
     let q : HookPlan = record { «module» = c.self.inside.module.now; hooks = c.self.inside.hooks } in
-    let same = output_same q c.args.self.now c.module.result.now c.self.view_is c.module.ensures.module (same_hooks c.self.inside.hooks c.none.result c.if-eq.ensures ∙ c.none.ensures) c.module.ensures.whole.bodies in
+    let same = output_same q c.args.self.now c.module.result.now c.self.view_is c.module.ensures.module (c.if-is_empty.ensures.0 refl) c.module.ensures.whole.bodies in
     λ n is. let large = c.encode.ensures.large n is in (large.0 ∙ ap length same, large.1)
