@@ -1,39 +1,18 @@
--- Contents that were not touched before a write, or before another read.
-use Rattle.std.proofs.Common.{List, ℕ, suc, refl, ap, ◌∙◌, inl, inr, arith, Option, Some, None}
-use Rattle.outside_io.specs.Outside.{Contents, Unchanged, Wrote, WrotePart, after_calls, ShelfState, OnlyRead, OnlyWrote}
+-- Contents that a read left as they were, and calls one after the other.
+use Rattle.std.proofs.Common.{◌≡◌, ℕ, suc, refl, ap, subst, ◌∙◌, arith, Option, Some, None}
+use Rattle.std.proofs.Math.Path.{fun_ext}
+use Rattle.outside_io.specs.Outside.{Contents, Unchanged, after_calls, ShelfState, OnlyRead, OnlyWrote}
 
 -- what was not touched at all
 pub unchanged_same : (held : Option Contents) → Unchanged held held
 unchanged_same None = tt
 unchanged_same (Some held) = λ name. refl
 
--- a write, or a part of one, after contents that were not touched
-pub wrote_after : (name bytes : List ℕ) (a b c : Option Contents) → Unchanged a b → Wrote name bytes b c → Wrote name bytes a c
-wrote_after name bytes None None None p q = tt
-wrote_after name bytes (Some a) (Some b) (Some c) p q = (q.0, λ other ne. q.1 other ne ∙ p other)
-wrote_after name bytes None (Some b) c p q = absurd p
-wrote_after name bytes (Some a) None c p q = absurd p
-wrote_after name bytes None None (Some c) p q = absurd q
-wrote_after name bytes (Some a) (Some b) None p q = absurd q
-
--- a part of one after such contents
-pub part_after : (name bytes : List ℕ) (a b c : Option Contents) → Unchanged a b → WrotePart name bytes b c → WrotePart name bytes a c
-part_after name bytes None None None p q = tt
-part_after name bytes (Some a) (Some b) (Some c) p q =
-    (elim q.0 [ inl same ↦ inl (same ∙ p name) | inr part ↦ inr part ], λ other ne. q.1 other ne ∙ p other)
-part_after name bytes None (Some b) c p q = absurd p
-part_after name bytes (Some a) None c p q = absurd p
-part_after name bytes None None (Some c) p q = absurd q
-part_after name bytes (Some a) (Some b) None p q = absurd q
-
--- nor was it after such contents
-pub unchanged_after : (a b c : Option Contents) → Unchanged a b → Unchanged b c → Unchanged a c
-unchanged_after None None None p q = tt
-unchanged_after (Some a) (Some b) (Some c) p q = λ name. q name ∙ p name
-unchanged_after None (Some b) c p q = absurd p
-unchanged_after (Some a) None c p q = absurd p
-unchanged_after None None (Some c) p q = absurd q
-unchanged_after (Some a) (Some b) None p q = absurd q
+-- contents with each name as before are those before
+pub same_contents : (old new : Option Contents) → Unchanged old new → new ≡ old
+same_contents None None p = refl
+same_contents (Some old) (Some new) p = ap Some (fun_ext p)
+same_contents _ _ p = absurd p
 
 -- ---- calls
 
@@ -47,7 +26,7 @@ none_written at = record { reads = refl; writes = refl; read_faults = refl; writ
 -- one read, and more
 pub read_then : (more : ℕ) (a b c : ShelfState) → OnlyRead 1 a b → OnlyRead more b c → OnlyRead (suc more) a c
 read_then more a b c p q = record {
-  contents = unchanged_after a.contents b.contents c.contents p.contents q.contents;
+  contents = subst (λ held. Unchanged held c.contents) (same_contents a.contents b.contents p.contents) q.contents;
   reads = q.reads ∙ ap (after_calls more) p.reads;
   writes = q.writes ∙ p.writes;
   read_faults = λ name. omega (arith, p.read_faults name, q.read_faults name);

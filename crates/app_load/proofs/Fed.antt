@@ -84,9 +84,8 @@ part_then kinds es fs rest s now (front, later, e, is) = (
 pub parts_then : (kinds : Kinds) (es fs rest : List Event) (old now : List ToolState) → AreFedPart kinds fs (fed kinds es old) now
     → AreFedPart kinds (es ++ fs ++ rest) old now
 parts_then kinds es fs rest [] [] p = tt
-parts_then kinds es fs rest [] (n ∷ ns) p = absurd p
-parts_then kinds es fs rest (o ∷ os) [] p = absurd p
 parts_then kinds es fs rest (o ∷ os) (n ∷ ns) p = (part_then kinds es fs rest o n p.0, parts_then kinds es fs rest os ns p.1)
+parts_then kinds es fs rest _ _ p = absurd p
 
 pub all_then : (kinds : Kinds) (es fs : List Event) (ts : List ToolState) → fed kinds (es ++ fs) ts ≡ fed kinds fs (fed kinds es ts)
 all_then kinds es fs [] = refl

@@ -1,70 +1,79 @@
 -- How what comes of a plan is put together, one read after the other.
-use Rattle.std.proofs.Common.{◌≡◌, ℕ, suc, ◌⊎◌, inl, inr, List, [], length, refl, sym, subst, Option, Some, None, Result, Ok, Err}
-use Rattle.outside_io.specs.Outside.{Contents, Unchanged, ShelfState, OnlyRead, OnlyWrote}
+use Rattle.std.proofs.Common.{◌≡◌, ℕ, suc, ◌≤◌, inl, inr, List, [], length, refl, sym, subst, Option, Some, None, Result, Ok, Err}
+use Rattle.outside_io.specs.Outside.{Contents, IsMissing, IsTooLong, ShelfState, OnlyRead, OnlyWrote}
 use Rattle.analyses.specs.Tools.{ToolState}
 use Rattle.app_load.specs.Feeding.{fed}
 use Rattle.app_load.specs.Texts.{bad_words_text, no_memory_text}
-use Rattle.app_load.proofs.Contents.{unchanged_same, none_read, none_written, read_then}
+use Rattle.app_load.proofs.Contents.{unchanged_same, same_contents, none_read, none_written, read_then}
 use Rattle.app_load.specs.declared.printing.Printed.{Printed}
 use Rattle.app_load.specs.declared.printing.Refusal.{Refusal}
 use Rattle.app_load.specs.declared.printing.Refusal.TheVariants.{NoMemory}
-use Rattle.app_load.specs.Wants.{Value, Read, Gives, ReadCause}
+use Rattle.app_load.specs.Wants as wants
+use Rattle.app_load.specs.Wants.{Value, Read, Gives, ReadCause, missing, too_long, refuted, unread_no_memory}
 use Rattle.app_load.specs.Writing.{WroteAll}
-use Rattle.app_load.specs.Plans.{Reason, reason_status, File, Finish, finish_status, Effect, prints, Ending, refuses, does, Plan, reads, ends, refusing, printing, LeadsTo, PassesAll, reads_led}
+use Rattle.app_load.specs.Plans.{Reason, reason_status, File, Finish, finish_status, Effect, prints, Ending, does, Plan, reads, ends, refusing, printing, LeadsTo, PassesAll}
 use Rattle.app_load.specs.Statuses.{status_number}
-use Rattle.app_load.specs.Ends.{TookSome, Cause, no_command, unread, refused, unwritten, memory_ended, IsCarriedOut}
+use Rattle.app_load.specs.Ends.{Cause, no_command, unread, refused, unwritten, memory_ended, IsCarriedOut}
 use Rattle.app_load.specs.Outcomes.{refusal_status, refusal_text, IsRefusal, Yields}
-use Rattle.app_load.proofs.Shelves.{fed_none}
-use Rattle.app_load.proofs.Before.{leads_before, led_before, comes_before, came_before, passes_before, cause_before, all_after}
+use Rattle.app_load.proofs.Shelves.{rose_before, fed_none}
 
--- one read more on the way to an ending
-led_on : (plan : Plan) (ending : Ending) (old mid new : ShelfState) (once : OnlyRead 1 old mid) (way : LeadsTo mid.contents plan ending)
-    → OnlyRead (reads_led mid.contents plan ending way) mid new
-    → OnlyRead (suc (reads_led old.contents plan ending (leads_before old.contents mid.contents plan ending once.contents way))) old new
-led_on plan ending old mid new once way only =
-    subst (λ n. OnlyRead (suc n) old new) (sym (led_before old.contents mid.contents plan ending once.contents way)) (read_then _ old mid new once only)
+-- the shelf after a read, with the contents that were there before it
+abbrev read_from : (old mid : ShelfState) → ShelfState
+read_from old mid = record mid { contents = old.contents }
 
-took_on : (read : Read) (next : Value read.want → Plan) (value : Value read.want) (a b : Option Contents) (was is : List ToolState)
-    → Gives a read value → Unchanged a b → (is ≡ was) ⊎ TookSome (Some (next value)) b was is → (is ≡ was) ⊎ TookSome (Some (reads read next)) a was is
-took_on read next value a b was is g p (inl same) = inl same
-took_on read next value a b was is g p (inr (e, l, t)) = inr (e, (value, g, leads_before a b (next value) (does e) p l), t)
+-- why a later read gave nothing is why it does from here
+missing_before : (name : List ℕ) (held : Option Contents) (i j k : ℕ) → i ≤ j → IsMissing held name j k → IsMissing held name i k
+missing_before name None i j k l m = rose_before i j k l m
+missing_before name (Some held) i j k l m = m
 
-cause_on : (read : Read) (next : Value read.want → Plan) (value : Value read.want) (old mid new : ShelfState) (was is : List ToolState)
-    (status : ℕ) (text : List ℕ) → Gives old.contents read value → OnlyRead 1 old mid
-    → Cause (Some (next value)) mid new was is status text → Cause (Some (reads read next)) old new was is status text
-cause_on read next value old mid new was is _ _ g once (no_command e only s) = cc
-cause_on read next value old mid new was is _ _ g once (unread other status text way r only s) =
-    unread other status text (inr (value, g, comes_before old.contents mid.contents (next value) other once.contents way))
-    (cause_before other old mid new status text once.contents (once.read_faults other.name) r)
-    (subst (λ n. OnlyRead (suc n) old new) (sym (came_before old.contents mid.contents (next value) other once.contents way)) (read_then _ old mid new once only)) s
-cause_on read next value old mid new was is _ _ g once (refused reason text way only s) =
-    refused reason text (value, g, leads_before old.contents mid.contents (next value) (refuses reason text) once.contents way)
-    (led_on (next value) (refuses reason text) old mid new once way only) s
-cause_on read next value old mid new was is _ _ g once (unwritten e status text way to only f t) =
-    unwritten e status text (value, g, leads_before old.contents mid.contents (next value) (does e) once.contents way) to
-    (led_on (next value) (does e) old mid to once way only) f t
-cause_on read next value old mid new was is _ _ g once (memory_ended more passed only t) =
-    memory_ended (suc more) (value, g, passes_before old.contents mid.contents (next value) more once.contents passed) (read_then more old mid new once only)
-    (took_on read next value old.contents mid.contents was is g once.contents t)
+too_long_before : (name : List ℕ) (cap long : ℕ) (held : Option Contents) (i j k : ℕ) → i ≤ j → IsTooLong held name cap long j k → IsTooLong held name cap long i k
+too_long_before name cap long None i j k l m = rose_before i j k l m
+too_long_before name cap long (Some held) i j k l m = m
+
+cause_before : (read : Read) (old mid new : ShelfState) (status : ℕ) (text : List ℕ) → old.read_faults read.name ≤ mid.read_faults read.name
+    → ReadCause read (read_from old mid) new status text → ReadCause read old new status text
+cause_before read old mid new _ _ l (missing m) = missing (missing_before read.name _ _ _ _ l m)
+cause_before read old mid new _ _ l (too_long long t) = too_long long (too_long_before read.name read.cap long _ _ _ _ l t)
+cause_before read old mid new _ _ l (wants.unread r) = wants.unread (rose_before _ _ _ l r)
+cause_before read old mid new _ _ l (refuted bytes status text i r) = refuted bytes status text i r
+cause_before read old mid new _ _ l unread_no_memory = unread_no_memory
 
 -- a read that gave what it must, and what came then
+module _ (read : Read) (next : Value read.want → Plan) (value : Value read.want) (old mid new : ShelfState) (was is : List ToolState)
+    (g : Gives old.contents read value) (once : OnlyRead 1 old (read_from old mid)) where
+  cause_on : (status : ℕ) (text : List ℕ) → Cause (Some (next value)) (read_from old mid) new was is status text → Cause (Some (reads read next)) old new was is status text
+  cause_on _ _ (no_command e only s) = cc
+  cause_on _ _ (unread other status text way r only s) =
+      unread other status text (inr (value, g, way)) (cause_before other old mid new status text (once.read_faults other.name) r) (read_then _ old _ new once only) s
+  cause_on _ _ (refused reason text way only s) = refused reason text (value, g, way) (read_then _ old _ new once only) s
+  cause_on _ _ (unwritten e status text way to only f t) = unwritten e status text (value, g, way) to (read_then _ old _ to once only) f t
+  cause_on _ _ (memory_ended more passed only t) =
+      memory_ended (suc more) (value, g, passed) (read_then more old _ new once only)
+      (elim t [ inl same ↦ inl same | inr (e, way, part) ↦ inr (e, (value, g, way), part) ])
+
+  yields_on : (result : Result Printed Refusal) → Yields (Some (next value)) (read_from old mid) new was is result → Yields (Some (reads read next)) old new was is result
+  yields_on (Ok told) (e, made, s, t) = (
+    e,
+    record {
+      leads = (value, g, made.leads);
+      files = made.files;
+      mid = made.mid;
+      read = read_then _ old _ made.mid once made.read;
+      wrote = made.wrote;
+      taken = made.taken;
+    },
+    s,
+    t,
+  )
+  yields_on (Err r) c = cause_on _ _ c
+
 pub went_on : (read : Read) (next : Value read.want → Plan) (value : Value read.want) (old mid new : ShelfState) (was is : List ToolState)
     (result : Result Printed Refusal) → Gives old.contents read value → OnlyRead 1 old mid
     → Yields (Some (next value)) mid new was is result → Yields (Some (reads read next)) old new was is result
-went_on read next value old mid new was is (Ok told) g once (e, made, s, t) = (
-  e,
-  record {
-    leads = (value, g, leads_before old.contents mid.contents (next value) (does e) once.contents made.leads);
-    files = all_after e.files _ _ _ once.contents made.files;
-    mid = made.mid;
-    read = led_on (next value) (does e) old mid made.mid once made.leads made.read;
-    wrote = made.wrote;
-    taken = made.taken;
-  },
-  s,
-  t,
-)
-went_on read next value old mid new was is (Err r) g once c = cause_on read next value old mid new was is _ _ g once c
+went_on read next value old mid new was is result g once y =
+    let same = same_contents old.contents mid.contents once.contents in
+    yields_on read next value old mid new was is g (subst (λ held. OnlyRead 1 old (record mid { contents = held })) same once) result
+    (subst (λ held. Yields (Some (next value)) (record mid { contents = held }) new was is result) same y)
 
 -- one that did not
 pub stopped : (read : Read) (next : Value read.want → Plan) (old new : ShelfState) (tools : List ToolState) (refusal : Refusal)

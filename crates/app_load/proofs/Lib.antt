@@ -6,7 +6,6 @@ pub mod Contents
 pub mod WantLaws
 pub mod Leading
 pub mod Shelves
-pub mod Before
 pub mod Telling
 pub mod Deciding
 pub mod Going

@@ -1,30 +1,27 @@
 -- What was read from bytes, or why it was not.
-use Rattle.std.proofs.Common.{◌≡◌, ◌⊎◌, inl, inr, ℕ, List, sym, subst, Option, Result, Ok, Err, IfOk}
+use Rattle.std.proofs.Common.{◌≡◌, inl, inr, ℕ, List, sym, subst, subst₂, Option, Result, Ok, Err, IfOk}
 use Rattle.outside_io.specs.Outside.{Contents, ShelfState}
 use Rattle.wasm_sem.specs.Types.{Limits, Module}
 use Rattle.module_ast.specs.Validation.{IsValid}
 use Rattle.app_load.specs.Files.{IsFit}
 use Rattle.app_load.specs.declared.printing.Refusal.{Refusal}
-use Rattle.app_load.specs.declared.printing.Refusal.TheVariants.{NoMemory}
-use Rattle.app_load.specs.Wants.{Want, Value, Spell, Read, read_as, IsRead, Gives, Refutes, ReadCause, refuted, unread_no_memory}
-use Rattle.app_load.specs.Outcomes.{refusal_status, refusal_text, IsRefusal, RefusedBy}
+use Rattle.app_load.specs.Wants.{Want, content, Value, Read, read_as, IsRead, Gives, ReadCause, refuted, unread_no_memory}
+use Rattle.app_load.specs.Outcomes.{refusal_status, refusal_text, IsRefusal, RefusedBy, Refuted}
 use Rattle.app_load.proofs.Going.{told_as}
 
 pub given_by : {E : Type 0} (want : Want) (result : Result (Value want) E) (held : Option Contents) (name : List ℕ) (cap : ℕ) (bytes : List ℕ)
-    → IsRead held (read_as name cap want) bytes → IfOk result (Spell want bytes) → IfOk result (Gives held (read_as name cap want))
+    → IsRead held (read_as name cap want) bytes → IfOk result ((content want).Spell bytes) → IfOk result (Gives held (read_as name cap want))
 given_by want (Ok value) held name cap bytes i k = record { bytes = bytes; read_well = i; spelled = k }
 given_by want (Err e) held name cap bytes i k = tt
 
 -- a refusal, or want of memory
-pub refused_as : (P : ℕ → List ℕ → Type 0) (status : ℕ) (text : List ℕ) (refusal : Refusal) → IsRefusal status text refusal → P status text
-    → (refusal ≡ NoMemory) ⊎ P (refusal_status refusal) (refusal_text refusal)
-refused_as P status text refusal (inl none) p = inl none
-refused_as P status text refusal (inr (s, t)) p = inr (subst (λ n. P n (refusal_text refusal)) (sym s) (subst (P status) (sym t) p))
+pub refused_as : (want : Want) (name bytes : List ℕ) (status : ℕ) (text : List ℕ) (refusal : Refusal) → IsRefusal status text refusal
+    → (content want).Refutes name bytes status text → Refuted want name bytes refusal
+refused_as want name bytes status text refusal (inl none) r = inl none
+refused_as want name bytes status text refusal (inr (s, t)) r = inr (subst₂ ((content want).Refutes name bytes) (sym s) (sym t) r)
 
 pub refuted_by : (want : Want) (old new : ShelfState) (name : List ℕ) (cap : ℕ) (bytes : List ℕ) (refusal : Refusal)
-    → IsRead old.contents (read_as name cap want) bytes
-    → (refusal ≡ NoMemory) ⊎ Refutes name want bytes (refusal_status refusal) (refusal_text refusal)
-    → RefusedBy (read_as name cap want) old new refusal
+    → IsRead old.contents (read_as name cap want) bytes → Refuted want name bytes refusal → RefusedBy (read_as name cap want) old new refusal
 refuted_by want old new name cap bytes refusal i (inl none) =
     subst (λ r. ReadCause (read_as name cap want) old new (refusal_status r) (refusal_text r)) (sym none) unread_no_memory
 refuted_by want old new name cap bytes refusal i (inr r) = refuted bytes (refusal_status refusal) (refusal_text refusal) i r

@@ -1,11 +1,10 @@
 -- Files that were written, or could not be.
-use Rattle.std.proofs.Common.{◌≡◌, ◌≢◌, ℕ, ◌≤◌, ◌⊎◌, inl, inr, List, [], ◌∷◌, refl, sym, ◌∙◌, arith, append-nil, ap₂, cond, fold, Option}
+use Rattle.std.proofs.Common.{◌≡◌, ◌≢◌, ℕ, ◌≤◌, ◌⊎◌, inl, inr, List, [], ◌∷◌, refl, ◌∙◌, arith, ap₂, cond, fold, Option}
 use Rattle.outside_io.specs.Outside.{Contents, Rose, WrotePart, ShelfState}
 use Rattle.wasm_sem.specs.Types.{Event}
 use Rattle.analyses.specs.declared.Kind.{Kind}
 use Rattle.analyses.specs.declared.Kind.TheVariants.{Blocks, Branches, Calls, Memory}
 use Rattle.analyses.specs.Tools.{ToolState, state_after}
-use Rattle.app_load.specs.declared.kinds.Kinds.{Kinds}
 use Rattle.app_load.specs.Kinds.{has_kind, no_kinds}
 use Rattle.app_load.specs.Feeding.{fed_tool, fed, AreFedPart}
 use Rattle.app_load.specs.Writing.{PutCause, put_failed, put_no_memory, WroteAll, WroteSome, FilesCause}
@@ -47,11 +46,6 @@ pub files_there : (fs : List File) (old new : ShelfState) (status : ℕ) (text :
 files_there [] old new status text c e = c
 files_there (f ∷ fs) old new status text c e = cc
 
--- all events are some of them
-pub fed_whole : (kinds : Kinds) (es : List Event) (tools : List ToolState) → AreFedPart kinds es tools (fed kinds es tools)
-fed_whole kinds es [] = tt
-fed_whole kinds es (t ∷ tools) = ((es, [], sym (append-nil es), refl), fed_whole kinds es tools)
-
 -- analyses of no kind take nothing
 unpicked : (es : List Event) (tool : ToolState) → fed_tool no_kinds es tool ≡ tool
 unpicked es tool = by tool.counts
@@ -70,5 +64,4 @@ fed_none es (t ∷ tools) = ap₂ ◌∷◌ (unpicked es t) (fed_none es tools)
 pub fed_part_none : (es : List Event) (was is : List ToolState) → AreFedPart no_kinds es was is → is ≡ was
 fed_part_none es [] [] p = refl
 fed_part_none es (t ∷ ts) (u ∷ us) ((front, rest, e, k), more) = ap₂ ◌∷◌ (k ∙ unpicked front t) (fed_part_none es ts us more)
-fed_part_none es [] (u ∷ us) p = absurd p
-fed_part_none es (t ∷ ts) [] p = absurd p
+fed_part_none es _ _ p = absurd p

@@ -6,7 +6,7 @@ use Rattle.analyses.specs.Tools.{ToolState}
 use Rattle.app_load.specs.Feeding.{AreFedPart}
 use Rattle.app_load.specs.Kinds.{no_kinds}
 use Rattle.app_load.specs.Wants.{Value}
-use Rattle.app_load.specs.Plans.{Reason, no_output, no_call, out_of_range, long_trace, no_import, few_groups, not_nested, reason_status, Ending, refuses, does, Plan, reads, ends, LeadsTo, Leads}
+use Rattle.app_load.specs.Plans.{Reason, no_output, reason_status, Ending, refuses, does, Plan, reads, ends, LeadsTo, Leads}
 use Rattle.app_load.specs.Writing.{WroteSome}
 use Rattle.app_load.specs.Ends.{WrittenPart, TookSome, Ends, answered, refused_with}
 use Rattle.app_load.specs.Statuses.{status_number, of_writes, of_reasons}
@@ -78,12 +78,7 @@ leaves {was = was} {is = is} status none x =
 
 is_output : (reason : Reason) → status_number (reason_status reason) ≡ 9 → reason ≡ no_output
 is_output no_output e = refl
-is_output no_call e = cc
-is_output out_of_range e = cc
-is_output long_trace e = cc
-is_output no_import e = cc
-is_output few_groups e = cc
-is_output not_nested e = cc
+is_output reason e = cc
 
 -- and one that refuses no output never answers 9
 pub never_refused : {plan : Option Plan} {old new : ShelfState} {was is : List ToolState} {before after : PrintState} (status : ℕ)

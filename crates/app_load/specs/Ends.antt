@@ -7,7 +7,7 @@ use Rattle.analyses.specs.Tools.{ToolState}
 use Rattle.app_load.specs.Feeding.{fed, AreFedPart}
 use Rattle.app_load.specs.Printing.{Said}
 use Rattle.app_load.specs.Texts.{bad_words_text, no_memory_text}
-use Rattle.app_load.specs.Wants.{Read, IsRead, IsWrong, ReadCause}
+use Rattle.app_load.specs.Wants.{content, Read, IsRead, ReadCause}
 use Rattle.app_load.specs.Plans.{Reason, reason_status, finish_status, Effect, refuses, does, Plan, Leads, Comes, PassesAll, reads_to, reads_till}
 use Rattle.app_load.specs.Statuses.{status_number, Class, of_words, of_names, of_reads, of_writes, of_bytes, of_scripts, of_reasons, of_effects, of_prints, of_memory, of_nothing}
 use Rattle.app_load.specs.Writing.{WroteAll, WroteSome, FilesCause}
@@ -65,7 +65,7 @@ IsUnread plan held old new =
 
 -- a read of the plan got bytes that are not what they must be
 abbrev pub IsRefuted : Option Plan → (held : Option Contents) → (status : ℕ) → Type 0
-IsRefuted plan held status = (read : Read) × (bytes : List ℕ) × Comes held plan read × IsRead held read bytes × IsWrong read.want bytes status
+IsRefuted plan held status = (read : Read) × (bytes : List ℕ) × Comes held plan read × IsRead held read bytes × (content read.want).IsWrong bytes status
 
 -- each read gave a value, and the plan refuses for a reason with this status
 abbrev pub LeadsToRefusal : Option Plan → (held : Option Contents) → (status : ℕ) → Type 0
@@ -107,7 +107,7 @@ IsBut status expected = (status ≡ expected) ⊎ ((status ≡ 4) ⊎ (status �
 pub data IsBad (contents : Contents) (read : Read) : ℕ → Type 0 where
   absent : contents read.name ≡ None → IsBad contents read 3
   over : (bytes : List ℕ) → contents read.name ≡ Some bytes → read.cap < length bytes → IsBad contents read 3
-  wrong : (bytes : List ℕ) (status : ℕ) → contents read.name ≡ Some bytes → length bytes ≤ read.cap → IsWrong read.want bytes status
+  wrong : (bytes : List ℕ) (status : ℕ) → contents read.name ≡ Some bytes → length bytes ≤ read.cap → (content read.want).IsWrong bytes status
       → IsBad contents read status
 
 -- if the plan comes to a read whose bytes are bad, that read decides the status

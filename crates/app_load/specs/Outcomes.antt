@@ -9,8 +9,7 @@ use Rattle.app_load.specs.declared.printing.Refusal.{Refusal}
 use Rattle.app_load.specs.declared.printing.Refusal.TheVariants.{Line, NoMemory}
 use Rattle.app_load.specs.Statuses.{status_number}
 use Rattle.app_load.specs.Plans.{finish_status, Effect, Plan}
-use Rattle.wasm_sem.specs.Types.{Limits, Module}
-use Rattle.app_load.specs.Wants.{RefutesFile, RefutesScript, RefutesInfo, RefutesTrace, Read, ReadCause}
+use Rattle.app_load.specs.Wants.{Want, content, Read, ReadCause}
 use Rattle.app_load.specs.Ends.{Cause, IsCarriedOut}
 
 -- the number of the status of a refusal
@@ -44,21 +43,6 @@ SaidRefusal refusal before after status = Said (refusal_text refusal) (refusal_s
 abbrev pub RefusedBy : Read → (old new : ShelfState) → Refusal → Type 0
 RefusedBy read old new refusal = ReadCause read old new (refusal_status refusal) (refusal_text refusal)
 
--- the refusal of each next definition is `NoMemory`, or tells what is wrong with the bytes
-
--- the bytes are no valid module within the limits
-abbrev pub RefutedFile : (name : List ℕ) → Limits → (bytes : List ℕ) → Refusal → Type 0
-RefutedFile name limits bytes refusal =
-    (refusal ≡ NoMemory) ⊎ RefutesFile name limits bytes (refusal_status refusal) (refusal_text refusal)
-
--- the bytes are no script
-abbrev pub RefutedScript : (bytes : List ℕ) → Refusal → Type 0
-RefutedScript bytes refusal = (refusal ≡ NoMemory) ⊎ RefutesScript bytes (refusal_status refusal) (refusal_text refusal)
-
--- the bytes are no information on the module
-abbrev pub RefutedInfo : Module → (bytes : List ℕ) → Refusal → Type 0
-RefutedInfo m bytes refusal = (refusal ≡ NoMemory) ⊎ RefutesInfo m bytes (refusal_status refusal) (refusal_text refusal)
-
--- the bytes are no trace
-abbrev pub RefutedTrace : (name bytes : List ℕ) → Refusal → Type 0
-RefutedTrace name bytes refusal = (refusal ≡ NoMemory) ⊎ RefutesTrace name bytes (refusal_status refusal) (refusal_text refusal)
+-- the refusal is `NoMemory`, or has a status and a line that tell what is wrong with the bytes
+abbrev pub Refuted : Want → (name bytes : List ℕ) → Refusal → Type 0
+Refuted want name bytes refusal = (refusal ≡ NoMemory) ⊎ (content want).Refutes name bytes (refusal_status refusal) (refusal_text refusal)

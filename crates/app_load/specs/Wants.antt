@@ -19,65 +19,21 @@ use Rattle.trace_file.specs.Files.{IsTrace, IsNoTrace}
 use Rattle.app_load.specs.Files.{IsFit, IsNoModule, IsUnfit, IsInvalid, IsScript, IsNoScript}
 use Rattle.app_load.specs.Texts.{missing_text, too_long_text, unread_text, malformed_text, floats_text, limit_text, rule_text, body_text, not_json_text, wrong_script_text, info_not_json_text, not_info_text, foreign_text, not_trace_text, no_memory_text}
 
--- What the bytes must be: a valid module within limits; such a module with the names that its file carries, if the
--- names are kept; a script; information that belongs to a module; or the trace of events.
-pub data Want : Type 0 where
-  a_module : Limits → Want
-  a_named_module : Limits → (keeps : Bool) → Want
-  a_script : Want
-  info_on : Module → Want
-  a_trace : Want
+-- A kind of content: the value that its bytes spell, when they spell a value, and when they are no such content, with the
+-- status that tells so, and with the line that says why.
+pub record Content : Type 1 where
+  pub Value : Type 0
+  pub Spell : (bytes : List ℕ) → Value → Type 0
+  pub IsWrong : (bytes : List ℕ) → (status : ℕ) → Type 0
+  pub Refutes : (name bytes : List ℕ) → (status : ℕ) → (text : List ℕ) → Type 0
 
--- the value that a read gives
-abbrev pub Value : Want → Type 0
-Value (a_module limits) = Module
-Value (a_named_module limits keeps) = Module × Names
-Value a_script = Script
-Value (info_on m) = Info
-Value a_trace = List Event
-
--- the names that the file of a module carries, or no names if they are not kept
-abbrev pub AreKept : (keeps : Bool) → (bytes : List ℕ) → Module → Names → Type 0
-AreKept false bytes m names = names ≡ no_names
-AreKept true bytes m names = AreNames bytes (length (funcs_of m)) names
-
--- the bytes spell this value
-abbrev pub Spell : (want : Want) → (bytes : List ℕ) → Value want → Type 0
-Spell (a_module limits) bytes m = IsFit limits bytes m × IsValid m
-Spell (a_named_module limits keeps) bytes named = IsFit limits bytes named.0 × IsValid named.0 × AreKept keeps bytes named.0 named.1
-Spell a_script bytes s = IsScript bytes s
-Spell (info_on m) bytes info = HoldInfo bytes info × Belongs info m
-Spell a_trace bytes es = IsTrace bytes es
+-- ---- a module
 
 -- the bytes are no valid module within the limits, with the status that tells so
 pub data IsNoFile (limits : Limits) (bytes : List ℕ) : ℕ → Type 0 where
   malformed : IsNoModule bytes → IsNoFile limits bytes 6
   unfit : IsUnfit limits bytes → IsNoFile limits bytes 7
   invalid : IsInvalid limits bytes → IsNoFile limits bytes 8
-
--- the bytes are no script
-pub data IsUnscripted (bytes : List ℕ) : ℕ → Type 0 where
-  unscripted : IsNoScript bytes → IsUnscripted bytes 10
-
--- the bytes are no information on the module: no JSON, no information, or the information on another module
-pub data IsUninformed (m : Module) (bytes : List ℕ) : ℕ → Type 0 where
-  no_json : IsNoText bytes → IsUninformed m bytes 16
-  no_info : HoldNoInfo bytes → IsUninformed m bytes 16
-  of_another : (info : Info) → HoldInfo bytes info → ¬ Belongs info m → IsUninformed m bytes 16
-
--- the bytes are no trace: there are no events whose trace they are
-pub data IsUntraced (bytes : List ℕ) : ℕ → Type 0 where
-  untraced : IsNoTrace bytes → IsUntraced bytes 19
-
--- the bytes are not what they must be, with the status that tells so
-abbrev pub IsWrong : Want → (bytes : List ℕ) → (status : ℕ) → Type 0
-IsWrong (a_module limits) bytes status = IsNoFile limits bytes status
-IsWrong (a_named_module limits keeps) bytes status = IsNoFile limits bytes status
-IsWrong a_script bytes status = IsUnscripted bytes status
-IsWrong (info_on m) bytes status = IsUninformed m bytes status
-IsWrong a_trace bytes status = IsUntraced bytes status
-
--- ---- the line that says why
 
 -- the bytes are no valid module within the limits, with the status and the line
 pub data RefutesFile (name : List ℕ) (limits : Limits) (bytes : List ℕ) : (status : ℕ) → (text : List ℕ) → Type 0 where
@@ -87,28 +43,92 @@ pub data RefutesFile (name : List ℕ) (limits : Limits) (bytes : List ℕ) : (s
   broken_rule : (m : Module) (rule : ValidityRule) → IsFit limits bytes m → IsFirstBroken m rule → RefutesFile name limits bytes 8 (rule_text name (number_of rule))
   invalid_body : (m : Module) (func : ℕ) → IsFit limits bytes m → IsFirstInvalid m func → RefutesFile name limits bytes 8 (body_text name func)
 
--- the bytes are no script, with the status and the line
-pub data RefutesScript (bytes : List ℕ) : (status : ℕ) → (text : List ℕ) → Type 0 where
-  not_json : IsNoText bytes → RefutesScript bytes 10 not_json_text
-  wrong_script : (d : Data) (place : ℕ) → IsText bytes d → script_form d ≡ Err place → RefutesScript bytes 10 (wrong_script_text place)
+-- a valid module within the limits
+abbrev pub module_content : Limits → Content
+module_content limits = record {
+  Value = Module;
+  Spell = λ bytes m. IsFit limits bytes m × IsValid m;
+  IsWrong = IsNoFile limits;
+  Refutes = λ name bytes. RefutesFile name limits bytes;
+}
 
--- the bytes are no information on the module, with the status and the line
-pub data RefutesInfo (m : Module) (bytes : List ℕ) : (status : ℕ) → (text : List ℕ) → Type 0 where
-  info_not_json : IsNoText bytes → RefutesInfo m bytes 16 info_not_json_text
-  not_info : HoldNoInfo bytes → RefutesInfo m bytes 16 not_info_text
-  foreign : (info : Info) → HoldInfo bytes info → ¬ Belongs info m → RefutesInfo m bytes 16 foreign_text
+-- the names that the file of a module carries, or no names if they are not kept
+abbrev pub AreKept : (keeps : Bool) → (bytes : List ℕ) → Module → Names → Type 0
+AreKept false bytes m names = names ≡ no_names
+AreKept true bytes m names = AreNames bytes (length (funcs_of m)) names
 
--- the bytes are no trace, with the status and the line
-pub data RefutesTrace (name bytes : List ℕ) : (status : ℕ) → (text : List ℕ) → Type 0 where
-  not_trace : IsNoTrace bytes → RefutesTrace name bytes 19 (not_trace_text name)
+-- such a module with the names that its file carries, if the names are kept
+abbrev pub named_content : Limits → (keeps : Bool) → Content
+named_content limits keeps = record (module_content limits) {
+  Value = Module × Names;
+  Spell = λ bytes named. IsFit limits bytes named.0 × IsValid named.0 × AreKept keeps bytes named.0 named.1;
+}
 
--- the bytes are not what they must be, with the status and the line
-abbrev pub Refutes : (name : List ℕ) → Want → (bytes : List ℕ) → (status : ℕ) → (text : List ℕ) → Type 0
-Refutes name (a_module limits) bytes status text = RefutesFile name limits bytes status text
-Refutes name (a_named_module limits keeps) bytes status text = RefutesFile name limits bytes status text
-Refutes name a_script bytes status text = RefutesScript bytes status text
-Refutes name (info_on m) bytes status text = RefutesInfo m bytes status text
-Refutes name a_trace bytes status text = RefutesTrace name bytes status text
+-- ---- a script
+
+-- the bytes are no script, with the line
+pub data RefutesScript (bytes : List ℕ) : (text : List ℕ) → Type 0 where
+  not_json : IsNoText bytes → RefutesScript bytes not_json_text
+  wrong_script : (d : Data) (place : ℕ) → IsText bytes d → script_form d ≡ Err place → RefutesScript bytes (wrong_script_text place)
+
+-- a script, as JSON
+abbrev pub script_content : Content
+script_content = record {
+  Value = Script;
+  Spell = IsScript;
+  IsWrong = λ bytes status. (status ≡ 10) × IsNoScript bytes;
+  Refutes = λ name bytes status text. (status ≡ 10) × RefutesScript bytes text;
+}
+
+-- ---- information
+
+-- the bytes are no information on the module, with the line: no JSON, no information, or the information on another module
+pub data RefutesInfo (m : Module) (bytes : List ℕ) : (text : List ℕ) → Type 0 where
+  info_not_json : IsNoText bytes → RefutesInfo m bytes info_not_json_text
+  not_info : HoldNoInfo bytes → RefutesInfo m bytes not_info_text
+  foreign : (info : Info) → HoldInfo bytes info → ¬ Belongs info m → RefutesInfo m bytes foreign_text
+
+-- information that belongs to the module
+abbrev pub info_content : Module → Content
+info_content m = record {
+  Value = Info;
+  Spell = λ bytes info. HoldInfo bytes info × Belongs info m;
+  IsWrong = λ bytes status. (status ≡ 16) × (text : List ℕ) × RefutesInfo m bytes text;
+  Refutes = λ name bytes status text. (status ≡ 16) × RefutesInfo m bytes text;
+}
+
+-- ---- a trace
+
+-- the trace of events
+abbrev pub trace_content : Content
+trace_content = record {
+  Value = List Event;
+  Spell = IsTrace;
+  IsWrong = λ bytes status. (status ≡ 19) × IsNoTrace bytes;
+  Refutes = λ name bytes status text. (status ≡ 19) × (text ≡ not_trace_text name) × IsNoTrace bytes;
+}
+
+-- ---- what is wanted
+
+-- which content the bytes under a name must be
+pub data Want : Type 0 where
+  a_module : Limits → Want
+  a_named_module : Limits → (keeps : Bool) → Want
+  a_script : Want
+  info_on : Module → Want
+  a_trace : Want
+
+-- that content
+abbrev pub content : Want → Content
+content (a_module limits) = module_content limits
+content (a_named_module limits keeps) = named_content limits keeps
+content a_script = script_content
+content (info_on m) = info_content m
+content a_trace = trace_content
+
+-- the value that a read gives
+abbrev pub Value : Want → Type 0
+Value want = (content want).Value
 
 -- ---- reads
 
@@ -146,13 +166,13 @@ pub record IsRead (held : Option Contents) (read : Read) (bytes : List ℕ) : Ty
 pub record Gives (held : Option Contents) (read : Read) (value : Value read.want) : Type 0 where
   pub bytes : List ℕ
   pub read_well : IsRead held read bytes
-  pub spelled : Spell read.want bytes value
+  pub spelled : (content read.want).Spell bytes value
 
 -- why the read gives no value, with the status and the line
 pub data ReadCause (read : Read) (old new : ShelfState) : (status : ℕ) → (text : List ℕ) → Type 0 where
   missing : IsMissing old.contents read.name (old.read_faults read.name) (new.read_faults read.name) → ReadCause read old new 3 (missing_text read.name)
   too_long : (long : ℕ) → IsTooLong old.contents read.name read.cap long (old.read_faults read.name) (new.read_faults read.name) → ReadCause read old new 3 (too_long_text read.name long)
   unread : Rose (old.read_faults read.name) (new.read_faults read.name) → ReadCause read old new 4 (unread_text read.name)
-  refuted : (bytes : List ℕ) (status : ℕ) (text : List ℕ) → IsRead old.contents read bytes → Refutes read.name read.want bytes status text
+  refuted : (bytes : List ℕ) (status : ℕ) (text : List ℕ) → IsRead old.contents read bytes → (content read.want).Refutes read.name bytes status text
       → ReadCause read old new status text
   unread_no_memory : ReadCause read old new 14 no_memory_text

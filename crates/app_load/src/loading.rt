@@ -1,6 +1,6 @@
 // Valid modules, scripts, information and traces, read from a shelf.
 
-ghost use Rattle.std.specs.Prelude.{◌≡◌, ◌≤◌, List, IfOk, IfErr, OnOk, length, string_bytes};
+ghost use Rattle.std.specs.Prelude.{◌≡◌, ◌≤◌, ℕ, List, IfOk, IfErr, OnOk, length, string_bytes};
 ghost use Rattle.outside_io.specs.Outside.{OnlyRead};
 ghost use Rattle.module_ast.specs.Binary.{Gram};
 ghost use Rattle.module_ast.specs.Validation.{IsValid, deepest, longest_file};
@@ -11,9 +11,9 @@ ghost use Rattle.wasm_sem.specs.Types.{Event};
 ghost use Rattle.trace_file.specs.Files.{IsNoTrace, IsTrace};
 ghost use Rattle.wasm_sem.specs.Execution.{IsScriptInRange};
 ghost use Rattle.app_load.specs.Files.{IsFit, IsScript};
-ghost use Rattle.app_load.specs.Texts.{body_text, floats_text, limit_text, malformed_text, missing_text, not_json_text, not_trace_text, rule_text, too_long_text, unread_text, which_name, wrong_script_text};
-ghost use Rattle.app_load.specs.Outcomes.{IsRefusal, RefusedBy, RefutedFile, RefutedInfo, RefutedScript, RefutedTrace};
-ghost use Rattle.app_load.specs.Wants.{AreKept, Gives, IsRead, Want, read_as, info_read, module_read, named_read, script_read, trace_read};
+ghost use Rattle.app_load.specs.Texts.{limit_text, which_name};
+ghost use Rattle.app_load.specs.Outcomes.{IsRefusal, RefusedBy, Refuted};
+ghost use Rattle.app_load.specs.Wants.{AreKept, Gives, IsRead, Want, a_module, a_script, a_trace, info_on, read_as, info_read, module_read, named_read, script_read, trace_read};
 
 use crate::printing::{Refusal, refused};
 use crate::status::Status;
@@ -162,68 +162,47 @@ fn read<S: Shelf>(alloc: Global, name: &str, cap: u64, shelf: &mut S) -> Result<
 {
     match shelf.read(alloc, name, cap) {
         Ok(bytes) => Ok(bytes),
-        Err(ReadFault::Missing) => Err(refused(Status::Missing, missing_line(alloc, name))),
+        Err(ReadFault::Missing) => Err(refused(
+            Status::Missing,
+            format!(in alloc; "error 3: {name} is missing\n"),
+        )),
         Err(ReadFault::TooLong { length }) => Err(refused(
             Status::Missing,
-            too_long_line(alloc, name, length),
+            format!(in alloc; "error 3: {name} is too long: {length}\n"),
         )),
-        Err(ReadFault::Failed) => Err(refused(Status::Unread, unread_line(alloc, name))),
+        Err(ReadFault::Failed) => Err(refused(
+            Status::Unread,
+            format!(in alloc; "error 4: {name} can't be read\n"),
+        )),
         Err(ReadFault::NoMemory) => Err(Refusal::NoMemory),
     }
-}
-
-fn missing_line(alloc: Global, name: &str) -> Result<String, AllocError>
-    ensures { IfOk result (λ line. string_bytes line ≡ missing_text name.now) }
-{
-    format!(in alloc; "error 3: {name} is missing\n")
-}
-
-fn too_long_line(alloc: Global, name: &str, length: u64) -> Result<String, AllocError>
-    ensures { IfOk result (λ line. string_bytes line ≡ too_long_text name.now length) }
-{
-    format!(in alloc; "error 3: {name} is too long: {length}\n")
-}
-
-fn unread_line(alloc: Global, name: &str) -> Result<String, AllocError>
-    ensures { IfOk result (λ line. string_bytes line ≡ unread_text name.now) }
-{
-    format!(in alloc; "error 4: {name} can't be read\n")
 }
 
 // The script that these bytes spell as JSON.
 fn script_of(alloc: Global, bytes: &[u8]) -> Result<Script, Refusal>
     ensures ok { IfOk result (λ s. IsScript bytes.now s) }
     ensures range { IfOk result IsScriptInRange }
-    ensures refused { IfErr result (RefutedScript bytes.now) }
+    ensures refused { (name : List ℕ) → IfErr result (Refuted a_script name bytes.now) }
 {
     match read_script(alloc, bytes) {
         Ok(script) => Ok(script),
-        Err(ScriptFault::NotJson) => Err(refused(Status::BadScript, not_json_line(alloc))),
+        Err(ScriptFault::NotJson) => Err(refused(
+            Status::BadScript,
+            String::from_str(alloc, "error 10: script is not JSON\n"),
+        )),
         Err(ScriptFault::NotScript { place }) => Err(refused(
             Status::BadScript,
-            wrong_script_line(alloc, place),
+            format!(in alloc; "error 10: script is wrong at {place}\n"),
         )),
         Err(ScriptFault::NoMemory) => Err(Refusal::NoMemory),
     }
-}
-
-fn not_json_line(alloc: Global) -> Result<String, AllocError>
-    ensures { IfOk result (λ line. string_bytes line ≡ not_json_text) }
-{
-    String::from_str(alloc, "error 10: script is not JSON\n")
-}
-
-fn wrong_script_line(alloc: Global, place: u8) -> Result<String, AllocError>
-    ensures { IfOk result (λ line. string_bytes line ≡ wrong_script_text place) }
-{
-    format!(in alloc; "error 10: script is wrong at {place}\n")
 }
 
 // The information that these bytes spell as JSON and that belongs to the valid module.
 fn info_of(alloc: Global, bytes: &[u8], m: &ValidModule) -> Result<Info, Refusal>
     ensures ok { IfOk result (λ info. HoldInfo bytes.now info × Belongs info m.now) }
     ensures formed { IfOk result IsWellFormed }
-    ensures refused { IfErr result (RefutedInfo m.now bytes.now) }
+    ensures refused { (name : List ℕ) → IfErr result (Refuted (info_on m.now) name bytes.now) }
 {
     let info = any_info(alloc, bytes)?;
     match belongs(alloc, &info, m.module()) {
@@ -239,7 +218,7 @@ fn info_of(alloc: Global, bytes: &[u8], m: &ValidModule) -> Result<Info, Refusal
 // The information that these bytes spell as JSON, whatever module it belongs to.
 fn any_info(alloc: Global, bytes: &[u8]) -> Result<Info, Refusal>
     ensures ok { IfOk result (λ info. HoldInfo bytes.now info) }
-    ensures refused { (m : Module) → IfErr result (RefutedInfo m bytes.now) }
+    ensures refused { (m : Module) (name : List ℕ) → IfErr result (Refuted (info_on m) name bytes.now) }
 {
     match from_json(alloc, bytes) {
         Ok(info) => Ok(info),
@@ -259,13 +238,9 @@ fn refused_info(alloc: Global, line: &str) -> Refusal
     refused(Status::BadInfo, String::from_str(alloc, line))
 }
 
-/// The valid module that `bytes` spell, within `limits`. `name` is the name that the bytes stand under, for the line of
-/// a refusal. `jobs` is the number of threads that check the module. The refusal is
-/// - `Malformed` if the bytes are no module of the binary format,
-/// - `Unfit` if the module uses floats or exceeds a limit,
-/// - `Invalid` if the module is not valid,
-/// - `NoMemory` if memory runs out.
-pub fn valid_module<R: Threads + Sync>(
+// The valid module that `bytes` spell, within `limits`. `name` is the name that the bytes stand under, for the line of a
+// refusal. `jobs` is the number of threads that check the module.
+fn valid_module<R: Threads + Sync>(
     rt: &R,
     alloc: Global,
     name: &str,
@@ -276,30 +251,21 @@ pub fn valid_module<R: Threads + Sync>(
     requires short { length bytes.now ≤ longest_file }
     requires nesting { limits.now.nesting ≤ deepest }
     ensures ok { IfOk result (λ v. IsFit limits.now bytes.now v × IsValid v) }
-    ensures refused { IfErr result (RefutedFile name.now limits.now bytes.now) }
+    ensures refused { IfErr result (Refuted (a_module limits.now) name.now bytes.now) }
 {
     let module = fit_module(alloc, name, bytes, limits)?;
     match validate(rt, alloc, module, jobs.count()) {
         Ok(valid) => Ok(valid),
         Err(Invalid::Module { rule }) => Err(refused(
             Status::Invalid,
-            rule_line(alloc, name, rule),
+            format!(in alloc; "error 8: {name} breaks rule {rule}\n"),
         )),
-        Err(Invalid::Body { func }) => Err(refused(Status::Invalid, body_line(alloc, name, func))),
+        Err(Invalid::Body { func }) => Err(refused(
+            Status::Invalid,
+            format!(in alloc; "error 8: {name} has an invalid body: function {func}\n"),
+        )),
         Err(Invalid::NoMemory) => Err(Refusal::NoMemory),
     }
-}
-
-fn rule_line(alloc: Global, name: &str, rule: u8) -> Result<String, AllocError>
-    ensures { IfOk result (λ line. string_bytes line ≡ rule_text name.now rule) }
-{
-    format!(in alloc; "error 8: {name} breaks rule {rule}\n")
-}
-
-fn body_line(alloc: Global, name: &str, func: u32) -> Result<String, AllocError>
-    ensures { IfOk result (λ line. string_bytes line ≡ body_text name.now func) }
-{
-    format!(in alloc; "error 8: {name} has an invalid body: function {func}\n")
 }
 
 // The module that these bytes spell, within the limits, valid or not.
@@ -307,34 +273,23 @@ fn fit_module(alloc: Global, name: &str, bytes: &[u8], limits: &Limits) -> Resul
     requires short { length bytes.now ≤ longest_file }
     requires nesting { limits.now.nesting ≤ deepest }
     ensures ok { IfOk result (λ m. IsFit limits.now bytes.now m) }
-    ensures refused { IfErr result (RefutedFile name.now limits.now bytes.now) }
+    ensures refused { IfErr result (Refuted (a_module limits.now) name.now bytes.now) }
 {
     match decode(alloc, bytes, limits) {
         Ok(module) => Ok(module),
-        Err(DecodeFault::Malformed { section }) => {
-            Err(refused(Status::Malformed, malformed_line(alloc, name, section)))
-        }
+        Err(DecodeFault::Malformed { section }) => Err(refused(
+            Status::Malformed,
+            format!(in alloc; "error 6: {name} is malformed in section {section}\n"),
+        )),
         Err(DecodeFault::Float { section }) => Err(refused(
             Status::Unfit,
-            floats_line(alloc, name, section),
+            format!(in alloc; "error 7: {name} uses floats in section {section}\n"),
         )),
         Err(DecodeFault::Limit { which, value }) => {
             Err(refused(Status::Unfit, limit_line(alloc, name, which, value)))
         }
         Err(DecodeFault::NoMemory) => Err(Refusal::NoMemory),
     }
-}
-
-fn malformed_line(alloc: Global, name: &str, section: u16) -> Result<String, AllocError>
-    ensures { IfOk result (λ line. string_bytes line ≡ malformed_text name.now section) }
-{
-    format!(in alloc; "error 6: {name} is malformed in section {section}\n")
-}
-
-fn floats_line(alloc: Global, name: &str, section: u16) -> Result<String, AllocError>
-    ensures { IfOk result (λ line. string_bytes line ≡ floats_text name.now section) }
-{
-    format!(in alloc; "error 7: {name} uses floats in section {section}\n")
 }
 
 fn limit_line(alloc: Global, name: &str, which: Which, value: u64) -> Result<String, AllocError>
@@ -360,22 +315,16 @@ fn name_of(which: Which) -> &'static str
 // Checks that these bytes, which stand under this name, are a trace.
 fn check_trace(alloc: Global, name: &str, bytes: &[u8]) -> Result<(), Refusal>
     ensures ok { OnOk result ((es : List Event) × IsTrace bytes.now es) }
-    ensures refused { IfErr result (RefutedTrace name.now bytes.now) }
+    ensures refused { IfErr result (Refuted a_trace name.now bytes.now) }
 {
     match read_through(alloc, bytes) {
         Ok(()) => Ok(()),
         Err(ReadTraceFault::NotTrace) => Err(refused(
             Status::NotTrace,
-            not_trace_line(alloc, name),
+            format!(in alloc; "error 19: {name} is not a trace\n"),
         )),
         Err(ReadTraceFault::NoMemory) => Err(Refusal::NoMemory),
     }
-}
-
-fn not_trace_line(alloc: Global, name: &str) -> Result<String, AllocError>
-    ensures { IfOk result (λ line. string_bytes line ≡ not_trace_text name.now) }
-{
-    format!(in alloc; "error 19: {name} is not a trace\n")
 }
 
 // Reads a trace to its end and keeps no event.

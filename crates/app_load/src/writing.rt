@@ -1,15 +1,14 @@
 // The writing of one file.
 
-ghost use Rattle.std.specs.Prelude.{◌≡◌, IfErr, IfOk, OnOk, string_bytes};
+ghost use Rattle.std.specs.Prelude.{IfErr, OnOk};
 ghost use Rattle.outside_io.specs.Outside.{OnlyWrote, Wrote};
-ghost use Rattle.app_load.specs.Texts.{unwritten_text};
 ghost use Rattle.app_load.specs.Writing.{PutCause};
 ghost use Rattle.app_load.specs.Outcomes.{refusal_status, refusal_text};
 
 use crate::printing::{Refusal, refused};
 use crate::status::Status;
 use outside_io::{Shelf, WriteFault};
-use std::alloc::{AllocError, Global};
+use std::alloc::Global;
 
 /// Writes `bytes` under `name`, in place of what stood there, with one call of the shelf. The refusal is `Unwritten` if
 /// the shelf fails, and `NoMemory` if memory runs out. After a refusal, the name is as before or has a prefix of the
@@ -21,13 +20,10 @@ pub fn put<S: Shelf>(alloc: Global, name: &str, bytes: &[u8], shelf: &mut S) -> 
 {
     match shelf.write(name, bytes) {
         Ok(()) => Ok(()),
-        Err(WriteFault::Failed) => Err(refused(Status::Unwritten, unwritten_line(alloc, name))),
+        Err(WriteFault::Failed) => Err(refused(
+            Status::Unwritten,
+            format!(in alloc; "error 5: {name} can't be written\n"),
+        )),
         Err(WriteFault::NoMemory) => Err(Refusal::NoMemory),
     }
-}
-
-fn unwritten_line(alloc: Global, name: &str) -> Result<String, AllocError>
-    ensures { IfOk result (λ line. string_bytes line ≡ unwritten_text name.now) }
-{
-    format!(in alloc; "error 5: {name} can't be written\n")
 }

@@ -1,8 +1,8 @@
 -- What was read, or why nothing was.
 use Rattle.std.proofs.Common.{length, ap, subst, arith}
-use Rattle.std.proofs.lemmas.Result.{IfErr-weaker, err_from_is_err_and}
+use Rattle.std.proofs.lemmas.Result.{err_from_is_err_and}
 use Rattle.app_load.specs.Files.{IsFit}
-use Rattle.app_load.specs.Wants.{AreKept, a_named_module, unread_no_memory}
+use Rattle.app_load.specs.Wants.{a_named_module, unread_no_memory}
 use Rattle.app_load.proofs.Loaded.{refuted_by}
 use Rattle.app_load.proofs.loading.load_named.Goals as goal
 

@@ -17,4 +17,4 @@ returns-clause-ok g c =
 pub returns-clause-refused : goal.returns-clause-refused
 returns-clause-refused g c =
     IfErr-weaker _ _ _ (λ r k. refuted_by a_script _ _ _ _ c.in_ok-bytes.bytes.items r (c.in_ok-bytes.ensures.ok a_script) k)
-    (rw c.as_slice.ensures.value at c.script_of.ensures.refused)
+    (rw c.as_slice.ensures.value at (c.script_of.ensures.refused c.args.name.now))

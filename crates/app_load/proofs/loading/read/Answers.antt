@@ -10,15 +10,15 @@ returns-in-Ok-clause-ok g c = λ want. record { there = c.in-Ok.ensures.given; s
 
 pub returns-in-Err-Missing-clause-refused : goal.returns-in-Err-Missing-clause-refused
 returns-in-Err-Missing-clause-refused g c = λ want.
-    read_refused _ _ _ 3 (missing_text c.args.name.now) _ (c.refused.ensures _ c.missing_line.ensures) (missing (search rules))
+    read_refused _ _ _ 3 (missing_text c.args.name.now) _ (c.refused.ensures _ c.format.ensures.ok) (missing (search rules))
 
 pub returns-in-Err-TooLong-clause-refused : goal.returns-in-Err-TooLong-clause-refused
 returns-in-Err-TooLong-clause-refused g c = λ want.
-    read_refused _ _ _ 3 (too_long_text c.args.name.now _) _ (c.refused-in-Err-TooLong.ensures _ c.too_long_line.ensures) (too_long _ (search rules))
+    read_refused _ _ _ 3 (too_long_text c.args.name.now _) _ (c.refused-in-Err-TooLong.ensures _ c.format-in-Err-TooLong.ensures.ok) (too_long _ (search rules))
 
 pub returns-in-Err-Failed-clause-refused : goal.returns-in-Err-Failed-clause-refused
 returns-in-Err-Failed-clause-refused g c = λ want.
-    read_refused _ _ _ 4 (unread_text c.args.name.now) _ (c.refused-in-Err-Failed.ensures _ c.unread_line.ensures) (unread (search rules))
+    read_refused _ _ _ 4 (unread_text c.args.name.now) _ (c.refused-in-Err-Failed.ensures _ c.format-in-Err-Failed.ensures.ok) (unread (search rules))
 
 pub returns-in-Err-NoMemory-clause-refused : goal.returns-in-Err-NoMemory-clause-refused
 returns-in-Err-NoMemory-clause-refused g c = λ want. unread_no_memory

@@ -7,7 +7,7 @@ use Rattle.app_load.proofs.writing.put.Goals as goal
 
 pub returns-in-Err-Failed-clause-refused : goal.returns-in-Err-Failed-clause-refused
 returns-in-Err-Failed-clause-refused g c =
-    told_as (PutCause c.args.name.now c.args.bytes.now _ _) 5 (unwritten_text c.args.name.now) _ (c.refused.ensures _ c.unwritten_line.ensures)
+    told_as (PutCause c.args.name.now c.args.bytes.now _ _) 5 (unwritten_text c.args.name.now) _ (c.refused.ensures _ c.format.ensures.ok)
     (put_failed (search rules) c.in-Err-Failed.ensures.part) (put_no_memory c.in-Err-Failed.ensures.part)
 
 pub returns-in-Err-NoMemory-clause-refused : goal.returns-in-Err-NoMemory-clause-refused
