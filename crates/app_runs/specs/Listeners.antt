@@ -13,7 +13,8 @@ use Rattle.call_tree.specs.declared.tree.TreeFault.{TreeFault}
 use Rattle.call_tree.specs.declared.tree.TreeFault.TheVariants as tree_faults
 use Rattle.call_tree.specs.State.{TreeState}
 use Rattle.call_tree.proofs.Unnested.{unnested_early}
-use Rattle.call_tree.proofs.Behind.{events_append, events_more, both_behind, number_behind, unnested_late, none_both}
+use Rattle.wasm_sem.proofs.Chosen.{events_append}
+use Rattle.call_tree.proofs.Behind.{events_more, both_behind, number_behind, unnested_late, none_both}
 use Rattle.shadow_replay.specs.Items.{AreFitFor, TakesAll, TakesFirst}
 use Rattle.shadow_replay.specs.Replayed.{Replay}
 use Rattle.shadow_replay.proofs.Taken.{takes_none, takes_then, fit_front, fit_rest, first_none, first_more, first_then}

@@ -12,10 +12,11 @@ use Rattle.wasm_sem.specs.Execution.{TraceItem, entry, event}
 use Rattle.wasm_run.specs.Running.{Run}
 use Rattle.run_session.specs.Sessions.{opened_run}
 use Rattle.static_info.specs.declared.Info.{Info}
-use Rattle.shadow_replay.specs.Fit.{ActsAt, AreShown, EndsAt, IsItemFit, StandsAt}
+use Rattle.shadow_replay.specs.Fit.{ActsAt, EndsAt, StandsAt}
+use Rattle.shadow_replay.specs.Events.{AreShown, IsItemFit, effect, effects}
 use Rattle.shadow_replay.specs.Opened.{opening_replay}
 use Rattle.shadow_replay.specs.Replayed.{Replay}
-use Rattle.shadow_replay.specs.Shadow.{Shadow, effect, effects}
+use Rattle.shadow_replay.specs.Shadow.{Shadow}
 use Rattle.shadow_replay.specs.Taint.{Watch}
 use Rattle.shadow_replay.proofs.FitSteps.{one_shown}
 use Rattle.shadow_replay.proofs.Shadows.{effects_append}

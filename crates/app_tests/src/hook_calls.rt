@@ -1,7 +1,7 @@
 // Hook calls of a function with a br_table inside three blocks, and their events.
 
 ghost use Rattle.std.specs.Prelude.{IfOk};
-ghost use Rattle.hook_events.specs.Words.{AreWords};
+ghost use Rattle.hook_mono.specs.Values.{AreWords};
 ghost use Rattle.static_info.specs.Form.{IsWellFormed};
 
 use hook_events::read_hook;

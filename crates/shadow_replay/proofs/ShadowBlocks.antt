@@ -1,6 +1,6 @@
 -- What the beginning of a block makes of a state that it is fit for.
-use Rattle.std.proofs.Common.{◌≡◌, ℤ, List, [], ◌∷◌, ◌++◌, Option, Some, None, Result, Ok, Err, IsSome, length, take, drop, refl, sym, ap, ◌∙◌, append-nil, subst}
-use Rattle.std.specs.Prelude.{OnOk, reverse, is_some}
+use Rattle.std.proofs.Common.{◌≡◌, ℤ, List, [], ◌∷◌, ◌++◌, Option, Some, None, IsSome, length, take, drop, refl, sym, ap, ◌∙◌, append-nil, subst}
+use Rattle.std.specs.Prelude.{reverse, is_some}
 use Rattle.std.proofs.lemmas.List.{reverse-reverse}
 use Rattle.wasm_sem.specs.Types.{BlockKind, Value, FuncType, Module, Loc}
 use Rattle.module_ast.specs.Validation.{push, block_type}
@@ -58,8 +58,3 @@ pub begun_at : (r old : Replay) (l : Loc) (b : Block) (o : Option Block) → r �
 begun_at r old l b o e h is fit =
     let found = sym h ∙ is in
     (found, block_begins r.module r.shadow.state l.instr b (subst (λ b. IsSome (begins_block r.module r.shadow.state l.instr b)) found (subst (λ (r : Replay). IsSome (block_begun l r)) (sym e) fit)))
-
--- what holds where it went well holds of what follows from it
-pub opens_ok : {A E : Type 0} {P Q : Type 0} (r : Result A E) → (P → Q) → OnOk r P → OnOk r Q
-opens_ok (Ok x) f h = f h
-opens_ok (Err e) f h = tt

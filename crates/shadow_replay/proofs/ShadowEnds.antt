@@ -9,7 +9,7 @@ use Rattle.shadow_replay.specs.declared.marked.Marked.{Marked}
 use Rattle.shadow_replay.specs.Shadow.{ShadowLabel, ShadowFrame, HeldValues, Shadow, have_types, types_of, swap, swap_in, with_operands, branch_values, with_held, with_results, holds, holds_results, drops_last, drops_label}
 use Rattle.shadow_replay.specs.Stacked.{values_in, marks_in, Standing, Has, HasLabel, exchanged_in, exchanged, arity_in, outer_count, operand_count, top_operands, frame_left, label_landed, AreOperandsBelow}
 use Rattle.shadow_replay.specs.Tainted.{ShadowMarks, TaintedShadow, held_arity, holds_marks, holds_results_marks, drops_marks, takes_given_marks, with_marks}
-use Rattle.shadow_replay.specs.Replayed.{Replay, EndsLabel, TakesGiven, below, held_below, held_in, with_standing, standing_in, ended_in, ended, given_taken}
+use Rattle.shadow_replay.specs.Replayed.{below, held_below, held_in, with_standing, standing_in, ended_in, ended, given_taken}
 use Rattle.shadow_replay.proofs.ShadowTakes.{some_if, Popped, popped, push_is}
 use Rattle.shadow_replay.proofs.StackReads.{map-reverse}
 
@@ -220,20 +220,6 @@ module _ (sh : TaintedShadow) (ms : List Marked) where
         state = record sh.state { frames = exchanged_in 0 (values_in (reverse ms)) sh.state.frames; given = None };
         marks = record sh.marks { taint = record sh.marks.taint { operands = ks ++ sh.marks.taint.operands }; given = [] };
       }) in r)) (g ∙ marked ms))
-
--- ---- what a shadow is seen as
-
-pub ends : (seen old : Replay) (next : TaintedShadow) → seen ≡ old → ended seen.shadow ≡ Some next → EndsLabel old (record seen { shadow = next })
-ends seen old next e h = record {
-  effect = subst (λ (r : Replay). ended r.shadow ≡ Some next) e h;
-  rest = ap (λ (r : Replay). (let s : Replay = record r { shadow = next } in s)) e;
-}
-
-pub takes_given : (seen old : Replay) (next : TaintedShadow) → seen ≡ old → given_taken seen.shadow ≡ Some next → TakesGiven old (record seen { shadow = next })
-takes_given seen old next e h = record {
-  effect = subst (λ (r : Replay). given_taken r.shadow ≡ Some next) e h;
-  rest = ap (λ (r : Replay). (let s : Replay = record r { shadow = next } in s)) e;
-}
 
 -- what is told of a call that did not fail
 pub on_ok : {A E P : Type 0} (r : Result A E) → is_ok r ≡ true → OnOk r P → P

@@ -9,13 +9,14 @@ use Rattle.wasm_num.specs.declared.ValType.TheVariants as types
 use Rattle.wasm_sem.specs.Execution.{Callee, callee_type, callees_of, pop_values, same_func_type, entry}
 use Rattle.wasm_sem.proofs.Straight.{some_is}
 use Rattle.shadow_replay.specs.declared.marked.Marked.{Marked}
-use Rattle.shadow_replay.specs.Shadow.{ShadowFrame, Shadow, have_types, with_prepared, takes_arguments, calls_callee, calls_typed, swap, prepared_locals, prepared_typed, prepared_slot, enters, effect}
+use Rattle.shadow_replay.specs.Shadow.{ShadowFrame, Shadow, have_types, with_prepared, takes_arguments, calls_callee, calls_typed, swap, prepared_locals, prepared_typed, prepared_slot, enters}
+use Rattle.shadow_replay.specs.Events.{effect, tainted_effect}
 use Rattle.shadow_replay.specs.Stacked.{values_in, marks_in, Has, exchanged_in, exchanged, top_operands, AreOperandsBelow}
 use Rattle.shadow_replay.specs.Taint.{Watch, each_marked, exchange, no_frames}
-use Rattle.shadow_replay.specs.Tainted.{PreparedMarks, TaintedShadow, move, calls_marks, calls_typed_marks, enters_marks, local_marks, prepared_marks, typed_marks, slot_marks, with_marks, tainted_effect}
+use Rattle.shadow_replay.specs.Tainted.{PreparedMarks, TaintedShadow, move, calls_marks, calls_typed_marks, enters_marks, local_marks, prepared_marks, typed_marks, slot_marks, with_marks}
 use Rattle.shadow_replay.specs.Resolved.{begun_with}
-use Rattle.shadow_replay.specs.Replayed.{Replay, PreparedLocals, with_standing, standing_in, marked_values, values_prepared, marks_prepared, Prepares, called_through}
-use Rattle.shadow_replay.proofs.ShadowTakes.{some_if, popped, Swaps, swapped}
+use Rattle.shadow_replay.specs.Replayed.{Replay, PreparedLocals, with_standing, standing_in, marked_values, values_prepared, marks_prepared, Prepares, called_through, slot_called}
+use Rattle.shadow_replay.proofs.ShadowTakes.{some_if, inner_some, popped, Swaps, swapped}
 use Rattle.shadow_replay.proofs.ShadowHosts.{marked_is, marked_so}
 use Rattle.shadow_replay.proofs.ZeroLocals.{begun_values, begun_marks}
 
@@ -99,10 +100,6 @@ found_at {A} xs i x h e = go (slice_get xs i) refl h
     go None q h = absurd cc
     go (Some y) q h = ap (λ z. Some z) (sym (e ∙ get_or_from_slice_get xs i y x q))
 
-inner_some : {A : Type 0} (change : A → Option Shadow) (o : Option A) → IsSome (option_and_then change o) → IsSome o
-inner_some change None h = absurd cc
-inner_some change (Some a) h = refl
-
 has_more : (n : ℕ) (fs : List ShadowFrame) → Has 1 fs → Has n (exchanged_in 1 [] fs) → Has (1 + n) fs
 has_more n [] h k = absurd h
 has_more n (fr ∷ below) h k = omega (arith, h, k, length-drop 1 fr.top.ops)
@@ -158,20 +155,23 @@ calling_slot n p sh = record {
   marks = record (with_standing (exchanged n [] (standing_in sh)) sh).marks { prepared = marks_prepared p };
 }
 
-pub slot_is : (m : Module) (l : Loc) (f : Option ℕ) (ty : FuncType) (sh : TaintedShadow) (ms : List Marked) (p : Option PreparedLocals) → IsSome (option_and_then (calls_typed m f (Some ty)) (swap (types.I32 ∷ []) [] sh.state))
-    → AreOperandsBelow 1 (length ty.params) ms (standing_in sh) → values_prepared p ≡ prepared_slot m ty f (values_in ms) → marks_prepared p ≡ slot_marks m l ty f (marks_in ms)
-    → with_marks (calls_typed_marks m l f (Some ty) (move (exchange 1 []) sh.marks)) (option_and_then (calls_typed m f (Some ty)) (swap (types.I32 ∷ []) [] sh.state)) ≡ Some (calling_slot (1 + length ty.params) p sh)
-slot_is m l f ty sh ms p h r e g =
-    let n = length ty.params in
+pub slot_is : (l : Loc) (f : Option ℕ) (asked : FuncType) (ty : ℕ) (r : Replay) (ms : List Marked) (p : Option PreparedLocals) → IsSome (called_through ty f r) → asked ≡ get_or r.module.types ty asked
+    → AreOperandsBelow 1 (length asked.params) ms (standing_in r.shadow) → Prepares l asked f ms r p → slot_called l ty f r ≡ Some (calling_slot (1 + length asked.params) p r.shadow)
+slot_is l f asked ty r ms p there listed below prepared =
+    let m = r.module in
+    let sh = r.shadow in
+    let room = slot_room r ty f asked there listed in
+    let n = length asked.params in
     let with_prepared : Option (List Value) → Option PreparedMarks → List Bool → Option TaintedShadow = λ vs ks o. Some (record {
       state = record sh.state { frames = exchanged_in (1 + n) [] sh.state.frames; prepared = vs };
       marks = record sh.marks { taint = record sh.marks.taint { operands = o }; prepared = ks };
     }) in
     let o = sh.marks.taint.operands in
-    ap (with_marks (calls_typed_marks m l f (Some ty) (move (exchange 1 []) sh.marks))) (slot_state m f ty sh.state h)
-    ∙ (ap (λ vs. with_prepared vs (slot_marks m l ty f (reverse (take n (drop 1 o)))) (drop n (drop 1 o))) (ap (prepared_slot m ty f) (sym r.values) ∙ sym e)
-    ∙ (ap (λ ks. with_prepared (values_prepared p) ks (drop n (drop 1 o))) (ap (slot_marks m l ty f) (sym r.marks) ∙ sym g)
-    ∙ ap (with_prepared (values_prepared p) (marks_prepared p)) (drop-drop n 1 o)))
+    ap (λ t. with_marks (calls_typed_marks m l f t (move (exchange 1 []) sh.marks)) (option_and_then (calls_typed m f t) (swap (types.I32 ∷ []) [] sh.state))) room.type
+    ∙ (ap (with_marks (calls_typed_marks m l f (Some asked) (move (exchange 1 []) sh.marks))) (slot_state m f asked sh.state room.fit)
+    ∙ (ap (λ vs. with_prepared vs (slot_marks m l asked f (reverse (take n (drop 1 o)))) (drop n (drop 1 o))) (ap (prepared_slot m asked f) (sym below.values) ∙ sym prepared.values)
+    ∙ (ap (λ ks. with_prepared (values_prepared p) ks (drop n (drop 1 o))) (ap (slot_marks m l asked f) (sym below.marks) ∙ sym prepared.marks)
+    ∙ ap (with_prepared (values_prepared p) (marks_prepared p)) (drop-drop n 1 o))))
 
 -- ---- what a call through a slot prepares
 

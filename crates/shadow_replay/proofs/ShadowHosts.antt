@@ -10,10 +10,11 @@ use Rattle.wasm_sem.specs.Execution.{written_memory, Callee, host, hook, own, ca
 use Rattle.wasm_sem.proofs.Straight.{some_is}
 use Rattle.shadow_replay.specs.declared.Warning.{Warning}
 use Rattle.shadow_replay.specs.declared.marked.Marked.{Marked}
-use Rattle.shadow_replay.specs.Shadow.{Shadow, have_types, if_true, lie_within, answers, effect}
+use Rattle.shadow_replay.specs.Shadow.{Shadow, have_types, if_true, lie_within, answers}
+use Rattle.shadow_replay.specs.Events.{effect, tainted_effect}
 use Rattle.shadow_replay.specs.Stacked.{values_in, marks_in, Standing}
 use Rattle.shadow_replay.specs.Taint.{Watch, is_watched, each_marked, unmarked_by}
-use Rattle.shadow_replay.specs.Tainted.{TaintedShadow, answers_marks, with_marks, tainted_effect}
+use Rattle.shadow_replay.specs.Tainted.{TaintedShadow, answers_marks, with_marks}
 use Rattle.shadow_replay.specs.Replayed.{PreparedLocals, HeldOperands, shadow_seen, marked_values, marks_prepared, call_warnings, answered}
 
 -- ---- values with one mark

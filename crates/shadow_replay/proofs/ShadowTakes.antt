@@ -14,10 +14,11 @@ use Rattle.shadow_replay.specs.declared.Warning.{Warning}
 use Rattle.shadow_replay.specs.declared.marked.Marked.{Marked}
 use Rattle.wasm_sem.specs.Execution.{pop_values, TraceItem, event}
 use Rattle.wasm_sem.proofs.Straight.{some_is}
-use Rattle.shadow_replay.specs.Shadow.{ShadowFrame, Shadow, have_types, have_type, if_true, if_alike, if_there, writes_global, event_effect, with_operands, with_swapped, swap_in, swap}
-use Rattle.shadow_replay.specs.Taint.{Watch, join, nth_mark, read_mark}
-use Rattle.shadow_replay.specs.Tainted.{TaintedShadow, with_marks, move, item_marks, tainted_effect}
-use Rattle.shadow_replay.specs.Replayed.{Replay, with_standing, standing_in, PreparedLocals, HeldOperands, shadow_seen, TakesItem, MovesStanding, number_effect, joined}
+use Rattle.shadow_replay.specs.Shadow.{ShadowFrame, Shadow, have_types, have_type, if_true, if_alike, if_there, writes_global, with_operands, with_swapped, swap_in, swap}
+use Rattle.shadow_replay.specs.Events.{event_effect, item_marks, tainted_effect}
+use Rattle.shadow_replay.specs.Taint.{Watch, join, some_marked, nth_mark, read_mark}
+use Rattle.shadow_replay.specs.Tainted.{TaintedShadow, with_marks, move}
+use Rattle.shadow_replay.specs.Replayed.{Replay, with_standing, standing_in, PreparedLocals, HeldOperands, shadow_seen, Becomes, TakesItem, number_effect, number_taken}
 use Rattle.shadow_replay.specs.Stacked.{values_in, marks_in, Standing, Has, exchanged_in, exchanged}
 
 -- where something is tested and there
@@ -28,6 +29,11 @@ some_if false x h = absurd cc
 pub some_alike : (old : Option Value) (v : Value) (x : Option Shadow) → IsSome (if_alike old v x) → if_alike old v x ≡ x
 some_alike None v x h = absurd cc
 some_alike (Some old) v x h = (some_if (have_type (type_of old) v) x h).0
+
+-- what leads on is there
+pub inner_some : {A : Type 0} (change : A → Option Shadow) (o : Option A) → IsSome (option_and_then change o) → IsSome o
+inner_some change None h = absurd cc
+inner_some change (Some a) h = refl
 
 -- ---- operands
 
@@ -73,27 +79,27 @@ swapped ts vs sh h = let r = swap_frames ts vs sh sh.frames h in record { has = 
 
 -- ---- items
 
-pub takes : (i : TraceItem) (seen old new : Replay) → seen ≡ old → tainted_effect seen.module seen.limit seen.watch seen.shadow i ≡ Some new.shadow → new.module ≡ seen.module → new.limit ≡ seen.limit → new.watch ≡ seen.watch → TakesItem i old new
-takes i seen old new e h m l w = record {
-  effect = subst (λ (r : Replay). tainted_effect r.module r.limit r.watch r.shadow i ≡ Some new.shadow) e h;
+-- what is made of a state that is seen so
+pub becomes : (of : Replay → Option TaintedShadow) (seen old new : Replay) → seen ≡ old → of seen ≡ Some new.shadow → new.module ≡ seen.module → new.limit ≡ seen.limit → new.watch ≡ seen.watch → Becomes (of old) old new
+becomes of seen old new e h m l w = record {
+  effect = subst (λ (r : Replay). of r ≡ Some new.shadow) e h;
   «module» = m ∙ ap (λ (r : Replay). r.module) e;
   limit = l ∙ ap (λ (r : Replay). r.limit) e;
   watch = w ∙ ap (λ (r : Replay). r.watch) e;
 }
 
+pub takes : (i : TraceItem) (seen old new : Replay) → seen ≡ old → tainted_effect seen.module seen.limit seen.watch seen.shadow i ≡ Some new.shadow → new.module ≡ seen.module → new.limit ≡ seen.limit → new.watch ≡ seen.watch → TakesItem i old new
+takes i = becomes (λ (r : Replay). tainted_effect r.module r.limit r.watch r.shadow i)
+
 pub number_is : (op : NumOp) (r : Value) (sh : Shadow) → IsSome (number_effect op r sh) → Swaps (num_operands op) (r ∷ []) sh
 number_is op r sh h = swapped (num_operands op) (r ∷ []) sh (some_if (have_type (num_result op) r) (swap (num_operands op) (r ∷ []) sh) h).1
 
-pub number_takes : (op : NumOp) (r : Value) (i : TraceItem) (old new : Replay) → IsSome (number_effect op r old.shadow.state) → MovesStanding (exchanged (length (num_operands op)) (joined op r old.shadow ∷ [])) old new
-    → tainted_effect old.module old.limit old.watch old.shadow i ≡ with_marks (move (join (length (num_operands op))) old.shadow.marks) (number_effect op r old.shadow.state) → TakesItem i old new
-number_takes op r i old new h e q =
-    let joined_marks = move (join (length (num_operands op))) old.shadow.marks in
-    record {
-      effect = q ∙ (ap (with_marks joined_marks) ((some_if (have_type (num_result op) r) (swap (num_operands op) (r ∷ []) old.shadow.state) h).0 ∙ (number_is op r old.shadow.state h).is) ∙ ap (λ (r : Replay). Some r.shadow) (sym e));
-      «module» = ap (λ (r : Replay). r.module) e;
-      limit = ap (λ (r : Replay). r.limit) e;
-      watch = ap (λ (r : Replay). r.watch) e;
-    }
+pub number_takes : (op : NumOp) (r : Value) (k : Bool) (n : ℕ) (st : Standing) (sh : TaintedShadow) → IsSome (number_effect op r sh.state) → n ≡ length (num_operands op) → k ≡ some_marked (take n sh.marks.taint.operands)
+    → st ≡ exchanged n (record { value = r; mark = k } ∷ []) (standing_in sh) → number_taken op r sh ≡ Some (with_standing st sh)
+number_takes op r k n st sh h count mark is =
+    let after : ℕ → Bool → Option TaintedShadow = λ n k. Some (with_standing (exchanged n (record { value = r; mark = k } ∷ []) (standing_in sh)) sh) in
+    ap (with_marks (move (join (length (num_operands op))) sh.marks)) ((some_if (have_type (num_result op) r) (swap (num_operands op) (r ∷ []) sh.state) h).0 ∙ (number_is op r sh.state h).is)
+    ∙ (ap (λ n. after n (some_marked (take n sh.marks.taint.operands))) (sym count) ∙ (ap (after n) (sym mark) ∙ ap (λ st. Some (with_standing st sh)) (sym is)))
 
 -- a global that is there is set to what stands on top
 module _ (m : Module) (limit : ℕ) (w : Watch) (memory : List ℕ) (ks : List Bool) (gs : List Marked) (st st2 : Standing) (p : Option PreparedLocals) (h : Option HeldOperands) (g : Option (List Marked)) (ws : List Warning) where
@@ -102,7 +108,7 @@ module _ (m : Module) (limit : ℕ) (w : Watch) (memory : List ℕ) (ks : List B
   global_set l x v k fit e q =
       let sh = (shadow_seen memory ks gs st p h g ws).state in
       let marks2 = item_marks m w sh (event (events.Global l Set x v)) (shadow_seen memory ks gs st p h g ws).marks in
-      let there = after_swap (swap (type_of v ∷ []) [] sh) refl fit in
+      let there = inner_some (writes_global x v) (swap (type_of v ∷ []) [] sh) fit in
       let s = swapped (type_of v ∷ []) [] sh there in
       let next : Shadow = record sh { frames = exchanged_in 1 [] st.frames } in
       let written = some_alike (slice_get (values_in gs) x) v (Some (record next { globals = set (values_in gs) x v })) (subst (λ o. IsSome (option_and_then (writes_global x v) o)) s.is fit) in
@@ -116,10 +122,6 @@ module _ (m : Module) (limit : ℕ) (w : Watch) (memory : List ℕ) (ks : List B
         state = record (shadow_seen memory ks gs st p h g ws).state { globals = vs };
         marks = record (shadow_seen memory ks gs st p h g ws).marks { taint = record (shadow_seen memory ks gs st p h g ws).marks.taint { globals = bs } };
       })
-
-      after_swap : (o : Option Shadow) → swap (type_of v ∷ []) [] (shadow_seen memory ks gs st p h g ws).state ≡ o → IsSome (option_and_then (writes_global x v) o) → IsSome o
-      after_swap None e h = absurd cc
-      after_swap (Some sh) e h = refl
 
 some_there : {A : Type 0} (a : Option A) (x : Option Shadow) → IsSome (if_there a x) → if_there a x ≡ x
 some_there None x h = absurd cc

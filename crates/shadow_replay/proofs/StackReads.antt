@@ -7,11 +7,7 @@ use Rattle.shadow_replay.specs.declared.marked.Marked.{Marked}
 use Rattle.shadow_replay.specs.Shadow.{ShadowLabel, ShadowFrame}
 use Rattle.shadow_replay.specs.Tainted.{held_arity}
 use Rattle.shadow_replay.specs.Stacked.{values_in, KeptLabel, KeptFrame, labels_in, operands_in, labels_kept, AreFramesKept, Standing, standing, AreWellKept, Has, HasLabel, outer_count, arity_in, top_operands, AreOperandsBelow}
-use Rattle.shadow_replay.proofs.Stacks.{lying, reverse-take, reverse-cut, has_values}
-
-spots_length : (ls : List ShadowLabel) → length (labels_kept ls) ≡ length ls
-spots_length [] = refl
-spots_length (l ∷ ls) = ap suc (spots_length ls)
+use Rattle.shadow_replay.proofs.Stacks.{spots_length, lying, reverse-take, reverse-cut, has_values}
 
 -- ---- labels of the innermost frame
 

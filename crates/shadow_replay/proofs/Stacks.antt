@@ -25,6 +25,10 @@ reverse-cut xs ys n len e h g =
 
 -- ---- what is kept is read again
 
+pub spots_length : (ls : List ShadowLabel) → length (labels_kept ls) ≡ length ls
+spots_length [] = refl
+spots_length (l ∷ ls) = ap suc (spots_length ls)
+
 -- the operands of the first label, and those below
 cut_top : (a b : List Value) → length (a ++ b) - length b ≡ length a
 cut_top a b = omega (arith, length-append a b)
@@ -244,10 +248,6 @@ module _ (os : List Marked) (ss : List KeptLabel) (bs : List KeptFrame) (st : St
     where
       function : ℕ → ℕ → KeptLabel
       function a n = record { kind = kinds.Function; begin = negsuc 0; arity = a; height = n }
-
-      spots_length : (ls : List ShadowLabel) → length (labels_kept ls) ≡ length ls
-      spots_length [] = refl
-      spots_length (l ∷ ls) = ap suc (spots_length ls)
 
   -- a frame that is left
   left_lies : (vs : List Value) (ss : List KeptLabel) (bs : List KeptFrame) (fs : List ShadowFrame) → IsOutermost fs → AreFramesKept vs ss bs fs → AreFramesKept (drop (operand_count fs) vs) (drop 1 ss) (drop 1 bs) (drop 1 fs)

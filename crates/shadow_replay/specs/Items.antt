@@ -1,10 +1,9 @@
 -- Items, and how they change a shadow.
 use Rattle.std.specs.Prelude.{◌≡◌, List, ◌∷◌, ◌++◌, Some}
 use Rattle.wasm_sem.specs.Execution.{TraceItem}
-use Rattle.shadow_replay.specs.Fit.{IsItemFit}
+use Rattle.shadow_replay.specs.Events.{IsItemFit, effects, tainted_effects}
 use Rattle.shadow_replay.specs.Replayed.{Replay}
-use Rattle.shadow_replay.specs.Shadow.{Shadow, effects}
-use Rattle.shadow_replay.specs.Tainted.{tainted_effects}
+use Rattle.shadow_replay.specs.Shadow.{Shadow}
 
 -- each item is fit for the state that the items before it make
 abbrev pub AreFitFor : Replay → List TraceItem → Type 0

@@ -1,21 +1,21 @@
 -- What contracts see of a shadow: a state with its marks, the module, the bound on its pages, and which imports are
 -- watched.
-use Rattle.std.specs.Prelude.{◌≡◌, ℕ, List, [], ◌∷◌, length, map, reverse, take, drop, slice_get, Option, Some, None, option_map, option_and_then, IsSome, Bool}
+use Rattle.std.specs.Prelude.{◌≡◌, ℕ, List, [], ◌∷◌, length, map, reverse, slice_get, Option, Some, None, option_map, option_and_then, IsSome, Bool}
 use Rattle.wasm_num.specs.declared.ValType.TheVariants as types
 use Rattle.wasm_sem.specs.Types.{NumOp, Value, FuncType, Loc, Module, StoreOp, Event}
 use Rattle.wasm_num.specs.Shapes.{num_operands, num_result}
 use Rattle.module_ast.specs.Memory.{with_bytes, store_bytes, grown_memory}
 use Rattle.module_ast.specs.Validation.{store_width}
-use Rattle.hook_select.specs.declared.Event.TheVariants as events
 use Rattle.wasm_sem.specs.declared.HostWrite.{HostWrite}
 use Rattle.wasm_sem.specs.Execution.{TraceItem, host_call, callees_of}
 use Rattle.shadow_replay.specs.declared.Warning.{Warning}
 use Rattle.shadow_replay.specs.declared.marked.Marked.{Marked}
 use Rattle.shadow_replay.specs.Blocks.{block_at}
-use Rattle.shadow_replay.specs.Shadow.{ShadowFrame, Shadow, have_type, if_true, swap, holds, drops_label, begins_block, begins_function, calls_callee, calls_typed, prepared_slot, event_effect}
-use Rattle.shadow_replay.specs.Stacked.{values_in, marks_in, Standing, exchanged_in, arity_in, top_operands}
-use Rattle.shadow_replay.specs.Taint.{Watch, some_marked, exchange, mark_bytes, add_pages, warnings_by}
-use Rattle.shadow_replay.specs.Tainted.{PreparedMarks, TaintedShadow, move, drops_marks, takes_given_marks, begins_marks, calls_marks, calls_typed_marks, slot_marks, with_marks, tainted_effect}
+use Rattle.shadow_replay.specs.Shadow.{ShadowFrame, Shadow, have_type, if_true, swap, holds, drops_label, begins_block, begins_function, calls_callee, calls_typed, prepared_slot}
+use Rattle.shadow_replay.specs.Events.{event_effect, tainted_effect}
+use Rattle.shadow_replay.specs.Stacked.{values_in, marks_in, Standing, exchanged_in, arity_in, AreOperandsBelow}
+use Rattle.shadow_replay.specs.Taint.{Watch, exchange, join, mark_bytes, add_pages, warnings_by}
+use Rattle.shadow_replay.specs.Tainted.{PreparedMarks, TaintedShadow, move, holds_marks, drops_marks, takes_given_marks, calls_typed_marks, slot_marks, with_marks}
 
 pub record Replay : Type 0 where
   pub «module» : Module
@@ -82,54 +82,26 @@ standing_in sh = record { frames = sh.state.frames; operands = sh.marks.taint.op
 abbrev pub with_marked_memory : (bytes : List ℕ) → List Bool → TaintedShadow → TaintedShadow
 with_marked_memory bytes ks sh = record { state = record sh.state { memory = bytes }; marks = record sh.marks { taint = record sh.marks.taint { memory = ks } } }
 
--- an item changes the state, and nothing else
-pub record TakesItem (i : TraceItem) (old new : Replay) : Type 0 where
-  pub effect : tainted_effect old.module old.limit old.watch old.shadow i ≡ Some new.shadow
+-- the state becomes this one, and nothing else changes
+pub record Becomes (sh : Option TaintedShadow) (old new : Replay) : Type 0 where
+  pub effect : sh ≡ Some new.shadow
   pub «module» : new.module ≡ old.module
   pub limit : new.limit ≡ old.limit
   pub watch : new.watch ≡ old.watch
 
+abbrev pub TakesItem : TraceItem → (old new : Replay) → Type 0
+TakesItem i old new = Becomes (tainted_effect old.module old.limit old.watch old.shadow i) old new
+
 abbrev pub IsFitEvent : Event → Replay → Type 0
 IsFitEvent e r = IsSome (event_effect r.module r.limit r.shadow.state e)
-
--- events of instructions that concern only operands
-abbrev pub IsOnOperands : Event → Type 0
-IsOnOperands (events.If p x) = Unit {0}
-IsOnOperands (events.Const p v) = Unit {0}
-IsOnOperands (events.Unary p op a r) = Unit {0}
-IsOnOperands (events.Binary p op a b r) = Unit {0}
-IsOnOperands (events.Drop p v) = Unit {0}
-IsOnOperands (events.Select p a b x) = Unit {0}
-IsOnOperands (events.MemorySize p n) = Unit {0}
-IsOnOperands _ = ⊥
-
--- events of instructions on variables
-abbrev pub IsOnLocal : Event → Type 0
-IsOnLocal (events.Local p op x v) = Unit {0}
-IsOnLocal _ = ⊥
-
-abbrev pub IsOnGlobal : Event → Type 0
-IsOnGlobal (events.Global p op x v) = Unit {0}
-IsOnGlobal _ = ⊥
-
--- events of instructions on the memory
-abbrev pub IsOnMemory : Event → Type 0
-IsOnMemory (events.Load p op offset a v) = Unit {0}
-IsOnMemory (events.Store p op offset a v) = Unit {0}
-IsOnMemory (events.MemoryGrow p by previous) = Unit {0}
-IsOnMemory _ = ⊥
-
--- the operands, labels and frames change in this way, and nothing else changes
-abbrev pub MovesStanding : (Standing → Standing) → (old new : Replay) → Type 0
-MovesStanding change old new = new ≡ record old { shadow = with_standing (change (standing_in old.shadow)) old.shadow }
 
 -- what the event of a number instruction makes of a state
 abbrev pub number_effect : NumOp → (result : Value) → Shadow → Option Shadow
 number_effect op r sh = if_true (have_type (num_result op) r) (swap (num_operands op) (r ∷ []) sh)
 
--- the result of a number instruction, which is marked if one of its operands is
-abbrev pub joined : NumOp → (result : Value) → TaintedShadow → Marked
-joined op r sh = record { value = r; mark = some_marked (take (length (num_operands op)) sh.marks.taint.operands) }
+-- and of its marks
+abbrev pub number_taken : NumOp → (result : Value) → TaintedShadow → Option TaintedShadow
+number_taken op r sh = with_marks (move (join (length (num_operands op))) sh.marks) (number_effect op r sh.state)
 
 -- the memory has `by` pages more
 pub record Grows (by : ℕ) (old new : Replay) : Type 0 where
@@ -145,13 +117,6 @@ pub record StoresBytes (address : ℕ) (op : StoreOp) (value : Value) (mark : Bo
   pub rest : new ≡ record old { shadow = with_marked_memory new.shadow.state.memory (mark_bytes address (store_width op) mark old.shadow.marks.taint).memory old.shadow }
 
 -- ---- branches and ends
-
-abbrev pub IsBranch : Event → Type 0
-IsBranch (events.Br p n target) = Unit {0}
-IsBranch (events.BrIf p n target x) = Unit {0}
-IsBranch (events.BrTable p x n target) = Unit {0}
-IsBranch (events.Return p vs) = Unit {0}
-IsBranch _ = ⊥
 
 -- the state without the topmost `count` operands
 abbrev pub below : (count : ℕ) → Shadow → Shadow
@@ -170,9 +135,15 @@ held_in n ms sh = record {
 -- a branch to a label holds the values that it takes, which are below the topmost `above` operands
 pub record HoldsValues (label above : ℕ) (old new : Replay) : Type 0 where
   pub operands : List Marked
-  pub values : values_in operands ≡ reverse (take (arity_in label old.shadow.state.frames) (drop above (top_operands old.shadow.state.frames)))
-  pub marks : marks_in operands ≡ reverse (take (arity_in label old.shadow.state.frames) (drop above old.shadow.marks.taint.operands))
+  pub below : AreOperandsBelow above (arity_in label old.shadow.state.frames) operands (standing_in old.shadow)
   pub is : new ≡ record old { shadow = held_in label operands old.shadow }
+
+-- a branch holds them, below a condition or an index on top, which goes
+abbrev pub held_under : (label : ℕ) → Shadow → Option Shadow
+held_under n sh = option_and_then (λ (sh : Shadow). holds n sh.frames sh) (swap (types.I32 ∷ []) [] sh)
+
+abbrev pub branch_taken : (label : ℕ) → TaintedShadow → Option TaintedShadow
+branch_taken n sh = with_marks (holds_marks n sh.state.frames (move (exchange 1 []) sh.marks)) (held_under n sh.state)
 
 -- what the end of the innermost label makes of a state
 abbrev pub ended_in : List ShadowFrame → TaintedShadow → Option TaintedShadow
@@ -182,63 +153,30 @@ ended_in (fr ∷ below) sh = with_marks (drops_marks fr sh.state.held sh.marks) 
 abbrev pub ended : TaintedShadow → Option TaintedShadow
 ended sh = ended_in sh.state.frames sh
 
-pub record EndsLabel (old new : Replay) : Type 0 where
-  pub effect : ended old.shadow ≡ Some new.shadow
-  pub rest : new ≡ record old { shadow = new.shadow }
-
 -- the values that a call gave are put on top
 abbrev pub given_taken : TaintedShadow → Option TaintedShadow
 given_taken sh = with_marks (takes_given_marks sh.marks) (option_and_then (λ (vs : List Value). swap [] vs (record sh.state { given = None })) sh.state.given)
 
-pub record TakesGiven (old new : Replay) : Type 0 where
-  pub effect : given_taken old.shadow ≡ Some new.shadow
-  pub rest : new ≡ record old { shadow = new.shadow }
-
--- events of ends, and events behind calls
-abbrev pub IsReturn : Event → Type 0
-IsReturn (events.End p kind begin) = Unit {0}
-IsReturn (events.CallPost p vs) = Unit {0}
-IsReturn _ = ⊥
-
 -- ---- calls
-
--- events of calls
-abbrev pub IsCallEvent : Event → Type 0
-IsCallEvent (events.CallPre p f args) = Unit {0}
-IsCallEvent (events.IndirectPre p ty slot f args) = Unit {0}
-IsCallEvent _ = ⊥
 
 -- a function begins whose locals are prepared
 abbrev pub function_begun : (func : ℕ) → Replay → Option Shadow
 function_begun f r = begins_function r.shadow.state f (slice_get (callees_of r.module) f) r.shadow.state.prepared
 
-pub record BeginsFunction (func : ℕ) (old new : Replay) : Type 0 where
-  pub effect : with_marks (begins_marks old.shadow.marks) (function_begun func old) ≡ Some new.shadow
-  pub rest : new ≡ record old { shadow = new.shadow }
-
 -- a block begins
 abbrev pub block_begun : Loc → Replay → Option Shadow
 block_begun l r = begins_block r.module r.shadow.state l.instr (block_at r.module l)
-
-pub record BeginsBlock (loc : Loc) (old new : Replay) : Type 0 where
-  pub effect : with_marks old.shadow.marks (block_begun loc old) ≡ Some new.shadow
-  pub rest : new ≡ record old { shadow = new.shadow }
 
 -- a call takes its arguments off the stack
 abbrev pub called : (func : ℕ) → Replay → Option Shadow
 called f r = calls_callee r.shadow.state (slice_get (callees_of r.module) f)
 
-pub record CallsFunction (loc : Loc) (func : ℕ) (old new : Replay) : Type 0 where
-  pub effect : with_marks (calls_marks loc (slice_get (callees_of old.module) func) old.shadow.marks) (called func old) ≡ Some new.shadow
-  pub rest : new ≡ record old { shadow = new.shadow }
-
 -- a call through a slot takes the number of the slot and its arguments off the stack
 abbrev pub called_through : (ty : ℕ) → (func : Option ℕ) → Replay → Option Shadow
 called_through ty f r = option_and_then (calls_typed r.module f (slice_get r.module.types ty)) (swap (types.I32 ∷ []) [] r.shadow.state)
 
-pub record CallsSlot (loc : Loc) (ty : ℕ) (func : Option ℕ) (old new : Replay) : Type 0 where
-  pub effect : with_marks (calls_typed_marks old.module loc func (slice_get old.module.types ty) (move (exchange 1 []) old.shadow.marks)) (called_through ty func old) ≡ Some new.shadow
-  pub rest : new ≡ record old { shadow = new.shadow }
+abbrev pub slot_called : Loc → (ty : ℕ) → (func : Option ℕ) → Replay → Option TaintedShadow
+slot_called l ty f r = with_marks (calls_typed_marks r.module l f (slice_get r.module.types ty) (move (exchange 1 []) r.shadow.marks)) (called_through ty f r)
 
 -- what a call through a slot prepares for the function in the slot
 pub record Prepares (loc : Loc) (asked : FuncType) (func : Option ℕ) (args : List Marked) (r : Replay) (p : Option PreparedLocals) : Type 0 where

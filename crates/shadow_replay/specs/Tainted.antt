@@ -1,16 +1,11 @@
 -- The shadow state with a mark on each byte and value. The items of a trace move the marks along with what they
 -- rebuild.
-use Rattle.std.specs.Prelude.{ℕ, zero, suc, ◌+◌, ◌-◌, ◌^◌, ◌==◌, List, [], ◌∷◌, ◌++◌, length, reverse, take, Option, Some, None, option_and_then, Bool, false, cond, slice_get}
-use Rattle.wasm_sem.specs.Types.{Value, FuncType, Loc, Module, Event}
-use Rattle.wasm_num.specs.declared.BlockKind.TheVariants as kinds
-use Rattle.wasm_num.specs.Shapes.{num_operands}
-use Rattle.module_ast.specs.declared.ops.VarOp.TheVariants.{Get, Set, Tee}
-use Rattle.module_ast.specs.Validation.{load_width, store_width}
-use Rattle.hook_select.specs.declared.Event.TheVariants as events
+use Rattle.std.specs.Prelude.{ℕ, zero, suc, List, [], ◌∷◌, ◌++◌, length, reverse, take, Option, Some, None, Bool, false, cond, slice_get}
+use Rattle.wasm_sem.specs.Types.{Value, FuncType, Loc, Module}
 use Rattle.wasm_sem.specs.declared.HostWrite.{HostWrite}
-use Rattle.wasm_sem.specs.Execution.{Callee, host, hook, own, callee_type, callees_of, at_zero, same_func_type, TraceItem, entry, host_call, event, hook_call}
-use Rattle.shadow_replay.specs.Shadow.{ShadowLabel, ShadowFrame, HeldValues, Shadow, effect}
-use Rattle.shadow_replay.specs.Taint.{Watch, Taint, is_watched, each_marked, nth_mark, exchange, join, local_mark, mark_local, mark_global, read_mark, mark_bytes, add_pages, unmark_writes, begin_frame, end_frame, no_frames, warn}
+use Rattle.wasm_sem.specs.Execution.{Callee, host, hook, own, callee_type, callees_of, same_func_type}
+use Rattle.shadow_replay.specs.Shadow.{ShadowLabel, ShadowFrame, HeldValues, Shadow}
+use Rattle.shadow_replay.specs.Taint.{Watch, Taint, is_watched, each_marked, exchange, unmark_writes, begin_frame, end_frame, no_frames, warn}
 
 -- ---- the state
 
@@ -123,61 +118,8 @@ answers_marks w f vs ws (Some p) k =
 abbrev pub takes_given_marks : ShadowMarks → ShadowMarks
 takes_given_marks k = record k { taint = exchange 0 k.given k.taint; given = [] }
 
--- ---- the effects of items
+-- ---- a state with its marks
 
-abbrev pub grown_marks : (previous by : ℕ) → Taint → Taint
-grown_marks previous by t = cond (previous == 2 ^ 32 - 1) t (add_pages by t)
-
-abbrev pub event_marks : Module → Shadow → Event → ShadowMarks → ShadowMarks
-event_marks m sh (events.Start p) k = k
-event_marks m sh (events.Nop p) k = k
-event_marks m sh (events.Unreachable p) k = k
-event_marks m sh (events.If p x) k = move (exchange 1 []) k
-event_marks m sh (events.Br p n target) k = holds_marks n sh.frames k
-event_marks m sh (events.BrIf p n target x) k = at_zero x (move (exchange 1 []) k) (holds_marks n sh.frames (move (exchange 1 []) k))
-event_marks m sh (events.BrTable p x n target) k = holds_marks n sh.frames (move (exchange 1 []) k)
-event_marks m sh (events.Begin p kinds.Function) k = begins_marks k
-event_marks m sh (events.Begin p kind) k = k
-event_marks m sh (events.End p kind begin) k = ends_marks sh.frames sh.held k
-event_marks m sh (events.Const p v) k = move (exchange 0 (false ∷ [])) k
-event_marks m sh (events.Unary p op a r) k = move (join (length (num_operands op))) k
-event_marks m sh (events.Binary p op a b r) k = move (join (length (num_operands op))) k
-event_marks m sh (events.Drop p v) k = move (exchange 1 []) k
-event_marks m sh (events.Select p a b x) k = move (λ (t : Taint). exchange 3 (at_zero x (nth_mark t.operands 1) (nth_mark t.operands 2) ∷ []) t) k
-event_marks m sh (events.Local p Get x v) k = move (λ (t : Taint). exchange 0 (local_mark x t ∷ []) t) k
-event_marks m sh (events.Local p Set x v) k = move (λ (t : Taint). exchange 1 [] (mark_local x (nth_mark t.operands 0) t)) k
-event_marks m sh (events.Local p Tee x v) k = move (λ (t : Taint). mark_local x (nth_mark t.operands 0) t) k
-event_marks m sh (events.Global p Get x v) k = move (λ (t : Taint). exchange 0 (nth_mark t.globals x ∷ []) t) k
-event_marks m sh (events.Global p Set x v) k = move (λ (t : Taint). exchange 1 [] (mark_global x (nth_mark t.operands 0) t)) k
-event_marks m sh (events.Global p Tee x v) k = k
-event_marks m sh (events.Load p op offset a v) k = move (λ (t : Taint). exchange 1 (read_mark (a + offset) (load_width op) t ∷ []) t) k
-event_marks m sh (events.Store p op offset a v) k = move (λ (t : Taint). exchange 2 [] (mark_bytes (a + offset) (store_width op) (nth_mark t.operands 0) t)) k
-event_marks m sh (events.MemorySize p n) k = move (exchange 0 (false ∷ [])) k
-event_marks m sh (events.MemoryGrow p by previous) k = move (λ (t : Taint). exchange 1 (false ∷ []) (grown_marks previous by t)) k
-event_marks m sh (events.CallPre p f args) k = calls_marks p (slice_get (callees_of m) f) k
-event_marks m sh (events.IndirectPre p ty slot f args) k = calls_typed_marks m p f (slice_get m.types ty) (move (exchange 1 []) k)
-event_marks m sh (events.CallPost p vs) k = takes_given_marks k
-event_marks m sh (events.Return p vs) k = holds_results_marks sh.frames k
-event_marks m sh (events.Stray h) k = k
-
--- how an item that is fit for a state moves the marks
-abbrev pub item_marks : Module → Watch → Shadow → TraceItem → ShadowMarks → ShadowMarks
-item_marks m w sh (entry c) k = enters_marks c.args (slice_get (callees_of m) c.func) k
-item_marks m w sh (host_call f vs rs ws) k = answers_marks w f rs ws k.prepared k
-item_marks m w sh (event e) k = event_marks m sh e k
-item_marks m w sh (hook_call h) k = k
-
--- a state with these marks
 abbrev pub with_marks : ShadowMarks → Option Shadow → Option TaintedShadow
 with_marks k None = None
 with_marks k (Some sh) = Some (record { state = sh; marks = k })
-
--- the state and the marks that an item makes, with at most `limit` pages; `None` if the item does not find what it
--- names
-abbrev pub tainted_effect : Module → (limit : ℕ) → Watch → TaintedShadow → TraceItem → Option TaintedShadow
-tainted_effect m limit w sh i = with_marks (item_marks m w sh.state i sh.marks) (effect m limit sh.state i)
-
--- the state and the marks that items make, one after another
-abbrev pub tainted_effects : Module → (limit : ℕ) → Watch → Option TaintedShadow → List TraceItem → Option TaintedShadow
-tainted_effects m limit w sh [] = sh
-tainted_effects m limit w sh (i ∷ is) = tainted_effects m limit w (option_and_then (λ (sh : TaintedShadow). tainted_effect m limit w sh i) sh) is

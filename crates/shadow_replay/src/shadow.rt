@@ -1,15 +1,14 @@
 // The shadow: the state that items rebuild.
 
-ghost use Rattle.std.specs.Prelude.{◌≡◌, ◌+◌, ◌∷◌, [], length, slice_get, None, Some, IsSome, IfOk, OnOk, OnErr};
-ghost use Rattle.hook_select.specs.declared.Event.TheVariants.{Begin};
-ghost use Rattle.wasm_num.specs.Shapes.{num_operands};
-ghost use Rattle.shadow_replay.specs.Stacked.{Has, exchanged};
+ghost use Rattle.std.specs.Prelude.{◌≡◌, ◌+◌, slice_get, None, Some, IsSome, IfOk, OnOk, OnErr};
+ghost use Rattle.shadow_replay.specs.Stacked.{Has};
 ghost use Rattle.shadow_replay.specs.Taint.{nth_mark, read_mark};
 ghost use Rattle.wasm_sem.specs.Execution.{event, entry, callees_of, IsScriptInRange, Links};
 ghost use Rattle.run_store.specs.Resolved.{callee_for};
-ghost use Rattle.shadow_replay.specs.Fit.{IsItemFit};
+ghost use Rattle.shadow_replay.specs.Events.{IsItemFit};
 ghost use Rattle.shadow_replay.specs.Opened.{opening_replay, replay_with};
-ghost use Rattle.shadow_replay.specs.Replayed.{TakesItem, MovesStanding, joined, number_effect, IsFitEvent, IsOnOperands, IsOnLocal, IsOnGlobal, IsOnMemory, IsBranch, IsReturn, IsCallEvent, BeginsFunction, BeginsBlock, CallsFunction, CallsSlot, Prepares, function_begun, block_begun, called, called_through, call_warnings, answered, StoresBytes, Grows, HoldsValues, EndsLabel, TakesGiven, held_below, ended, stored_memory};
+ghost use Rattle.shadow_replay.specs.Replayed.{Becomes, TakesItem, number_effect, number_taken, function_begun, block_begun, called, called_through, slot_called, call_warnings, answered, StoresBytes, Grows, HoldsValues, held_below, held_under, branch_taken, given_taken, ended, stored_memory, Prepares};
+ghost use Rattle.shadow_replay.specs.Tainted.{with_marks, begins_marks, calls_marks};
 ghost use Rattle.module_ast.specs.Memory.{load_value, grown_memory};
 ghost use Rattle.module_ast.specs.Validation.{load_width};
 
@@ -201,129 +200,14 @@ impl<'m> Shadow<'m> {
         self.memory.bytes()
     }
 
-    // Takes the event of an instruction that only concerns operands.
-    fn take_on_operands(&mut self, e: &Event) -> Result<(), NoMemory>
-        requires kind { IsOnOperands e.now }
-        requires fit { IsFitEvent e.now self.old }
-        ensures ok { OnOk result (TakesItem (event e.now) self.old self.new) }
-        ensures err { OnErr result (self.new ≡ self.old) }
-    {
-        match e {
-            Event::Const { value, .. } => self.stack.push(Marked {
-                value: *value,
-                mark: false,
-            }),
-            Event::MemorySize { pages, .. } => self.stack.push(Marked {
-                value: Value::I32(*pages),
-                mark: false,
-            }),
-            Event::Unary { op, result, .. } => {
-                self.take_number(*op, *result);
-                Ok(())
-            }
-            Event::Binary { op, result, .. } => {
-                self.take_number(*op, *result);
-                Ok(())
-            }
-            Event::Select {
-                first,
-                second,
-                cond,
-                ..
-            } => {
-                let (value, above) = if *cond == 0 {
-                    (*second, 1)
-                } else {
-                    (*first, 2)
-                };
-                let mark = self.stack.mark(above);
-                self.stack.replace(3, Marked { value, mark });
-                Ok(())
-            }
-            Event::Drop { .. } | Event::If { .. } => {
-                self.stack.pop(1);
-                Ok(())
-            }
-            _ => unreachable!(),
-        }
-    }
-
     // A number instruction had this result.
     fn take_number(&mut self, op: NumOp, value: Value)
         requires fit { IsSome (number_effect op value self.old.shadow.state) }
-        ensures { MovesStanding (exchanged (length (num_operands op)) (joined op value self.old.shadow ∷ [])) self.old self.new }
+        ensures { Becomes (number_taken op value self.old.shadow) self.old self.new }
     {
         let count = op.operands();
         let mark = self.stack.joined(count);
         self.stack.replace(count, Marked { value, mark });
-    }
-
-    // Takes the event of an instruction on a local.
-    fn take_on_local(&mut self, e: &Event) -> Result<(), NoMemory>
-        requires kind { IsOnLocal e.now }
-        requires fit { IsFitEvent e.now self.old }
-        ensures ok { OnOk result (TakesItem (event e.now) self.old self.new) }
-        ensures err { OnErr result (self.new ≡ self.old) }
-    {
-        let Event::Local {
-            op,
-            index,
-            value,
-            ..
-        } = e
-        else {
-            unreachable!();
-        };
-        let value = *value;
-        match op {
-            VarOp::Get => {
-                let mark = self.stack.local_mark(*index);
-                self.stack.push(Marked { value, mark })
-            }
-            VarOp::Set => {
-                let mark = self.stack.mark(0);
-                self.stack.pop(1);
-                self.stack.set_local(*index, Marked { value, mark });
-                Ok(())
-            }
-            VarOp::Tee => {
-                let mark = self.stack.mark(0);
-                self.stack.set_local(*index, Marked { value, mark });
-                Ok(())
-            }
-        }
-    }
-
-    // Takes the event of an instruction on a global.
-    fn take_on_global(&mut self, e: &Event) -> Result<(), NoMemory>
-        requires kind { IsOnGlobal e.now }
-        requires fit { IsFitEvent e.now self.old }
-        ensures ok { OnOk result (TakesItem (event e.now) self.old self.new) }
-        ensures err { OnErr result (self.new ≡ self.old) }
-    {
-        let Event::Global {
-            op,
-            index,
-            value,
-            ..
-        } = e
-        else {
-            unreachable!();
-        };
-        let value = *value;
-        match op {
-            VarOp::Get => {
-                let mark = self.global_mark(*index);
-                self.stack.push(Marked { value, mark })
-            }
-            VarOp::Set => {
-                let mark = self.stack.mark(0);
-                self.stack.pop(1);
-                self.globals[*index as usize] = Marked { value, mark };
-                Ok(())
-            }
-            VarOp::Tee => unreachable!(),
-        }
     }
 
     // The mark of a global; `false` past the last one.
@@ -333,60 +217,6 @@ impl<'m> Shadow<'m> {
         match self.globals.as_slice().get(index as usize) {
             Some(global) => global.mark,
             None => false,
-        }
-    }
-
-    // Takes the event of an instruction on the memory.
-    fn take_on_memory(&mut self, e: &Event) -> Result<(), NoMemory>
-        requires kind { IsOnMemory e.now }
-        requires fit { IsFitEvent e.now self.old }
-        ensures ok { OnOk result (TakesItem (event e.now) self.old self.new) }
-        ensures err { OnErr result (self.new ≡ self.old) }
-    {
-        match e {
-            Event::Load {
-                op,
-                offset,
-                address,
-                value,
-                ..
-            } => {
-                let mark = self.read_mark(*op, *address, *offset);
-                self.stack.replace(
-                    1,
-                    Marked {
-                        value: *value,
-                        mark,
-                    },
-                );
-                Ok(())
-            }
-            Event::Store {
-                op,
-                offset,
-                address,
-                value,
-                ..
-            } => {
-                let mark = self.stack.mark(0);
-                self.store(*op, *address, *offset, *value, mark);
-                self.stack.pop(2);
-                Ok(())
-            }
-            Event::MemoryGrow { by, previous, .. } => {
-                if *previous != u32::MAX {
-                    self.grow(*by)?;
-                }
-                self.stack.replace(
-                    1,
-                    Marked {
-                        value: Value::I32(*previous),
-                        mark: false,
-                    },
-                );
-                Ok(())
-            }
-            _ => unreachable!(),
         }
     }
 
@@ -444,35 +274,15 @@ impl<'m> Shadow<'m> {
         Ok(())
     }
 
-    // Takes the event of a branch.
-    fn take_branch(&mut self, e: &Event) -> Result<(), NoMemory>
-        requires kind { IsBranch e.now }
-        requires fit { IsFitEvent e.now self.old }
-        ensures ok { OnOk result (TakesItem (event e.now) self.old self.new) }
+    // Holds the values that a branch takes to a label, and drops the operand above them.
+    fn hold_under(&mut self, label: u32) -> Result<(), NoMemory>
+        requires fit { IsSome (held_under label self.old.shadow.state) }
+        ensures ok { OnOk result (Becomes (branch_taken label self.old.shadow) self.old self.new) }
         ensures err { OnErr result (self.new ≡ self.old) }
     {
-        match e {
-            Event::Br { label, .. } => self.hold(*label as usize, 0),
-            Event::BrIf { label, cond, .. } => {
-                if *cond == 0 {
-                    self.stack.pop(1);
-                    return Ok(());
-                }
-                self.hold(*label as usize, 1)?;
-                self.stack.pop(1);
-                Ok(())
-            }
-            Event::BrTable { label, .. } => {
-                self.hold(*label as usize, 1)?;
-                self.stack.pop(1);
-                Ok(())
-            }
-            Event::Return { .. } => {
-                let label = self.stack.outer_count();
-                self.hold(label, 0)
-            }
-            _ => unreachable!(),
-        }
+        self.hold(label as usize, 1)?;
+        self.stack.pop(1);
+        Ok(())
     }
 
     // Closes the innermost label without a branch. Its operands go to the label around it; if it is the function's,
@@ -480,7 +290,7 @@ impl<'m> Shadow<'m> {
     fn fall(&mut self) -> Result<(), NoMemory>
         requires held { self.old.shadow.state.held ≡ None }
         requires fit { IsSome (ended self.old.shadow) }
-        ensures ok { OnOk result (EndsLabel self.old self.new) }
+        ensures ok { OnOk result (Becomes (ended self.old.shadow) self.old self.new) }
         ensures err { OnErr result (self.new ≡ self.old) }
     {
         if self.stack.outer_count() != 0 {
@@ -497,7 +307,7 @@ impl<'m> Shadow<'m> {
     // Closes the innermost label. If a branch holds values, they go on towards its target.
     fn end(&mut self) -> Result<(), NoMemory>
         requires fit { IsSome (ended self.old.shadow) }
-        ensures ok { OnOk result (EndsLabel self.old self.new) }
+        ensures ok { OnOk result (Becomes (ended self.old.shadow) self.old self.new) }
         ensures err { OnErr result (self.new ≡ self.old) }
     {
         let Some(mut held) = self.held.take() else {
@@ -523,25 +333,11 @@ impl<'m> Shadow<'m> {
         Ok(())
     }
 
-    // Takes the event of an end, or the event after a call.
-    fn take_return(&mut self, e: &Event) -> Result<(), NoMemory>
-        requires kind { IsReturn e.now }
-        requires fit { IsFitEvent e.now self.old }
-        ensures ok { OnOk result (TakesItem (event e.now) self.old self.new) }
-        ensures err { OnErr result (self.new ≡ self.old) }
-    {
-        match e {
-            Event::End { .. } => self.end(),
-            Event::CallPost { .. } => self.take_given(),
-            _ => unreachable!(),
-        }
-    }
-
     // Puts what a call gave on top of the frame that made the call.
     fn take_given(&mut self) -> Result<(), NoMemory>
         requires frame { Has 0 self.old.shadow.state.frames }
         requires given { IsSome self.old.shadow.state.given }
-        ensures ok { OnOk result (TakesGiven self.old self.new) }
+        ensures ok { OnOk result (Becomes (given_taken self.old.shadow) self.old self.new) }
         ensures err { OnErr result (self.new ≡ self.old) }
     {
         let Some(given) = self.given.take() else {
@@ -564,7 +360,7 @@ impl<'m> Shadow<'m> {
     // Begins the function whose locals are prepared.
     fn begin(&mut self, func: u32) -> Result<(), NoMemory>
         requires fit { IsSome (function_begun func self.old) }
-        ensures ok { OnOk result (BeginsFunction func self.old self.new) }
+        ensures ok { OnOk result (Becomes (with_marks (begins_marks self.old.shadow.marks) (function_begun func self.old)) self.old self.new) }
         ensures err { OnErr result (self.new ≡ self.old) }
     {
         let function = self.function(func);
@@ -584,7 +380,7 @@ impl<'m> Shadow<'m> {
 
     fn open(&mut self, loc: Loc) -> Result<(), NoMemory>
         requires fit { IsSome (block_begun loc self.old) }
-        ensures ok { OnOk result (BeginsBlock loc self.old self.new) }
+        ensures ok { OnOk result (Becomes (with_marks self.old.shadow.marks (block_begun loc self.old)) self.old self.new) }
         ensures err { OnErr result (self.new ≡ self.old) }
     {
         let Some(block) = self.blocks.at(loc) else {
@@ -595,22 +391,10 @@ impl<'m> Shadow<'m> {
             .open(block.kind, loc.instr, counts.starts, counts.arity)
     }
 
-    // Takes the event of a function or a block that begins.
-    fn take_begin(&mut self, loc: Loc, kind: BlockKind) -> Result<(), NoMemory>
-        requires fit { IsFitEvent (Begin loc kind) self.old }
-        ensures ok { OnOk result (TakesItem (event (Begin loc kind)) self.old self.new) }
-        ensures err { OnErr result (self.new ≡ self.old) }
-    {
-        match kind {
-            BlockKind::Function => self.begin(loc.func),
-            _ => self.open(loc),
-        }
-    }
-
     // Takes the arguments of a call off the stack, and prepares the locals of its function.
     fn call(&mut self, loc: Loc, callee: u32) -> Result<(), NoMemory>
         requires fit { IsSome (called callee self.old) }
-        ensures ok { OnOk result (CallsFunction loc callee self.old self.new) }
+        ensures ok { OnOk result (Becomes (with_marks (calls_marks loc (slice_get (callees_of self.old.module) callee) self.old.shadow.marks) (called callee self.old)) self.old self.new) }
         ensures err { OnErr result (self.new ≡ self.old) }
     {
         let function = self.function(callee);
@@ -655,7 +439,7 @@ impl<'m> Shadow<'m> {
     // Takes the number of the slot and the arguments of a call off the stack, and prepares the locals of its function.
     fn call_slot(&mut self, loc: Loc, ty: u32, callee: Option<u32>) -> Result<(), NoMemory>
         requires fit { IsSome (called_through ty callee self.old) }
-        ensures ok { OnOk result (CallsSlot loc ty callee self.old self.new) }
+        ensures ok { OnOk result (Becomes (slot_called loc ty callee self.old) self.old self.new) }
         ensures err { OnErr result (self.new ≡ self.old) }
     {
         let asked = &self.valid.module().types.as_slice()[ty as usize];
@@ -665,25 +449,6 @@ impl<'m> Shadow<'m> {
         self.stack.pop(1 + count);
         self.prepared = prepared;
         Ok(())
-    }
-
-    // Takes the event of a call.
-    fn take_call(&mut self, e: &Event) -> Result<(), NoMemory>
-        requires kind { IsCallEvent e.now }
-        requires fit { IsFitEvent e.now self.old }
-        ensures ok { OnOk result (TakesItem (event e.now) self.old self.new) }
-        ensures err { OnErr result (self.new ≡ self.old) }
-    {
-        match e {
-            Event::CallPre { loc, callee, .. } => self.call(*loc, *callee),
-            Event::IndirectPre {
-                loc,
-                ty,
-                callee,
-                ..
-            } => self.call_slot(*loc, *ty, *callee),
-            _ => unreachable!(),
-        }
     }
 
     /// Takes the entry of the start or of a call of the script with these arguments, which are not marked. `NoMemory`
@@ -751,23 +516,145 @@ impl<'m> Shadow<'m> {
     {
         match e {
             Event::Start { .. } | Event::Nop { .. } | Event::Unreachable { .. } => Ok(()),
-            Event::If { .. }
-            | Event::Const { .. }
-            | Event::Unary { .. }
-            | Event::Binary { .. }
-            | Event::Drop { .. }
-            | Event::Select { .. }
-            | Event::MemorySize { .. } => self.take_on_operands(e),
-            Event::Local { .. } => self.take_on_local(e),
-            Event::Global { .. } => self.take_on_global(e),
-            Event::Load { .. } | Event::Store { .. } | Event::MemoryGrow { .. } => {
-                self.take_on_memory(e)
+            Event::Const { value, .. } => self.stack.push(Marked {
+                value: *value,
+                mark: false,
+            }),
+            Event::MemorySize { pages, .. } => self.stack.push(Marked {
+                value: Value::I32(*pages),
+                mark: false,
+            }),
+            Event::Unary { op, result, .. } => {
+                self.take_number(*op, *result);
+                Ok(())
             }
-            Event::Br { .. } | Event::BrIf { .. } | Event::BrTable { .. } => self.take_branch(e),
-            Event::Return { .. } => self.take_branch(e),
-            Event::Begin { loc, kind } => self.take_begin(*loc, *kind),
-            Event::End { .. } | Event::CallPost { .. } => self.take_return(e),
-            Event::CallPre { .. } | Event::IndirectPre { .. } => self.take_call(e),
+            Event::Binary { op, result, .. } => {
+                self.take_number(*op, *result);
+                Ok(())
+            }
+            Event::Select {
+                first,
+                second,
+                cond,
+                ..
+            } => {
+                let (value, above) = if *cond == 0 {
+                    (*second, 1)
+                } else {
+                    (*first, 2)
+                };
+                let mark = self.stack.mark(above);
+                self.stack.replace(3, Marked { value, mark });
+                Ok(())
+            }
+            Event::Drop { .. } | Event::If { .. } => {
+                self.stack.pop(1);
+                Ok(())
+            }
+            Event::Local {
+                op,
+                index,
+                value,
+                ..
+            } => {
+                let value = *value;
+                match op {
+                    VarOp::Get => {
+                        let mark = self.stack.local_mark(*index);
+                        self.stack.push(Marked { value, mark })
+                    }
+                    VarOp::Set => {
+                        let mark = self.stack.mark(0);
+                        self.stack.pop(1);
+                        self.stack.set_local(*index, Marked { value, mark });
+                        Ok(())
+                    }
+                    VarOp::Tee => {
+                        let mark = self.stack.mark(0);
+                        self.stack.set_local(*index, Marked { value, mark });
+                        Ok(())
+                    }
+                }
+            }
+            Event::Global {
+                op,
+                index,
+                value,
+                ..
+            } => {
+                let value = *value;
+                match op {
+                    VarOp::Get => {
+                        let mark = self.global_mark(*index);
+                        self.stack.push(Marked { value, mark })
+                    }
+                    VarOp::Set => {
+                        let mark = self.stack.mark(0);
+                        self.stack.pop(1);
+                        self.globals[*index as usize] = Marked { value, mark };
+                        Ok(())
+                    }
+                    VarOp::Tee => unreachable!(),
+                }
+            }
+            Event::Load {
+                op,
+                offset,
+                address,
+                value,
+                ..
+            } => {
+                let value = *value;
+                let mark = self.read_mark(*op, *address, *offset);
+                self.stack.replace(1, Marked { value, mark });
+                Ok(())
+            }
+            Event::Store {
+                op,
+                offset,
+                address,
+                value,
+                ..
+            } => {
+                let mark = self.stack.mark(0);
+                self.store(*op, *address, *offset, *value, mark);
+                self.stack.pop(2);
+                Ok(())
+            }
+            Event::MemoryGrow { by, previous, .. } => {
+                if *previous != u32::MAX {
+                    self.grow(*by)?;
+                }
+                let value = Value::I32(*previous);
+                self.stack.replace(1, Marked { value, mark: false });
+                Ok(())
+            }
+            Event::Br { label, .. } => self.hold(*label as usize, 0),
+            Event::BrIf { label, cond, .. } => {
+                if *cond != 0 {
+                    return self.hold_under(*label);
+                }
+                self.stack.pop(1);
+                Ok(())
+            }
+            Event::BrTable { label, .. } => self.hold_under(*label),
+            Event::Return { .. } => {
+                let label = self.stack.outer_count();
+                self.hold(label, 0)
+            }
+            Event::Begin { loc, kind } => match kind {
+                BlockKind::Function => self.begin(loc.func),
+                _ => self.open(*loc),
+            },
+            Event::End { .. } => self.end(),
+            Event::CallPre { loc, callee, .. } => self.call(*loc, *callee),
+            Event::IndirectPre {
+                loc,
+                ty,
+                callee,
+                ..
+            } => self.call_slot(*loc, *ty, *callee),
+            Event::CallPost { .. } => self.take_given(),
             Event::Stray { .. } => unreachable!(),
         }
     }

@@ -34,7 +34,7 @@ use Rattle.instrument.proofs.OutputSame.{same}
 use Rattle.instrument.proofs.OutputShell.{output_has_shell}
 use Rattle.instrument.proofs.OutputSpelled.{output_is_spelled}
 use Rattle.instrument.proofs.OutputWithin.{output_is_within}
-use Rattle.module_ast.specs.Validation.{narrow, wide, IsValid, longest_file, longest_narrow_file}
+use Rattle.module_ast.specs.Validation.{narrow, wide, longest_file, longest_narrow_file}
 use Rattle.app_load.specs.Wants.{AreKept}
 use Rattle.wasabi_app.specs.KeptNames.{DroppedNamesLeaveNothing, HasNameSection, IsOutput, IsSoundWith, named_output, output_names}
 

@@ -21,7 +21,6 @@ use Rattle.app_load.specs.declared.printing.Refusal.{Refusal}
 use Rattle.app_load.specs.declared.printing.Refusal.TheVariants.{NoMemory}
 use Rattle.app_load.specs.Texts.{bad_words_text}
 use Rattle.app_load.specs.Outcomes.{IsRefusal, Yields}
-use Rattle.app_load.proofs.Contents.{unchanged_same}
 use Rattle.app_load.proofs.Going.{no_memory, was_no_command}
 use Rattle.app_load.proofs.Within.{Within, within_leads, WritesNone, FeedsNone, MakesNone, keeps, never_unwritten, leaves, never_refused}
 use Rattle.wasabi_app.specs.Words.{Given, given}

@@ -13,6 +13,8 @@ use Rattle.wasm_num.specs.declared.Value.TheVariants.{I32, I64}
 use Rattle.wasm_num.specs.Shapes.{num_operands}
 use Rattle.hook_select.specs.declared.GroupName.TheVariants as groups
 use Rattle.hook_mono.specs.declared.HookKey.TheVariants as keys
+use Rattle.hook_mono.specs.Plains.{plain_event}
+use Rattle.hook_mono.specs.Values.{IsWord, AreWords, value_number, numbers, values_from, value_at, number_at}
 use Rattle.hook_mono.specs.Words.{plain_values, value_types}
 use Rattle.branch_resolve.specs.declared.Block.{Block}
 use Rattle.index_remap.specs.declared.Remap.{Remap}
@@ -25,10 +27,9 @@ use Rattle.static_info.specs.declared.TableInfo.{TableInfo}
 use Rattle.static_info.specs.declared.FuncInfo.{FuncInfo}
 use Rattle.static_info.specs.declared.Info.{Info}
 use Rattle.static_info.specs.Form.{IsPosition, AreBlocksAfter, AreBlocks, IsDefined, IsWellFormed}
-use Rattle.static_info.specs.Read.{value_number, numbers, values_from, value_at, number_at, info_remap, callee_in, plain_event, num_event, key_event, chosen_label, contains, within_block, table_at, end_event, jump_events, table_events, known_events, func_events, found_events, is_selected, loc_of, hook_events, read_hook}
+use Rattle.static_info.specs.Read.{info_remap, callee_in, num_event, key_event, chosen_label, contains, within_block, table_at, end_event, jump_events, table_events, known_events, func_events, found_events, is_selected, loc_of, hook_events, read_hook}
 use Rattle.trace_file.specs.Fields.{FitsNumber, FitsSigned, FitsLocation, FitsValue, FitsCallee, FitValues}
 use Rattle.trace_file.specs.Rows.{FitsEvent}
-use Rattle.hook_events.specs.Words.{IsWord, AreWords}
 use Rattle.app_runs.proofs.FewEvents.{few_label, table_labels, formed_there}
 
 -- ---- signed numbers

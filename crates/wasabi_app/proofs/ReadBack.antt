@@ -17,11 +17,11 @@ use Rattle.analyses.specs.Tools.{ToolState}
 use Rattle.app_load.specs.declared.kinds.Kinds.{Kinds}
 use Rattle.app_load.specs.Statuses as statuses
 use Rattle.app_load.specs.Ends.{Ends, IsBad, IsUnread, IsRefuted, absent, over, wrong}
-use Rattle.app_load.specs.Files.{IsFit}
+use Rattle.app_load.specs.Files.{IsFit, IsNoScript}
 use Rattle.app_load.specs.Plans.{done, prints, does, Ending, Plan, reads, ends, LeadsTo, ComesTo}
 use Rattle.outside_io.specs.Outside.{ShelfState, PrintState}
-use Rattle.app_load.specs.Wants.{Read, module_read, named_read, info_read, script_read, Gives, AreKept, IsUnscripted, unscripted, IsWrong}
-use Rattle.app_load.proofs.Leading.{bad_or_ending}
+use Rattle.app_load.specs.Wants.{Read, module_read, named_read, info_read, script_read, Gives, AreKept, content}
+use Rattle.app_load.proofs.Leading.{comes_not_leads}
 use Rattle.app_load.proofs.Telling.{tells_at}
 use Rattle.app_runs.specs.Texts.{ok_text, counts_of}
 use Rattle.app_runs.specs.Recording.{recorded_bytes}
@@ -44,7 +44,7 @@ use Rattle.wasabi_app.proofs.Traces.{leads_only}
 -- where a plan leads somewhere, none of its reads is bad
 none_bad : (contents : Contents) (plan : Plan) (e : Ending) → LeadsTo (Some contents) plan e → (read : Read) (status : ℕ) → ComesTo (Some contents) plan read
     → IsBad contents read status → ⊥
-none_bad contents plan e leads read status comes bad = bad_or_ending contents (Some plan) read status e comes bad leads
+none_bad contents plan e leads read status comes bad = comes_not_leads contents plan read status e comes bad leads
 
 -- somewhere
 abbrev nowhere : Ending
@@ -187,15 +187,13 @@ outputs_are_read file hooks keeps written has =
 
 -- ---- statuses
 
-script_status : (bytes : List ℕ) (status : ℕ) → IsUnscripted bytes status → status ≡ 10
-script_status bytes _ (unscripted none) = refl
-
 module _ (contents : Contents) (plan : Plan) (script : List ℕ) (only : OnlyBad contents plan (script_read script)) where
   -- bytes that are wrong are a script's
   refuted_script : (status : ℕ) → IsRefuted (Some plan) (Some contents) status → status ≡ 10
   refuted_script status (read, bytes, comes, is_read, is_wrong) =
       let same : read ≡ script_read script = only read status comes (wrong bytes status is_read.there is_read.short is_wrong) in
-      script_status bytes status (subst (λ (r : Read). IsWrong r.want bytes status) same is_wrong)
+      let unscripted : (status ≡ 10) × IsNoScript bytes = subst (λ (r : Read). (content r.want).IsWrong bytes status) same is_wrong in
+      unscripted.0
 
   -- and so is a name that is not there
   is_last : (read : Read) → ComesTo (Some contents) plan read → IsBad contents read 3 → IsBad contents (script_read script) 3

@@ -1,102 +1,16 @@
 -- Warnings come at host calls alone, so that those of two lists with as many host calls of one run are the same.
-use Rattle.std.proofs.Common.{◌≡◌, ℕ, zero, suc, ◌+◌, List, [], ◌∷◌, ◌++◌, Option, Some, None, Bool, true, false, cond, refl, sym, ap, ◌∙◌, arith, append_assoc, append-nil}
-use Rattle.wasm_num.specs.declared.BlockKind.TheVariants as kinds
-use Rattle.wasm_sem.specs.Types.{BlockKind, FuncType, Loc, Module, Event}
-use Rattle.module_ast.specs.declared.ops.VarOp.TheVariants.{Get, Set, Tee}
-use Rattle.hook_select.specs.declared.Event.TheVariants as events
-use Rattle.wasm_sem.specs.Execution.{TraceItem, entry, host_call, event, hook_call, Callee, at_zero}
-use Rattle.shadow_replay.specs.Shadow.{ShadowFrame, ShadowLabel, HeldValues, Shadow, effect}
-use Rattle.shadow_replay.specs.Taint.{Watch, Taint, exchange, add_pages, unmark_writes, warn}
-use Rattle.shadow_replay.specs.Tainted.{PreparedMarks, ShadowMarks, TaintedShadow, move, holds_marks, holds_results_marks, drops_held_marks, drops_fallen_marks, drops_marks, ends_marks, calls_marks, calls_typed_marks, answers_marks, event_marks, item_marks, with_marks, tainted_effect, tainted_effects}
+use Rattle.std.proofs.Common.{◌≡◌, ℕ, ◌+◌, List, [], ◌∷◌, ◌++◌, Option, Some, None, Bool, refl, sym, ap, ◌∙◌, arith, append_assoc, append-nil}
+use Rattle.wasm_sem.specs.Types.{Loc, Module}
+use Rattle.wasm_sem.specs.Execution.{TraceItem, entry, host_call, event, hook_call}
+use Rattle.shadow_replay.specs.Shadow.{Shadow}
+use Rattle.shadow_replay.specs.Events.{effect, item_marks, tainted_effect, tainted_effects}
+use Rattle.shadow_replay.specs.Taint.{Watch, Taint, unmark_writes, warn}
+use Rattle.shadow_replay.specs.Tainted.{PreparedMarks, ShadowMarks, TaintedShadow, answers_marks, with_marks}
+use Rattle.shadow_replay.proofs.ShadowReturns.{nothing_more}
 use Rattle.shadow_replay.proofs.Shadows.{tainted_append}
+use Rattle.shadow_replay.proofs.Warnings.{Warns, event_warns}
 use Rattle.instrument.specs.Same.{IsPrefix}
 use Rattle.wasabi_app.proofs.HostCounts.{host_count}
-
--- ---- an event
-
--- the marks warn of the same
-abbrev Warns : ShadowMarks → ShadowMarks → Type 0
-Warns k l = l.taint.warnings ≡ k.taint.warnings
-
-zero_warns : (n : ℕ) (k a b : ShadowMarks) → Warns k a → Warns k b → Warns k (at_zero n a b)
-zero_warns zero k a b p q = p
-zero_warns (suc n) k a b p q = q
-
-holds_warn : (n : ℕ) (fs : List ShadowFrame) (k : ShadowMarks) → Warns k (holds_marks n fs k)
-holds_warn n [] k = refl
-holds_warn n (fr ∷ below) k = refl
-
-results_warn : (fs : List ShadowFrame) (k : ShadowMarks) → Warns k (holds_results_marks fs k)
-results_warn [] k = refl
-results_warn (fr ∷ below) k = refl
-
-held_warn : (n : ℕ) (ls : List ShadowLabel) (label : ℕ) (k : ShadowMarks) → Warns k (drops_held_marks n ls label k)
-held_warn n [] label k = refl
-held_warn n (l ∷ ls) zero k = refl
-held_warn n (l ∷ ls) (suc label) k = refl
-
-fallen_warn : (n a : ℕ) (ls : List ShadowLabel) (k : ShadowMarks) → Warns k (drops_fallen_marks n a ls k)
-fallen_warn n a [] k = refl
-fallen_warn n a (l ∷ ls) k = refl
-
-drops_warn : (fr : ShadowFrame) (held : Option HeldValues) (k : ShadowMarks) → Warns k (drops_marks fr held k)
-drops_warn fr None k = fallen_warn _ fr.top.arity fr.outer k
-drops_warn fr (Some h) k = held_warn _ fr.outer h.label k
-
-ends_warn : (fs : List ShadowFrame) (held : Option HeldValues) (k : ShadowMarks) → Warns k (ends_marks fs held k)
-ends_warn [] held k = refl
-ends_warn (fr ∷ below) held k = drops_warn fr held k
-
-calls_warn : (p : Loc) (c : Option Callee) (k : ShadowMarks) → Warns k (calls_marks p c k)
-calls_warn p None k = refl
-calls_warn p (Some c) k = refl
-
-typed_warn : (m : Module) (p : Loc) (f : Option ℕ) (ty : Option FuncType) (k : ShadowMarks) → Warns k (calls_typed_marks m p f ty k)
-typed_warn m p f None k = refl
-typed_warn m p f (Some ty) k = refl
-
-begin_warn : (m : Module) (sh : Shadow) (p : Loc) (kind : BlockKind) (k : ShadowMarks) → Warns k (event_marks m sh (events.Begin p kind) k)
-begin_warn m sh p kinds.Function k = refl
-begin_warn m sh p kinds.Block k = refl
-begin_warn m sh p kinds.Loop k = refl
-begin_warn m sh p kinds.If k = refl
-begin_warn m sh p kinds.Else k = refl
-
-grown_warn : (refused : Bool) (by : ℕ) (t : Taint) → (cond refused t (add_pages by t)).warnings ≡ t.warnings
-grown_warn true by t = refl
-grown_warn false by t = refl
-
-event_warns : (m : Module) (sh : Shadow) (e : Event) (k : ShadowMarks) → Warns k (event_marks m sh e k)
-event_warns m sh (events.Start p) k = refl
-event_warns m sh (events.Nop p) k = refl
-event_warns m sh (events.Unreachable p) k = refl
-event_warns m sh (events.If p x) k = refl
-event_warns m sh (events.Br p n target) k = holds_warn n sh.frames k
-event_warns m sh (events.BrIf p n target x) k =
-    zero_warns x k (move (exchange 1 []) k) (holds_marks n sh.frames (move (exchange 1 []) k)) refl (holds_warn n sh.frames (move (exchange 1 []) k))
-event_warns m sh (events.BrTable p x n target) k = holds_warn n sh.frames (move (exchange 1 []) k)
-event_warns m sh (events.Begin p kind) k = begin_warn m sh p kind k
-event_warns m sh (events.End p kind begin) k = ends_warn sh.frames sh.held k
-event_warns m sh (events.Const p v) k = refl
-event_warns m sh (events.Unary p op a r) k = refl
-event_warns m sh (events.Binary p op a b r) k = refl
-event_warns m sh (events.Drop p v) k = refl
-event_warns m sh (events.Select p a b x) k = refl
-event_warns m sh (events.Local p Get x v) k = refl
-event_warns m sh (events.Local p Set x v) k = refl
-event_warns m sh (events.Local p Tee x v) k = refl
-event_warns m sh (events.Global p Get x v) k = refl
-event_warns m sh (events.Global p Set x v) k = refl
-event_warns m sh (events.Global p Tee x v) k = refl
-event_warns m sh (events.Load p op offset a v) k = refl
-event_warns m sh (events.Store p op offset a v) k = refl
-event_warns m sh (events.MemorySize p n) k = refl
-event_warns m sh (events.MemoryGrow p by previous) k = grown_warn _ by k.taint
-event_warns m sh (events.CallPre p f args) k = calls_warn p _ k
-event_warns m sh (events.IndirectPre p ty slot f args) k = typed_warn m p f _ (move (exchange 1 []) k)
-event_warns m sh (events.CallPost p vs) k = refl
-event_warns m sh (events.Return p vs) k = results_warn sh.frames k
-event_warns m sh (events.Stray h) k = refl
 
 -- ---- an item
 
@@ -136,12 +50,8 @@ marked_with k (Some sh) b e =
     sym (ap (λ (t : TaintedShadow). t.marks) same)
 
 module _ (m : Module) (limit : ℕ) (w : Watch) where
-  no_more_taken : (is : List TraceItem) → tainted_effects m limit w None is ≡ None
-  no_more_taken [] = refl
-  no_more_taken (i ∷ is) = no_more_taken is
-
   none_taken : (is : List TraceItem) (b : TaintedShadow) → tainted_effects m limit w None is ≡ Some b → ⊥
-  none_taken is b e = let none : None ≡ Some b = sym (no_more_taken is) ∙ e in cc
+  none_taken is b e = let none : None ≡ Some b = sym (nothing_more m limit w is) ∙ e in cc
 
   -- an item that was taken has moved the marks
   taken_marks : (a c : TaintedShadow) (i : TraceItem) → tainted_effect m limit w a i ≡ Some c → c.marks ≡ item_marks m w a.state i a.marks

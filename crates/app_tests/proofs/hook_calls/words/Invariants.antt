@@ -1,4 +1,4 @@
-use Rattle.hook_events.specs.Words.{AreWords}
+use Rattle.hook_mono.specs.Values.{AreWords}
 use Rattle.app_tests.proofs.hook_calls.words.Given as goal
 
 abbrev pub invariant-loop-word : goal.invariant-loop-word

@@ -5,11 +5,11 @@ use Rattle.std.proofs.lemmas.List.{with_items_is}
 use Rattle.run_store.specs.Held.{Held}
 use Rattle.shadow_replay.specs.declared.Warning.{Warning}
 use Rattle.shadow_replay.specs.declared.marked.Marked.{Marked}
-use Rattle.shadow_replay.specs.Shadow.{effect}
+use Rattle.shadow_replay.specs.Events.{effect, tainted_effect}
 use Rattle.shadow_replay.specs.Taint.{Watch, is_watched, unmarked_by}
-use Rattle.shadow_replay.specs.Tainted.{TaintedShadow, tainted_effect}
-use Rattle.shadow_replay.specs.Replayed.{Replay, shadow_seen, marks_prepared, TakesItem, answered, marked_values, call_warnings}
-use Rattle.shadow_replay.proofs.ShadowTakes.{takes}
+use Rattle.shadow_replay.specs.Tainted.{TaintedShadow}
+use Rattle.shadow_replay.specs.Replayed.{Replay, shadow_seen, marks_prepared, answered, marked_values, call_warnings}
+use Rattle.shadow_replay.proofs.ShadowTakes.{becomes}
 use Rattle.shadow_replay.proofs.ShadowHosts.{host_is}
 use Rattle.shadow_replay.proofs.shadow.Shadow.host.Goals as goal
 
@@ -20,12 +20,6 @@ returns-clause-ok c =
     let vs = c.args.results.now in
     let ws = c.args.writes.now in
     let watch : Watch = record { sources = s.sources.items; sinks = s.sinks.items } in
-    let seen : Replay = record {
-      «module» = s.valid.now;
-      limit = s.memory.max;
-      watch = watch;
-      shadow = shadow_seen s.memory.bytes s.memory_marks.items s.globals.items s.stack s.prepared s.held (option_map (λ v. v.items) s.given) s.warnings.items;
-    } in
     let after : List ℕ → List Bool → List Marked → List Warning → TaintedShadow = λ memory ks ms ws. shadow_seen memory ks s.globals.items s.stack None s.held (Some ms) ws in
     let fit = subst (λ (r : Replay). IsSome (effect r.module r.limit r.shadow.state (answered f vs ws r.shadow.state))) (sym c.self.view_is) c.requires.fit.effect in
     let bytes = ap (λ (m : Held). m.bytes) c.write_all.ensures.memory in
@@ -36,17 +30,9 @@ returns-clause-ok c =
     c.in_ok-given.ensures ∙ ap (λ k. marked_values k vs) (c.is_watched-source.ensures ∙ ap (λ fs. is_watched fs f) c.as_slice.ensures.value) in
     let told : c.extend_from_slice.new.self.items ≡ s.warnings.items ++ call_warnings watch f (marks_prepared s.prepared) =
     c.in_ok-extend_from_slice.ensures.items ∙ ap (λ ws. s.warnings.items ++ ws) (c.as_slice-2.ensures.value ∙ (c.in_ok-warnings.ensures ∙ ap (λ (r : Replay). call_warnings r.watch f r.shadow.marks.prepared) (sym c.self.view_is))) in
-    let next : Replay = record {
-      «module» = s.valid.now;
-      limit = c.write_all.new.memory.max;
-      watch = watch;
-      shadow = after c.write_all.new.memory.bytes kept.items c.in_ok-given.given.items c.extend_from_slice.new.self.items;
-    } in
-    let is : tainted_effect seen.module seen.limit watch seen.shadow (answered f vs ws seen.shadow.state) ≡ Some next.shadow =
-    host_is seen.module seen.limit watch s.memory.bytes s.memory_marks.items s.globals.items s.stack s.prepared s.held (option_map (λ v. v.items) s.given) s.warnings.items f vs ws fit
+    becomes (λ (r : Replay). tainted_effect r.module r.limit r.watch r.shadow (answered f vs ws r.shadow.state)) _ c.args.self.now _ c.self.view_is
+    (host_is s.valid.now s.memory.max watch s.memory.bytes s.memory_marks.items s.globals.items s.stack s.prepared s.held (option_map (λ v. v.items) s.given) s.warnings.items f vs ws fit
     ∙ (ap (λ memory. Some (after memory (unmarked_by ws s.memory_marks.items) (marked_values (is_watched watch.sources f) vs) (s.warnings.items ++ call_warnings watch f (marks_prepared s.prepared)))) (sym bytes)
     ∙ (ap (λ ks. Some (after c.write_all.new.memory.bytes ks (marked_values (is_watched watch.sources f) vs) (s.warnings.items ++ call_warnings watch f (marks_prepared s.prepared)))) (sym ks)
     ∙ (ap (λ ms. Some (after c.write_all.new.memory.bytes kept.items ms (s.warnings.items ++ call_warnings watch f (marks_prepared s.prepared)))) (sym given)
-    ∙ ap (λ told. Some (after c.write_all.new.memory.bytes kept.items c.in_ok-given.given.items told)) (sym told)))) in
-    subst (λ (r : Replay). TakesItem (answered f vs ws r.shadow.state) c.args.self.now next) c.self.view_is
-    (takes (answered f vs ws seen.shadow.state) seen c.args.self.now next c.self.view_is is refl (ap (λ (m : Held). m.max) c.write_all.ensures.memory) refl)
+    ∙ ap (λ told. Some (after c.write_all.new.memory.bytes kept.items c.in_ok-given.given.items told)) (sym told))))) refl (ap (λ (m : Held). m.max) c.write_all.ensures.memory) refl
