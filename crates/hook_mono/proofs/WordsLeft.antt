@@ -1,6 +1,6 @@
 -- The words of a hook call that are left.
 --     word_here      the next word of a call
---     no_word        no word behind the last
+--     no_word        no word after the last
 --     no_long        no value of 64 bits stands there
 use Rattle.std.proofs.Common.{◌≡◌, ℕ, zero, suc, ◌+◌, ◌<◌, List, [], ◌∷◌, length, drop, get_or, Some, None, slice_get, refl, ap, ◌∙◌, subst, arith}
 use Rattle.std.proofs.lemmas.List.{drop_more, length-map}
@@ -22,7 +22,7 @@ word_here args n w e =
     number_in (v ∷ vs) zero l = refl
     number_in (v ∷ vs) (suc k) l = number_in vs k (omega arith)
 
--- no word behind the last
+-- no word after the last
 pub no_word : (args : List Value) (n : ℕ) → slice_get args n ≡ None → drop n (numbers args) ≡ []
 no_word [] zero e = refl
 no_word [] (suc n) e = refl

@@ -6,11 +6,10 @@ use Rattle.module_ast.specs.declared.ops.VarOp.{VarOp}
 use Rattle.module_ast.specs.declared.ops.VarOp.TheVariants.{Get, Set, Tee}
 use Rattle.wasm_num.specs.Names.{num_name}
 use Rattle.module_ast.specs.Binary.{load_name, store_name}
-use Rattle.hook_select.specs.declared.GroupName.{GroupName}
 use Rattle.wasm_num.specs.Kinds.{kind_name}
 use Rattle.hook_mono.specs.declared.HookKey.{HookKey}
 use Rattle.hook_mono.specs.declared.HookKey.TheVariants.{Plain, Begin, End, Const, Num, Drop, Select, Local, Global, Load, Store, CallPre, IndirectPre, CallPost, Return}
-use Rattle.hook_mono.specs.Plains.{plain_hook, hook_name}
+use Rattle.hook_mono.specs.Plains.{plain_name}
 use Rattle.hook_mono.specs.Keys.{IsProper}
 
 -- i for i32, l for i64
@@ -20,9 +19,6 @@ letter I64 = 108
 
 abbrev pub letters : List ValType → List ℕ
 letters ts = map letter ts
-
-abbrev pub plain_name : GroupName → List ℕ
-plain_name g = hook_name (plain_hook g)
 
 abbrev pub const_name : ValType → List ℕ
 const_name I32 = codes "i32.const"

@@ -23,7 +23,8 @@ use Rattle.hook_select.specs.declared.GroupName.TheVariants as groups
 use Rattle.wasm_num.specs.Kinds.{kind_name}
 use Rattle.hook_mono.specs.declared.HookKey.{HookKey}
 use Rattle.hook_mono.specs.declared.HookKey.TheVariants as keys
-use Rattle.hook_mono.specs.Names.{letters, plain_name, var_name, name_of}
+use Rattle.hook_mono.specs.Names.{letters, var_name, name_of}
+use Rattle.hook_mono.specs.Plains.{plain_name}
 
 -- the parts of names are ASCII
 plain_ascii : (g : GroupName) → is_ascii (plain_name g) ≡ true

@@ -7,6 +7,7 @@ mod names;
 mod plain;
 mod read;
 mod table;
+mod told;
 mod types;
 mod words;
 

@@ -1,11 +1,10 @@
 // Groups that are a key by themselves.
 
-ghost use Rattle.std.specs.Prelude.{◌≡◌, filter};
+ghost use Rattle.std.specs.Prelude.{◌≡◌, ℕ, Option, filter};
 ghost use Rattle.std.specs.Option.{option_map, option_to_list};
-ghost use Rattle.hook_mono.specs.Plains.{is_plain, plain_event, plain_hook};
+ghost use Rattle.hook_mono.specs.Plains.{hook_of, is_plain, plain_name, plain_row, plain_told, plain_values};
+ghost use Rattle.hook_mono.specs.Told.{told_event};
 ghost use Rattle.hook_mono.specs.Values.{values_from};
-ghost use Rattle.hook_mono.specs.Names.{plain_name};
-ghost use Rattle.hook_mono.specs.Words.{plain_values};
 ghost use Rattle.hook_mono.specs.Reading.{named};
 
 use crate::words::Words;
@@ -14,7 +13,7 @@ use module_ast::module::Loc;
 use wasm_num::ValType;
 
 // Passes to the macro `$to` what it is given here, and then each group that is a key by itself, with the name of its hook and
-// the fields of its event behind the location. Each field is a word of the call, read as a number or as a signed number.
+// the fields of its event after the location. Each field is a word of the call, read as a number or as a signed number.
 // br_table is not among them: its event does not follow from the words alone.
 macro_rules! each_plain {
     ($to:ident($($given:ident),*)) => {
@@ -68,20 +67,21 @@ type PlainHook = (&'static str, &'static [ValType]);
 
 // The hook of a group that is a key by itself; none for other groups.
 fn plain_hook(group: GroupName) -> Option<PlainHook>
-    ensures { option_map (λ row. (row.0.now, row.1.now)) result ≡ plain_hook group }
+    ensures { option_map (λ hook. (hook.0.now, hook.1.now)) result ≡ option_map hook_of (plain_row group) }
 {
     each_plain!(hook_of(group))
 }
 
-/// The event of a call of the hook of a plain group other than br_table, from the words behind the position; `None` for other
+/// The event of a call of the hook of a plain group other than br_table, from the words after the position; `None` for other
 /// groups.
 pub fn plain_event(group: GroupName, loc: Loc, words: &mut Words) -> Option<Event>
-    ensures { option_to_list result ≡ plain_event group loc (values_from (plain_values group) words.old) }
+    ensures { (at : ℕ → Option ℕ) → option_to_list result ≡ told_event at (plain_told group) loc (values_from (plain_values group) words.old) }
 {
     each_plain!(event_of(group, loc, words))
 }
 
-fn is_plain(group: GroupName) -> bool
+// Whether a group is a key by itself.
+pub(crate) fn is_plain(group: GroupName) -> bool
     ensures { result ≡ is_plain group }
 {
     plain_hook(group).is_some()

@@ -4,12 +4,44 @@ ghost use Rattle.std.specs.Prelude.{◌≡◌, ◌++◌, [], ◌∷◌, flat_map
 ghost use Rattle.wasm_num.specs.Shapes.{num_operands, num_result};
 ghost use Rattle.hook_mono.specs.Words.{value_types, word_types, hook_type};
 
-use crate::HookKey;
 use crate::plain::plain_values;
+use crate::{HookKey, each_key};
 use module_ast::module::FuncType;
 use module_ast::seq::Seq;
 use std::alloc::Global;
 use wasm_num::{NoMemory, NumOp, ValType};
+
+// Appends the words of a field.
+macro_rules! push_field {
+    ($params:ident, key($of:expr)) => {};
+    ($params:ident, number()) => {
+        push_words($params, &[ValType::I32])?;
+    };
+    ($params:ident, signed()) => {
+        push_words($params, &[ValType::I32])?;
+    };
+    ($params:ident, value($ty:expr)) => {
+        push_words($params, &[$ty])?;
+    };
+    ($params:ident, values($types:expr)) => {
+        push_words($params, $types)?;
+    };
+    ($params:ident, callee($slot:expr)) => {};
+}
+
+// Appends the words of the fields of a key.
+macro_rules! push_told {
+    (($params:ident, $key:ident) $($kind:ident($($part:ident),*) ($($field:ident: $from:ident($($of:tt)*)),*))*) => {
+        match $key {
+            HookKey::Plain(group) => push_words($params, plain_values(*group)),
+            HookKey::Num(op) => push_num($params, *op),
+            $(HookKey::$kind($($part),*) => {
+                $(push_field!($params, $from($($of)*));)*
+                Ok(())
+            })*
+        }
+    };
+}
 
 /// The type of the hook of a key. Its parameters, all of type i32, are the function, the position, and the words of the further
 /// values. It has no results.
@@ -32,29 +64,7 @@ pub fn type_of(alloc: Global, key: &HookKey) -> Result<FuncType, NoMemory>
 fn push_values(params: &mut Vec<ValType>, key: &HookKey) -> Result<(), NoMemory>
     ensures { OnOk result (params.new.items ≡ params.old.items ++ flat_map word_types (value_types key.now)) }
 {
-    match key {
-        HookKey::Plain(group) => push_words(params, plain_values(*group)),
-        HookKey::Begin(_) => Ok(()),
-        HookKey::End(_) => push_words(params, &[ValType::I32]),
-        HookKey::Const(ty) => push_words(params, &[*ty]),
-        HookKey::Num(op) => push_num(params, *op),
-        HookKey::Drop(ty) => push_words(params, &[*ty]),
-        HookKey::Select(ty) => push_words(params, &[*ty, *ty, ValType::I32]),
-        HookKey::Local(_, ty) => push_words(params, &[ValType::I32, *ty]),
-        HookKey::Global(_, ty) => push_words(params, &[ValType::I32, *ty]),
-        HookKey::Load(op) => push_words(params, &[ValType::I32, ValType::I32, op.ty()]),
-        HookKey::Store(op) => push_words(params, &[ValType::I32, ValType::I32, op.ty()]),
-        HookKey::CallPre(types) => {
-            push_words(params, &[ValType::I32])?;
-            push_words(params, types.as_slice())
-        }
-        HookKey::IndirectPre(types) => {
-            push_words(params, &[ValType::I32, ValType::I32])?;
-            push_words(params, types.as_slice())
-        }
-        HookKey::CallPost(types) => push_words(params, types.as_slice()),
-        HookKey::Return(types) => push_words(params, types.as_slice()),
-    }
+    each_key!(push_told(params, key))
 }
 
 // Appends the words of values of these types: one for an i32, two for an i64.

@@ -1,4 +1,4 @@
--- The fields of events: what they contain, several of them, and functions of them.
+-- The fields of events: what they contain, and what there is for each of several, of which functions take it one by one.
 use Rattle.std.specs.Prelude.{ℕ, ℤ, List, [], ◌∷◌, Option}
 use Rattle.wasm_num.specs.declared.Value.{Value}
 use Rattle.wasm_num.specs.declared.BlockKind.{BlockKind}
@@ -35,22 +35,26 @@ FieldOf store_op = StoreOp
 FieldOf callee = Option ℕ
 FieldOf values = List Value
 
--- fields of these types, one after the other
+-- something for each of these fields, one after the other
+abbrev pub Each : (FieldType → Type 0) → List FieldType → Type 0
+Each F [] = Unit {0}
+Each F (t ∷ ts) = F t × Each F ts
+
+-- a function that takes it one by one
+abbrev pub Takes : (FieldType → Type 0) → List FieldType → Type 0 → Type 0
+Takes F [] A = A
+Takes F (t ∷ ts) A = F t → Takes F ts A
+
+-- what it gives for all of it
+abbrev pub given : {A : Type 0} → (F : FieldType → Type 0) → (ts : List FieldType) → Takes F ts A → Each F ts → A
+given F [] f each = f
+given F (t ∷ ts) f each = given F ts (f each.0) each.1
+
+-- a function of all of it, as one that takes it one by one
+abbrev pub one_by_one : {A : Type 0} → (F : FieldType → Type 0) → (ts : List FieldType) → (Each F ts → A) → Takes F ts A
+one_by_one F [] f = f tt
+one_by_one F (t ∷ ts) f = λ x. one_by_one F ts (λ each. f (x, each))
+
+-- fields of these types
 abbrev pub Fields : List FieldType → Type 0
-Fields [] = Unit {0}
-Fields (t ∷ ts) = FieldOf t × Fields ts
-
--- a function that takes such fields one by one
-abbrev pub Takes : List FieldType → Type 0 → Type 0
-Takes [] A = A
-Takes (t ∷ ts) A = FieldOf t → Takes ts A
-
--- what it gives for these fields
-abbrev pub given : {A : Type 0} → (ts : List FieldType) → Takes ts A → Fields ts → A
-given [] f fields = f
-given (t ∷ ts) f fields = given ts (f fields.0) fields.1
-
--- a function of such fields, as one that takes them one by one
-abbrev pub one_by_one : {A : Type 0} → (ts : List FieldType) → (Fields ts → A) → Takes ts A
-one_by_one [] f = f tt
-one_by_one (t ∷ ts) f = λ x. one_by_one ts (λ fields. f (x, fields))
+Fields ts = Each FieldOf ts

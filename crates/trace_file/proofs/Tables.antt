@@ -1,7 +1,7 @@
 -- No spelling of an event begins another's.
 use Rattle.std.proofs.Common.{◌≡◌, ℕ, List, [], ◌∷◌, ◌++◌, sym, ap, ◌∙◌, subst}
 use Rattle.hook_select.specs.Fields.{FieldType, place, number, signed, value, block_kind, var_op, num_op, load_op, store_op, callee, values, Fields}
-use Rattle.hook_select.specs.Events.{Row, row_of, row_number, types_at, event_row, event_of}
+use Rattle.hook_select.specs.Events.{Row, row_of, row_number, types_at, event_row, event_of, number_of}
 use Rattle.hook_select.proofs.Events.{told}
 use Rattle.trace_file.specs.Begins.{NoneBegins}
 use Rattle.trace_file.proofs.Apart.{AreApart, apart_unit, apart_pair}
@@ -45,7 +45,7 @@ apart_rows (row_of m f) (row_of n g) r s fit fits h d = subst (IsApart m f fit) 
 pub apart_event : AreApart FitsEvent event_bytes
 apart_event = record {
   apart = λ x y r s f g e.
-      let h : row_number (event_row x) ≡ row_number (event_row y) = cc in
+      let h : number_of x ≡ number_of y = cc in
       let d : fields_bytes x ++ r ≡ fields_bytes y ++ s = cc in
       let t = apart_rows (event_row x) (event_row y) r s f g h d in
       (sym (told x) ∙ ap event_of t.0 ∙ told y, t.1);

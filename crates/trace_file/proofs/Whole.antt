@@ -7,7 +7,7 @@ use Rattle.std.specs.List.{AllByRecursion}
 use Rattle.leb_binary.specs.Shortest.{unsigned_bytes}
 use Rattle.leb_binary.proofs.Lengths.{longer_unsigned}
 use Rattle.hook_select.specs.declared.Event.{Event}
-use Rattle.hook_select.specs.Events.{row_number, event_row}
+use Rattle.hook_select.specs.Events.{number_of}
 use Rattle.hook_select.proofs.Events.{numbered}
 use Rattle.trace_file.specs.Begins.{BeginsWithSpelling, NoneBegins}
 use Rattle.trace_file.specs.Fields.{FitsNumber}
@@ -18,7 +18,7 @@ use Rattle.trace_file.proofs.Tables.{apart_event}
 
 -- no event begins with the byte that ends them
 pub not_ended : (e : Event) (r t : List ℕ) → event_bytes e ++ r ≡ 0 ∷ t → ⊥
-not_ended e r t d = let h : (row_number (event_row e)) ≡ 0 = cc in omega (arith, (numbered e).0)
+not_ended e r t d = let h : number_of e ≡ 0 = cc in omega (arith, (numbered e).0)
 
 -- events that some bytes begin with are the first of those that stand before an end
 pub first_events : (xs ys : List Event) (r t : List ℕ) → AllByRecursion FitsEvent xs → AllByRecursion FitsEvent ys → events_bytes xs ++ r ≡ events_bytes ys ++ 0 ∷ t
@@ -33,7 +33,7 @@ first_events (x ∷ xs) (y ∷ ys) r t f g d =
 
 -- where there is no byte, there is no event
 pub no_tag : (bytes : List ℕ) → NoneBegins (λ (b : ℕ). b < 256) (λ b. b ∷ []) bytes → NoneBegins FitsEvent event_bytes bytes
-no_tag bytes none rest e (f, d) = none (fields_bytes e ++ rest) (row_number (event_row e)) ((numbered e).1, d)
+no_tag bytes none rest e (f, d) = none (fields_bytes e ++ rest) (number_of e) ((numbered e).1, d)
 
 -- what stands behind the header of a file
 behind_header : (mid rest : List ℕ) → header ++ mid ≡ header ++ rest → mid ≡ rest

@@ -13,23 +13,25 @@ use Rattle.wasm_num.specs.declared.Value.TheVariants.{I32, I64}
 use Rattle.wasm_num.specs.Shapes.{num_operands}
 use Rattle.hook_select.specs.declared.GroupName.TheVariants as groups
 use Rattle.hook_mono.specs.declared.HookKey.TheVariants as keys
-use Rattle.hook_mono.specs.Plains.{plain_event}
-use Rattle.hook_mono.specs.Values.{IsWord, AreWords, value_number, numbers, values_from, value_at, number_at}
-use Rattle.hook_mono.specs.Words.{plain_values, value_types}
+use Rattle.hook_select.specs.Fields.{FieldType, place, number, signed, value, callee, values, Each}
+use Rattle.hook_select.specs.Events.{Row, row_of, types_at, event_row}
+use Rattle.hook_mono.specs.Told.{InKey, Told, event_told, values_told, word_fields, told_types, fields_from, told_event}
+use Rattle.hook_mono.specs.Plains.{plain_told}
+use Rattle.hook_mono.specs.Values.{IsWord, AreWords, value_number, numbers, values_from, number_at}
+use Rattle.hook_mono.specs.Words.{num_told, key_told, value_types}
 use Rattle.branch_resolve.specs.declared.Block.{Block}
 use Rattle.index_remap.specs.declared.Remap.{Remap}
 use Rattle.index_remap.specs.Remap.{unmap_index}
 use Rattle.wasm_sem.specs.Execution.{in_slot}
 use Rattle.wasm_sem.specs.Typed.{HasType, HaveTypes}
 use Rattle.wasm_sem.proofs.SoundCallees.{every_at}
-use Rattle.wasm_sem.proofs.Straight.{some_is}
 use Rattle.static_info.specs.declared.TableInfo.{TableInfo}
 use Rattle.static_info.specs.declared.FuncInfo.{FuncInfo}
 use Rattle.static_info.specs.declared.Info.{Info}
 use Rattle.static_info.specs.Form.{IsPosition, AreBlocksAfter, AreBlocks, IsDefined, IsWellFormed}
-use Rattle.static_info.specs.Read.{info_remap, callee_in, num_event, key_event, chosen_label, contains, within_block, table_at, end_event, jump_events, table_events, known_events, func_events, found_events, is_selected, loc_of, hook_events, read_hook}
-use Rattle.trace_file.specs.Fields.{FitsNumber, FitsSigned, FitsLocation, FitsValue, FitsCallee, FitValues}
-use Rattle.trace_file.specs.Rows.{FitsEvent}
+use Rattle.static_info.specs.Read.{info_remap, callee_in, chosen_label, contains, within_block, table_at, end_event, jump_events, table_events, known_events, func_events, found_events, is_selected, loc_of, hook_events, read_hook}
+use Rattle.trace_file.specs.Fields.{FitsNumber, FitsSigned, FitsLocation, FitsValue, FitsCallee, FitFields}
+use Rattle.trace_file.specs.Rows.{FitsRow, FitsEvent}
 use Rattle.app_runs.proofs.FewEvents.{few_label, table_labels, formed_there}
 
 -- ---- signed numbers
@@ -86,7 +88,7 @@ HaveFirst (t ∷ ts) (v ∷ vs) = HasType t v × HaveFirst ts vs
 -- and so few that they can be counted
 record AreFirst (ts : List ValType) (vs : List Value) : Type 0 where
   first : HaveFirst ts vs
-  fit : FitValues vs
+  few : FitsNumber (length vs)
 
 have_first : (ts : List ValType) (ws : List ℕ) → AllByRecursion FitsNumber ws → HaveFirst ts (values_from ts ws)
 have_first [] ws fit = tt
@@ -116,41 +118,16 @@ each_fits [] (v ∷ vs) h = absurd h
 each_fits (t ∷ ts) (v ∷ vs) h = (value_fits t v h.0, each_fits ts vs h.1)
 
 are_first : (ts : List ValType) (ws : List ℕ) → FitWords ws → AreFirst ts (values_from ts ws)
-are_first ts ws h =
-    let first = have_first ts ws h.fit in
-    record { first = first; fit = (omega (arith, values_few ts ws, h.few), each_fits ts (values_from ts ws) first) }
+are_first ts ws h = record { first = have_first ts ws h.fit; few = omega (arith, values_few ts ws, h.few) }
 
 -- a word among them
 word_fits : (v : Value) → HasType types.I32 v → FitsNumber (value_number v)
 word_fits (I32 n) h = h
 word_fits (I64 n) h = absurd h
 
-word_at : (ts : List ValType) (vs : List Value) (i : ℕ) → HaveFirst ts vs → slice_get ts i ≡ Some types.I32 → FitsNumber (number_at vs i)
-word_at ts [] i h at = omega arith
-word_at [] (v ∷ vs) i h at = absurd h
-word_at (t ∷ ts) (v ∷ vs) zero h at = word_fits v (subst (λ u. HasType u v) (some_is at) h.0)
-word_at (t ∷ ts) (v ∷ vs) (suc i) h at = word_at ts vs i h.1 at
-
-word : {ts : List ValType} {vs : List Value} → AreFirst ts vs → (i : ℕ) → slice_get ts i ≡ Some types.I32 → FitsNumber (number_at vs i)
-word {ts} {vs} h i at = word_at ts vs i h.first at
-
--- any of them
-value_there : (vs : List Value) (i : ℕ) → AllByRecursion FitsValue vs → FitsValue (value_at vs i)
-value_there [] i fit = omega arith
-value_there (v ∷ vs) zero fit = fit.0
-value_there (v ∷ vs) (suc i) fit = value_there vs i fit.1
-
-value : {ts : List ValType} {vs : List Value} → AreFirst ts vs → (i : ℕ) → FitsValue (value_at vs i)
-value {ts} {vs} h i = value_there vs i h.fit.1
-
--- those behind some
-behind_fit : (n : ℕ) (vs : List Value) → FitValues vs → FitValues (drop n vs)
-behind_fit zero vs h = h
-behind_fit (suc n) [] h = h
-behind_fit (suc n) (v ∷ vs) h = behind_fit n vs (omega (arith, h.0), h.1.1)
-
-behind : {ts : List ValType} {vs : List Value} → AreFirst ts vs → (n : ℕ) → FitValues (drop n vs)
-behind {ts} {vs} h n = behind_fit n vs h.fit
+first_word : (ts : List ValType) (vs : List Value) → HaveFirst (types.I32 ∷ ts) vs → FitsNumber (number_at vs 0)
+first_word ts [] h = omega arith
+first_word ts (v ∷ vs) h = word_fits v h.0
 
 -- ---- functions in slots
 
@@ -181,40 +158,53 @@ callee_fits info slots slot fit = by (slice_get slots slot) refl
 abbrev pub Fit : List Event → Type 0
 Fit es = AllByRecursion FitsEvent es
 
-module _ (info : Info) (slots : List (Option ℕ)) (table : FitSlots slots) (loc : Loc) (there : FitsLocation loc) (vs : List Value) where
-  plain_fits : (g : GroupName) → AreFirst (plain_values g) vs → Fit (plain_event g loc vs)
-  plain_fits groups.Start h = ((there, tt), tt)
-  plain_fits groups.Nop h = ((there, tt), tt)
-  plain_fits groups.Unreachable h = ((there, tt), tt)
-  plain_fits groups.If h = ((there, (word h 0 refl, tt)), tt)
-  plain_fits groups.Br h = ((there, (word h 0 refl, (signed_fits _ (word h 1 refl), tt))), tt)
-  plain_fits groups.BrIf h = ((there, (word h 0 refl, (signed_fits _ (word h 1 refl), (word h 2 refl, tt)))), tt)
-  plain_fits groups.MemorySize h = ((there, (word h 0 refl, tt)), tt)
-  plain_fits groups.MemoryGrow h = ((there, (word h 0 refl, (word h 1 refl, tt))), tt)
-  plain_fits _ h = tt
+module _ (at : ℕ → Option ℕ) (called : (slot : ℕ) → FitsCallee (at slot)) (loc : Loc) (there : FitsLocation loc) where
+  fields_fit : (slot : ℕ) (ts : List FieldType) (key : Each InKey ts) (vs : List Value) → HaveFirst (word_fields ts key) vs → FitsNumber (length vs) → FitFields ts (fields_from at loc slot ts key vs)
+  fields_fit slot [] key vs h few = tt
+  fields_fit slot (place ∷ ts) key vs h few = (there, fields_fit slot ts key.1 vs h few)
+  fields_fit slot (number ∷ ts) key [] h few = (omega arith, fields_fit 0 ts key.1 [] tt few)
+  fields_fit slot (number ∷ ts) key (v ∷ vs) h few = (word_fits v h.0, fields_fit (value_number v) ts key.1 vs h.1 (omega (arith, few)))
+  fields_fit slot (signed ∷ ts) key [] h few = (signed_fits 0 (omega arith), fields_fit slot ts key.1 [] tt few)
+  fields_fit slot (signed ∷ ts) key (v ∷ vs) h few = (signed_fits (value_number v) (word_fits v h.0), fields_fit slot ts key.1 vs h.1 (omega (arith, few)))
+  fields_fit slot (value ∷ ts) key [] h few = (omega arith, fields_fit slot ts key.1 [] tt few)
+  fields_fit slot (value ∷ ts) key (v ∷ vs) h few = (value_fits key.0 v h.0, fields_fit slot ts key.1 vs h.1 (omega (arith, few)))
+  fields_fit slot (values ∷ ts) key vs h few = ((few, each_fits key.0 vs h), fields_fit slot ts key.1 [] tt (omega arith))
+  fields_fit slot (callee ∷ ts) key vs h few = (called slot, fields_fit slot ts key.1 vs h few)
+  fields_fit slot (t ∷ ts) key vs h few = (tt, fields_fit slot ts key.1 vs h few)
 
-  num_fits : (op : NumOp) (ts : List ValType) → AreFirst (value_types (keys.Num op)) vs → FitsEvent (num_event op ts loc vs)
-  num_fits op [] h = (there, (tt, (value h 0, (value h 1, (value h 2, tt)))))
-  num_fits op (t ∷ []) h = (there, (tt, (value h 0, (value h 1, tt))))
-  num_fits op (t ∷ (u ∷ ts)) h = (there, (tt, (value h 0, (value h 1, (value h 2, tt)))))
+  -- the fields that a call tells
+  abbrev told_rows : Told → List Value → List Row
+  told_rows (event_told n key) vs = row_of n (fields_from at loc 0 (types_at n) key vs) ∷ []
+  told_rows (values_told ts) vs = []
 
-  key_fits : (key : HookKey) → AreFirst (value_types key) vs → Fit (key_event info slots key loc vs)
-  key_fits (keys.Plain g) h = plain_fits g h
-  key_fits (keys.Begin kind) h = ((there, (tt, tt)), tt)
-  key_fits (keys.End kind) h = ((there, (tt, (signed_fits _ (word h 0 refl), tt))), tt)
-  key_fits (keys.Const t) h = ((there, (value h 0, tt)), tt)
-  key_fits (keys.Num op) h = (num_fits op (num_operands op) h, tt)
-  key_fits (keys.Drop t) h = ((there, (value h 0, tt)), tt)
-  key_fits (keys.Select t) h = ((there, (value h 0, (value h 1, (word h 2 refl, tt)))), tt)
-  key_fits (keys.Local op t) h = ((there, (tt, (word h 0 refl, (value h 1, tt)))), tt)
-  key_fits (keys.Global op t) h = ((there, (tt, (word h 0 refl, (value h 1, tt)))), tt)
-  key_fits (keys.Load op) h = ((there, (tt, (word h 0 refl, (word h 1 refl, (value h 2, tt))))), tt)
-  key_fits (keys.Store op) h = ((there, (tt, (word h 0 refl, (word h 1 refl, (value h 2, tt))))), tt)
-  key_fits (keys.CallPre ts) h = ((there, (word h 0 refl, (behind h 1, tt))), tt)
-  key_fits (keys.IndirectPre ts) h =
-      ((there, (word h 0 refl, (word h 1 refl, (callee_fits info slots (number_at vs 1) table, (behind h 2, tt))))), tt)
-  key_fits (keys.CallPost ts) h = ((there, (h.fit, tt)), tt)
-  key_fits (keys.Return ts) h = ((there, (h.fit, tt)), tt)
+  told_fit : (told : Told) (vs : List Value) → AreFirst (told_types told) vs → AllByRecursion FitsRow (told_rows told vs)
+  told_fit (event_told n key) vs h = (fields_fit 0 (types_at n) key vs h.first h.few, tt)
+  told_fit (values_told ts) vs h = tt
+
+  -- they are those of the events of the key
+  abbrev AreTold : Told → Type 0
+  AreTold told = (vs : List Value) → map event_row (told_event at told loc vs) ≡ told_rows told vs
+
+  plain_rows : (g : GroupName) → AreTold (plain_told g)
+  plain_rows groups.Start vs = refl
+  plain_rows g vs = refl
+
+  num_rows : (op : NumOp) (ts : List ValType) → AreTold (num_told op ts)
+  num_rows op [] vs = refl
+  num_rows op (t ∷ []) vs = refl
+  num_rows op (t ∷ (u ∷ ts)) vs = refl
+
+  key_rows : (key : HookKey) → AreTold (key_told key)
+  key_rows (keys.Plain g) vs = plain_rows g vs
+  key_rows (keys.Num op) vs = num_rows op (num_operands op) vs
+  key_rows key vs = refl
+
+  rows_fit : (es : List Event) → AllByRecursion FitsRow (map event_row es) → Fit es
+  rows_fit [] h = tt
+  rows_fit (e ∷ es) h = (h.0, rows_fit es h.1)
+
+  key_fits : (key : HookKey) (vs : List Value) → AreFirst (value_types key) vs → Fit (told_event at (key_told key) loc vs)
+  key_fits key vs h = rows_fit _ (subst (AllByRecursion FitsRow) (sym (key_rows key vs)) (told_fit (key_told key) vs h))
 
 -- ---- the events of a br_table
 
@@ -262,9 +252,9 @@ module _ (info : Info) (formed : IsWellFormed info) (slots : List (Option ℕ)) 
   module _ (loc : Loc) (there : FitsLocation loc) (vs : List Value) where
     known_fits : (f : FuncInfo) (key : HookKey) → IsDefined f → AreFirst (value_types key) vs → Fit (known_events info slots hook f key loc vs)
     known_fits f (keys.Plain groups.BrTable) is h =
-        table_fits hook few loc there (number_at vs 0) (word h 0 refl) f.blocks (table_at loc.instr f.tables) (blocks_fit f.blocks is.1)
+        table_fits hook few loc there (number_at vs 0) (first_word [] vs h.first) f.blocks (table_at loc.instr f.tables) (blocks_fit f.blocks is.1)
         (λ t e. table_labels loc.instr (negsuc 0) f.tables t is.2 e)
-    known_fits f key is h = key_fits info slots table loc there vs key h
+    known_fits f key is h = key_fits (callee_in info slots) (λ slot. callee_fits info slots slot table) loc there key vs h
 
     func_fits : (defined : Bool) (f : FuncInfo) (key : HookKey) → (defined ≡ true → IsDefined f) → AreFirst (value_types key) vs
         → Fit (func_events info slots hook defined f key loc vs)
