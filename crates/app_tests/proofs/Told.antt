@@ -83,14 +83,17 @@ ends = (function_scope code, at 3 true (closes (function_scope code)) [], stands
 -- there are such instructions in the module that stores 1
 shown : AreShown storing_one told
 shown = (
-  (record { params = []; results = [] }, [], code, refl, refl),
+  tt,
   (
-    (pos 0, acts_there 0 (i32_const (pos 0)) refl),
+    (record { params = []; results = [] }, [], code, refl, refl),
     (
-      (pos 1, acts_there 1 (i32_const (pos 1)) refl),
+      (pos 0, acts_there 0 (i32_const (pos 0)) refl),
       (
-        (unaligned, acts_there 2 (store I32Store8 unaligned) refl, refl),
-        (inr ends, (ends, tt)),
+        (pos 1, acts_there 1 (i32_const (pos 1)) refl),
+        (
+          (unaligned, acts_there 2 (store I32Store8 unaligned) refl, refl),
+          (inr ends, (ends, tt)),
+        ),
       ),
     ),
   ),

@@ -83,28 +83,26 @@ end_is end k h (suc n) = h n ∙ ap (λ p. block_in p (end + 1) k) (omega arith)
 abbrev from : ℕ → Tree → ℕ → Option Block
 from at code p = block_in p at code
 
+-- a block, and what stands after its end
+block_row : (at : ℕ) (here : Option Block) (body k : Tree) → IsRowOf (at + 1) (code_row body) (from (at + 1) body)
+    → IsRowOf (at + code_size body + 1 + 1) (code_row k) (from (at + code_size body + 1 + 1) k)
+    → IsRowOf at (here ∷ (code_row body ++ None ∷ code_row k)) (part at (at + code_size body + 1) here (from (at + 1) body) (from (at + code_size body + 1 + 1) k))
+block_row at here body k inner rest =
+    let end = at + code_size body + 1 in
+    part_is at (code_size body) here (code_row body) (None ∷ code_row k) (from (at + 1) body) (from (end + 1) k) (row_length body) inner (end_is end k rest)
+
 row_is : (at : ℕ) (code : Tree) → IsRowOf at (code_row code) (from at code)
 row_is at done = λ n. refl
 row_is at (plain i k) = end_is at k (row_is (at + 1) k)
-row_is at (block ty body k) =
-    let end = at + code_size body + 1 in
-    part_is at (code_size body) (of_kind kinds.Block ty) (code_row body) (None ∷ code_row k) (from (at + 1) body) (from (end + 1) k) (row_length body) (row_is (at + 1) body)
-    (end_is end k (row_is (end + 1) k))
-row_is at (loop ty body k) =
-    let end = at + code_size body + 1 in
-    part_is at (code_size body) (of_kind kinds.Loop ty) (code_row body) (None ∷ code_row k) (from (at + 1) body) (from (end + 1) k) (row_length body) (row_is (at + 1) body)
-    (end_is end k (row_is (end + 1) k))
-row_is at (if_then ty body k) =
-    let end = at + code_size body + 1 in
-    part_is at (code_size body) (of_kind kinds.If ty) (code_row body) (None ∷ code_row k) (from (at + 1) body) (from (end + 1) k) (row_length body) (row_is (at + 1) body)
-    (end_is end k (row_is (end + 1) k))
+row_is at (block ty body k) = block_row at (of_kind kinds.Block ty) body k (row_is (at + 1) body) (row_is (at + code_size body + 1 + 1) k)
+row_is at (loop ty body k) = block_row at (of_kind kinds.Loop ty) body k (row_is (at + 1) body) (row_is (at + code_size body + 1 + 1) k)
+row_is at (if_then ty body k) = block_row at (of_kind kinds.If ty) body k (row_is (at + 1) body) (row_is (at + code_size body + 1 + 1) k)
 row_is at (if_else ty body other k) =
     let middle = at + code_size body + 1 in
     let end = middle + code_size other + 1 in
     part_is at (code_size body) (of_kind kinds.If ty) (code_row body) (of_kind kinds.Else ty ∷ (code_row other ++ None ∷ code_row k)) (from (at + 1) body)
     (part middle end (of_kind kinds.Else ty) (from (middle + 1) other) (from (end + 1) k)) (row_length body) (row_is (at + 1) body)
-    (part_is middle (code_size other) (of_kind kinds.Else ty) (code_row other) (None ∷ code_row k) (from (middle + 1) other) (from (end + 1) k) (row_length other)
-    (row_is (middle + 1) other) (end_is end k (row_is (end + 1) k)))
+    (block_row middle (of_kind kinds.Else ty) other k (row_is (middle + 1) other) (row_is (end + 1) k))
 
 -- ---- a place of a module
 

@@ -1,5 +1,5 @@
 -- The state of a shadow that is new is the store of the run as it opens, with no mark.
-use Rattle.std.proofs.Common.{◌≡◌, ℕ, ◌*◌, List, [], ◌∷◌, length, replicate, None, Bool, false, refl, ap, ap₂, ◌∙◌, take, arith, ◌++◌, ◌-◌}
+use Rattle.std.proofs.Common.{◌≡◌, ℕ, ◌*◌, List, [], length, replicate, None, Bool, false, sym, ap, ap₂, ◌∙◌, take, arith, ◌++◌, ◌-◌}
 use Rattle.std.proofs.lemmas.List.{take_all}
 use Rattle.wasm_sem.specs.Types.{Value, Module}
 use Rattle.module_ast.specs.Memory.{page_size}
@@ -11,21 +11,13 @@ use Rattle.shadow_replay.specs.declared.marked.Marked.{Marked}
 use Rattle.shadow_replay.specs.Laws.{shadow_of, tainted}
 use Rattle.shadow_replay.specs.Opened.{opening_replay, replay_with}
 use Rattle.shadow_replay.specs.Replayed.{Replay, shadow_seen, marked_values}
-use Rattle.shadow_replay.specs.Stacked.{values_in, marks_in, Standing}
+use Rattle.shadow_replay.specs.Stacked.{Standing}
 use Rattle.shadow_replay.specs.Tagged.{opening_taint}
 use Rattle.shadow_replay.specs.Taint.{Watch, each_marked}
+use Rattle.shadow_replay.proofs.ShadowHosts.{marked_is, marked_so, each_is}
 
 pub no_marks : {A : Type 0} (xs : List A) → replicate (length xs) false ≡ each_marked false xs
-no_marks [] = refl
-no_marks (x ∷ xs) = ap (λ ks. false ∷ ks) (no_marks xs)
-
-values_back : (vs : List Value) → values_in (marked_values false vs) ≡ vs
-values_back [] = refl
-values_back (v ∷ vs) = ap (λ ws. v ∷ ws) (values_back vs)
-
-marks_back : (vs : List Value) → marks_in (marked_values false vs) ≡ each_marked false vs
-marks_back [] = refl
-marks_back (v ∷ vs) = ap (λ ks. false ∷ ks) (marks_back vs)
+no_marks xs = sym (each_is false xs)
 
 module _ (m n : Module) (s : Script) (w : Watch) (same : n ≡ m) where
   -- of a module that is the same
@@ -58,7 +50,7 @@ module _ (m n : Module) (s : Script) (w : Watch) (same : n ≡ m) where
             state = record (shadow_of (opening_store n s) []) { globals = vs };
             marks = record { taint = record (opening_taint (opening_store n s)) { globals = ks }; prepared = None; held = []; given = [] };
           };
-        } in r)) (values_back g) (marks_back g)
+        } in r)) (marked_is false g) (marked_so false g)
         ∙ ap opening_of same
 
 -- ---- what is put together is that

@@ -1,16 +1,16 @@
 -- What a branch and the end of a block make of a state that they are fit for.
 use Rattle.std.proofs.Common.{◌≡◌, ℕ, zero, suc, ◌+◌, ◌<◌, ◌≤◌, List, [], ◌∷◌, ◌++◌, Option, Some, None, IsSome, Bool, length, option_and_then, take, drop, refl, sym, ap, ◌∙◌, subst, arith, append-nil}
 use Rattle.std.specs.Prelude.{reverse, Result, Ok, Err, is_ok, OnOk, true}
-use Rattle.std.proofs.lemmas.List.{reverse-reverse, length-drop, drop_all}
+use Rattle.std.proofs.Math.Seq.{drop-nil}
+use Rattle.std.proofs.lemmas.List.{nil_from_length, reverse-reverse, length-drop, drop_all}
 use Rattle.wasm_sem.specs.Types.{Value}
 use Rattle.module_ast.specs.Validation.{push}
-use Rattle.wasm_sem.specs.Execution.{pop_values}
 use Rattle.shadow_replay.specs.declared.marked.Marked.{Marked}
 use Rattle.shadow_replay.specs.Shadow.{ShadowLabel, ShadowFrame, HeldValues, Shadow, have_types, types_of, swap, swap_in, with_operands, branch_values, with_held, with_results, holds, holds_results, drops_last, drops_label}
-use Rattle.shadow_replay.specs.Stacked.{values_in, marks_in, Standing, Has, HasLabel, exchanged_in, exchanged, arity_in, outer_count, operand_count, top_operands, frame_left, label_landed, AreOperandsBelow}
-use Rattle.shadow_replay.specs.Tainted.{ShadowMarks, TaintedShadow, held_arity, holds_marks, holds_results_marks, drops_marks, takes_given_marks, with_marks}
+use Rattle.shadow_replay.specs.Stacked.{values_in, marks_in, Standing, Has, HasLabel, exchanged_in, exchanged, operand_count, top_operands, frame_left, label_landed, AreOperandsBelow}
+use Rattle.shadow_replay.specs.Tainted.{arity_in, outer_count, ShadowMarks, TaintedShadow, held_arity, holds_marks, drops_marks, takes_given_marks, with_marks}
 use Rattle.shadow_replay.specs.Replayed.{below, held_below, held_in, with_standing, standing_in, ended_in, ended, given_taken}
-use Rattle.shadow_replay.proofs.ShadowTakes.{some_if, Popped, popped, push_is}
+use Rattle.shadow_replay.proofs.ShadowTakes.{some_if, some_of, Popped, popped, popped_of, push_is}
 use Rattle.shadow_replay.proofs.StackReads.{map-reverse}
 
 -- ---- the values that a branch takes
@@ -25,12 +25,8 @@ found o zero a outer h = let p = popped a o [] h in record { label = omega arith
 found o (suc n) a [] h = absurd cc
 found o (suc n) a (l ∷ ls) h = let r = found o n l.arity ls h in record { label = omega (arith, r.label); within = r.within; is = r.is }
 
-some_held : (sh : Shadow) (n : ℕ) (r : Option (List Value × List Value)) → IsSome (with_held sh n r) → IsSome r
-some_held sh n None h = absurd cc
-some_held sh n (Some p) h = refl
-
 frame_found : (n : ℕ) (fr : ShadowFrame) (below : List ShadowFrame) (sh : Shadow) → IsSome (holds n (fr ∷ below) sh) → Found fr.top.ops n fr.top.arity fr.outer
-frame_found n fr below sh h = found fr.top.ops n fr.top.arity fr.outer (some_held sh n (branch_values fr.top.ops n fr.top.arity fr.outer) h)
+frame_found n fr below sh h = found fr.top.ops n fr.top.arity fr.outer (some_of (with_held sh n) refl (branch_values fr.top.ops n fr.top.arity fr.outer) h)
 
 -- a label and its values are there, below so many operands
 pub record HasHeld (a n : ℕ) (fs : List ShadowFrame) : Type 0 where
@@ -62,13 +58,13 @@ held_is n (fr ∷ below) sh k ms h e g =
     ∙ ap (λ ks. with_marks (record k { held = ks }) (with_values (values_in ms))) (sym (reverse-reverse (take a k.taint.operands)) ∙ ap reverse (sym g)))
 
 -- below so many operands
-arity_below : (a n : ℕ) (fs : List ShadowFrame) → arity_in n (exchanged_in a [] fs) ≡ arity_in n fs
+pub arity_below : (a n : ℕ) (fs : List ShadowFrame) → arity_in n (exchanged_in a [] fs) ≡ arity_in n fs
 arity_below a n [] = refl
 arity_below a n (fr ∷ below) = refl
 
-top_below : (a : ℕ) (fs : List ShadowFrame) → Has a fs → top_operands (exchanged_in a [] fs) ≡ drop a (top_operands fs)
-top_below a [] h = absurd h
-top_below a (fr ∷ below) h = refl
+pub top_past : (n : ℕ) (fs : List ShadowFrame) → top_operands (exchanged_in n [] fs) ≡ drop n (top_operands fs)
+top_past n [] = sym (drop-nil n)
+top_past n (fr ∷ below) = refl
 
 pub held_below_is : (a n : ℕ) (sh : TaintedShadow) (ms : List Marked) → Has a sh.state.frames → IsSome (held_below a n sh.state) → values_in ms ≡ reverse (take (arity_in n sh.state.frames) (drop a (top_operands sh.state.frames)))
     → marks_in ms ≡ reverse (take (arity_in n sh.state.frames) (drop a sh.marks.taint.operands))
@@ -79,7 +75,7 @@ held_below_is a n sh ms has h e g =
     let fs2 = exchanged_in a [] fs in
     let arity = sym (arity_below a n fs) in
     held_is n fs2 (below a sh.state) (record sh.marks { taint = record sh.marks.taint { operands = drop a sh.marks.taint.operands } }) ms h
-    (e ∙ (ap (λ k. reverse (take k (drop a (top_operands fs)))) arity ∙ ap (λ os. reverse (take (arity_in n fs2) os)) (sym (top_below a fs has))))
+    (e ∙ (ap (λ k. reverse (take k (drop a (top_operands fs)))) arity ∙ ap (λ os. reverse (take (arity_in n fs2) os)) (sym (top_past a fs))))
     (g ∙ ap (λ k. reverse (take k (drop a sh.marks.taint.operands))) arity)
 
 -- ---- a return
@@ -88,16 +84,9 @@ some_results : (sh : Shadow) (n : ℕ) (vs : List Value) (r : Option (List Value
 some_results sh n vs None h = absurd cc
 some_results sh n vs (Some p) h = (some_if (have_types (types_of vs) p.0) (with_held sh n (Some p)) h).0
 
-return_in : (vs : List Value) (fs : List ShadowFrame) (sh : Shadow) → IsSome (holds_results vs fs sh) → holds_results vs fs sh ≡ holds (outer_count fs) fs sh
-return_in vs [] sh h = absurd cc
-return_in vs (fr ∷ below) sh h = some_results sh (length fr.outer) vs (branch_values fr.top.ops (length fr.outer) fr.top.arity fr.outer) h
-
-pub return_is : (vs : List Value) (sh : Shadow) → IsSome (holds_results vs sh.frames sh) → holds_results vs sh.frames sh ≡ holds (outer_count sh.frames) sh.frames sh
-return_is vs sh h = return_in vs sh.frames sh h
-
-pub return_marks : (fs : List ShadowFrame) (k : ShadowMarks) → holds_results_marks fs k ≡ holds_marks (outer_count fs) fs k
-return_marks [] k = refl
-return_marks (fr ∷ below) k = refl
+pub return_is : (vs : List Value) (fs : List ShadowFrame) (sh : Shadow) → IsSome (holds_results vs fs sh) → holds_results vs fs sh ≡ holds (outer_count fs) fs sh
+return_is vs [] sh h = absurd cc
+return_is vs (fr ∷ below) sh h = some_results sh (length fr.outer) vs (branch_values fr.top.ops (length fr.outer) fr.top.arity fr.outer) h
 
 -- ---- ends
 
@@ -108,21 +97,12 @@ giving ms st sh = record {
   marks = record (with_standing st sh).marks { given = reverse (marks_in ms) };
 }
 
-some_marked : (k : ShadowMarks) (o : Option Shadow) → IsSome (with_marks k o) → IsSome o
-some_marked k None h = absurd cc
-some_marked k (Some sh) h = refl
-
-some_last : (sh : Shadow) (below : List ShadowFrame) (r : Option (List Value × List Value)) → IsSome (drops_last sh below r) → IsSome r
-some_last sh below None h = absurd cc
-some_last sh below (Some p) h = refl
-
 module _ (sh : TaintedShadow) (fr : ShadowFrame) (below : List ShadowFrame) where
   abbrev ended_frame : Option HeldValues → List ShadowLabel → Option TaintedShadow
   ended_frame held outer = with_marks (drops_marks (record fr { outer = outer }) held sh.marks) (drops_label sh.state (record fr { outer = outer }) below held)
 
   popped_last : IsSome (ended_frame None []) → Popped fr.top.arity fr.top.ops []
-  popped_last h =
-      popped fr.top.arity fr.top.ops [] (some_last sh.state below (pop_values fr.top.arity fr.top.ops []) (some_marked (drops_marks (record fr { outer = [] }) None sh.marks) (drops_last sh.state below (pop_values fr.top.arity fr.top.ops [])) h))
+  popped_last h = (popped_of (λ r. with_marks (drops_marks (record fr { outer = [] }) None sh.marks) (drops_last sh.state below r)) refl fr.top.arity fr.top.ops h).0
 
   last_ends : (ms : List Marked) → IsSome (ended_frame None []) → values_in ms ≡ reverse (take fr.top.arity fr.top.ops) → marks_in ms ≡ reverse (take fr.top.arity sh.marks.taint.operands)
       → ended_frame None [] ≡ Some (giving ms (record { frames = below; operands = drop (length fr.top.ops) sh.marks.taint.operands; locals = drop 1 sh.marks.taint.locals }) sh)
@@ -133,23 +113,19 @@ module _ (sh : TaintedShadow) (fr : ShadowFrame) (below : List ShadowFrame) wher
       ∙ (ap (λ vs. with_marks (drops_marks (record fr { outer = [] }) None sh.marks) (with_given vs)) (append-nil (reverse (take fr.top.arity fr.top.ops)) ∙ sym e)
       ∙ ap (λ ks. with_marks (record (drops_marks (record fr { outer = [] }) None sh.marks) { given = ks }) (with_given (values_in ms))) (sym (reverse-reverse (take fr.top.arity sh.marks.taint.operands)) ∙ ap reverse (sym g)))
 
-empty : (ls : List ShadowLabel) → length ls ≡ 0 → ls ≡ []
-empty [] h = refl
-empty (l ∷ ls) h = absurd (omega (arith, h))
-
 abbrev fallen : TaintedShadow → List ShadowFrame → Option TaintedShadow
 fallen sh [] = None
 fallen sh (fr ∷ below) = ended_frame sh fr below None fr.outer
 
 has_fallen : (sh : TaintedShadow) (fs : List ShadowFrame) → outer_count fs ≡ 0 → IsSome (fallen sh fs) → Has (0 + arity_in 0 fs) fs
 has_fallen sh [] q h = absurd cc
-has_fallen sh (fr ∷ below) q h = omega (arith, (popped_last sh fr below (subst (λ ls. IsSome (ended_frame sh fr below None ls)) (empty fr.outer q) h)).within)
+has_fallen sh (fr ∷ below) q h = omega (arith, (popped_last sh fr below (subst (λ ls. IsSome (ended_frame sh fr below None ls)) (nil_from_length fr.outer q) h)).within)
 
 fallen_is : (sh : TaintedShadow) (fs : List ShadowFrame) (ms : List Marked) → outer_count fs ≡ 0 → IsSome (fallen sh fs) → values_in ms ≡ reverse (take (arity_in 0 fs) (top_operands fs)) → marks_in ms ≡ reverse (take (arity_in 0 fs) sh.marks.taint.operands)
     → fallen sh fs ≡ Some (giving ms (record { frames = drop 1 fs; operands = drop (operand_count fs) sh.marks.taint.operands; locals = drop 1 sh.marks.taint.locals }) sh)
 fallen_is sh [] ms q h e g = absurd cc
 fallen_is sh (fr ∷ below) ms q h e g =
-    let none = empty fr.outer q in
+    let none = nil_from_length fr.outer q in
     ap (ended_frame sh fr below None) none ∙ last_ends sh fr below ms (subst (λ ls. IsSome (ended_frame sh fr below None ls)) none h) e g
 
 ended_fallen : (sh : TaintedShadow) (fs : List ShadowFrame) → sh.state.held ≡ None → ended_in fs sh ≡ fallen sh fs
@@ -199,13 +175,10 @@ module _ (sh : TaintedShadow) (ms : List Marked) where
       ∙ (ap (λ ks. with_ops (ks ++ operands) (push (values_in ms) l.ops)) (g ∙ marked ms)
       ∙ (ap (with_ops (marks_in (reverse ms) ++ operands)) (pushed ms l.ops) ∙ ap (λ o. with_ops (marks_in (reverse ms) ++ operands) (values_in (reverse ms) ++ (o ++ l.ops))) (sym (no_top fr.top.ops))))
 
-  land_in : (fs : List ShadowFrame) → 0 < outer_count fs → sh.state.held ≡ Some (record { values = values_in ms; label = 0 }) → sh.marks.held ≡ reverse (marks_in ms)
+  pub land_is : (fs : List ShadowFrame) → 0 < outer_count fs → sh.state.held ≡ Some (record { values = values_in ms; label = 0 }) → sh.marks.held ≡ reverse (marks_in ms)
       → ended_in fs sh ≡ Some (unheld (with_standing (label_landed (reverse ms) (record { frames = fs; operands = sh.marks.taint.operands; locals = sh.marks.taint.locals })) sh))
-  land_in [] k e g = absurd (omega (arith, k))
-  land_in (fr ∷ below) k e g = land_labels fr below fr.outer k e g
-
-  pub land_is : 0 < outer_count sh.state.frames → sh.state.held ≡ Some (record { values = values_in ms; label = 0 }) → sh.marks.held ≡ reverse (marks_in ms) → ended sh ≡ Some (unheld (with_standing (label_landed (reverse ms) (standing_in sh)) sh))
-  land_is k e g = land_in sh.state.frames k e g
+  land_is [] k e g = absurd (omega (arith, k))
+  land_is (fr ∷ below) k e g = land_labels fr below fr.outer k e g
 
   -- what is given
   swap_given : (fs : List ShadowFrame) (state : Shadow) → Has 0 fs → swap_in fs [] (values_in ms) state ≡ Some (record state { frames = exchanged_in 0 (values_in (reverse ms)) fs })
@@ -225,7 +198,3 @@ module _ (sh : TaintedShadow) (ms : List Marked) where
 pub on_ok : {A E P : Type 0} (r : Result A E) → is_ok r ≡ true → OnOk r P → P
 on_ok (Ok a) e h = h
 on_ok (Err x) e h = absurd cc
-
-pub positive : (n : ℕ) → (n ≡ 0 → ⊥) → 0 < n
-positive zero h = absurd (h refl)
-positive (suc n) h = omega arith

@@ -1,13 +1,11 @@
 -- What entries and calls make of a state that they are fit for.
-use Rattle.std.proofs.Common.{◌≡◌, ℕ, ◌+◌, List, [], ◌∷◌, Option, Some, None, IsSome, option_and_then, Bool, true, false, cond, length, take, drop, get_or, slice_get, arith, refl, sym, ap, ◌∙◌, subst, append-nil}
+use Rattle.std.proofs.Common.{◌≡◌, ℕ, ◌+◌, List, [], ◌∷◌, ◌++◌, Option, Some, None, IsSome, option_and_then, Bool, true, false, cond, length, take, drop, get_or, slice_get, arith, refl, sym, ap, ◌∙◌, subst, append-nil}
 use Rattle.std.specs.Prelude.{reverse}
 use Rattle.std.proofs.lemmas.List.{length-drop, drop-drop}
-use Rattle.std.proofs.Math.Seq.{drop-nil}
 use Rattle.std.proofs.lemmas.Option.{get_or_from_slice_get}
 use Rattle.wasm_sem.specs.Types.{ValType, Value, FuncType, Loc, Module}
 use Rattle.wasm_num.specs.declared.ValType.TheVariants as types
-use Rattle.wasm_sem.specs.Execution.{Callee, callee_type, callees_of, pop_values, same_func_type, entry}
-use Rattle.wasm_sem.proofs.Straight.{some_is}
+use Rattle.wasm_sem.specs.Execution.{Callee, callee_type, callees_of, same_func_type, entry}
 use Rattle.shadow_replay.specs.declared.marked.Marked.{Marked}
 use Rattle.shadow_replay.specs.Shadow.{ShadowFrame, Shadow, have_types, with_prepared, takes_arguments, calls_callee, calls_typed, swap, prepared_locals, prepared_typed, prepared_slot, enters}
 use Rattle.shadow_replay.specs.Events.{effect, tainted_effect}
@@ -16,27 +14,26 @@ use Rattle.shadow_replay.specs.Taint.{Watch, each_marked, exchange, no_frames}
 use Rattle.shadow_replay.specs.Tainted.{PreparedMarks, TaintedShadow, move, calls_marks, calls_typed_marks, enters_marks, local_marks, prepared_marks, typed_marks, slot_marks, with_marks}
 use Rattle.shadow_replay.specs.Resolved.{begun_with}
 use Rattle.shadow_replay.specs.Replayed.{Replay, PreparedLocals, with_standing, standing_in, marked_values, values_prepared, marks_prepared, Prepares, called_through, slot_called}
-use Rattle.shadow_replay.proofs.ShadowTakes.{some_if, inner_some, popped, Swaps, swapped}
+use Rattle.shadow_replay.proofs.ShadowEnds.{top_past}
+use Rattle.shadow_replay.proofs.ShadowTakes.{some_if, some_of, popped_of, Swaps, swapped}
 use Rattle.shadow_replay.proofs.ShadowHosts.{marked_is, marked_so}
 use Rattle.shadow_replay.proofs.ZeroLocals.{begun_values, begun_marks}
 
 -- ---- entries
 
-abbrev entering : List Marked → TaintedShadow → TaintedShadow
-entering ms sh = record {
-  state = record sh.state { frames = []; prepared = Some (values_in ms); held = None; given = None };
-  marks = record { taint = no_frames sh.marks.taint; prepared = Some (record { call = None; marks = marks_in ms }); held = []; given = [] };
+abbrev entering : List Value → List Bool → TaintedShadow → TaintedShadow
+entering vs ks sh = record {
+  state = record sh.state { frames = []; prepared = Some vs; held = None; given = None };
+  marks = record { taint = no_frames sh.marks.taint; prepared = Some (record { call = None; marks = ks }); held = []; given = [] };
 }
 
 pub enter_is : (m : Module) (limit : ℕ) (w : Watch) (sh : TaintedShadow) (f : ℕ) (args : List Value) (c : Callee) → slice_get (callees_of m) f ≡ Some c → IsSome (effect m limit sh.state (entry (record { func = f; args = args })))
-    → tainted_effect m limit w sh (entry (record { func = f; args = args })) ≡ Some (entering (begun_with c (marked_values false args)) sh)
+    → tainted_effect m limit w sh (entry (record { func = f; args = args }))
+    ≡ Some (entering (values_in (begun_with c (marked_values false args))) (marks_in (begun_with c (marked_values false args))) sh)
 enter_is m limit w sh f args c e h =
     let ms = marked_values false args in
     let fit = subst (λ c. IsSome (enters sh.state args c)) e h in
-    let with_locals : List Value → List Bool → Option TaintedShadow = λ vs ks. Some (record {
-      state = record sh.state { frames = []; prepared = Some vs; held = None; given = None };
-      marks = record { taint = no_frames sh.marks.taint; prepared = Some (record { call = None; marks = ks }); held = []; given = [] };
-    }) in
+    let with_locals : List Value → List Bool → Option TaintedShadow = λ vs ks. Some (entering vs ks sh) in
     ap (λ c. with_marks (enters_marks args c sh.marks) (enters sh.state args c)) e
     ∙ (ap (with_marks (enters_marks args (Some c) sh.marks)) (some_if (have_types (callee_type c).params args) (Some (record sh.state { frames = []; prepared = Some (prepared_locals c args); held = None; given = None })) fit).0
     ∙ (ap (λ vs. with_locals vs (local_marks c (each_marked false args))) (ap (prepared_locals c) (sym (marked_is false args)) ∙ sym (begun_values c ms))
@@ -50,36 +47,31 @@ Taken sh fs ts prepared =
 
 taken : (sh : Shadow) (fs : List ShadowFrame) (ts : List ValType) (prepared : List Value → Option (List Value)) → IsSome (takes_arguments sh fs ts prepared) → Taken sh fs ts prepared
 taken sh [] ts prepared h = absurd cc
-taken sh (fr ∷ below) ts prepared h = by_pop (pop_values (length ts) fr.top.ops []) refl h
-  where
-    by_pop : (r : Option (List Value × List Value)) → pop_values (length ts) fr.top.ops [] ≡ r → IsSome (with_prepared sh fr below ts prepared r) → Taken sh (fr ∷ below) ts prepared
-    by_pop None e h = absurd cc
-    by_pop (Some p) e h =
-        let q = popped (length ts) fr.top.ops [] (subst (λ (r : Option (List Value × List Value)). IsSome r) (sym e) refl) in
-        let is = some_is (sym e ∙ q.is) in
-        let with_both : List Value → List Value → Option Shadow = λ args o. Some (record sh { frames = record fr { top = record fr.top { ops = o } } ∷ below; prepared = prepared args }) in (
-          q.within,
-          ap (with_prepared sh fr below ts prepared) e ∙ ((some_if (have_types ts p.0) (with_both p.0 p.1) h).0
-              ∙ (ap (λ (r : List Value × List Value). with_both r.0 r.1) is ∙ ap (λ args. with_both args (drop (length ts) fr.top.ops)) (append-nil (reverse (take (length ts) fr.top.ops))))),
-        )
+taken sh (fr ∷ below) ts prepared h =
+    let n = length ts in
+    let o = fr.top.ops in
+    let p = popped_of (with_prepared sh fr below ts prepared) refl n o h in
+    let with_args : List Value → Option Shadow = λ args. Some (record sh { frames = exchanged_in n [] (fr ∷ below); prepared = prepared args }) in (
+      p.0.within,
+      ap (with_prepared sh fr below ts prepared) p.0.is ∙ (some_if (have_types ts (reverse (take n o) ++ [])) (with_args (reverse (take n o) ++ [])) p.1).0
+          ∙ ap with_args (append-nil (reverse (take n o))),
+    )
 
 pub call_has : (sh : Shadow) (c : Callee) → IsSome (calls_callee sh (Some c)) → Has (length (callee_type c).params) sh.frames
 call_has sh c h = (taken sh sh.frames (callee_type c).params (λ args. Some (prepared_locals c args)) h).0
 
-abbrev calling : Loc → ℕ → List Marked → TaintedShadow → TaintedShadow
-calling l n ms sh = record {
-  state = record (with_standing (exchanged n [] (standing_in sh)) sh).state { prepared = Some (values_in ms) };
-  marks = record (with_standing (exchanged n [] (standing_in sh)) sh).marks { prepared = Some (record { call = Some l; marks = marks_in ms }) };
+abbrev calling : ℕ → Option (List Value) → Option PreparedMarks → TaintedShadow → TaintedShadow
+calling n vs ks sh = record {
+  state = record (with_standing (exchanged n [] (standing_in sh)) sh).state { prepared = vs };
+  marks = record (with_standing (exchanged n [] (standing_in sh)) sh).marks { prepared = ks };
 }
 
 pub call_is : (l : Loc) (sh : TaintedShadow) (c : Callee) (ms : List Marked) → IsSome (calls_callee sh.state (Some c)) → AreOperandsBelow 0 (length (callee_type c).params) ms (standing_in sh)
-    → with_marks (calls_marks l (Some c) sh.marks) (calls_callee sh.state (Some c)) ≡ Some (calling l (length (callee_type c).params) (begun_with c ms) sh)
+    → with_marks (calls_marks l (Some c) sh.marks) (calls_callee sh.state (Some c))
+    ≡ Some (calling (length (callee_type c).params) (Some (values_in (begun_with c ms))) (Some (record { call = Some l; marks = marks_in (begun_with c ms) })) sh)
 call_is l sh c ms h r =
     let n = length (callee_type c).params in
-    let with_locals : List Value → List Bool → Option TaintedShadow = λ vs ks. Some (record {
-      state = record (with_standing (exchanged n [] (standing_in sh)) sh).state { prepared = Some vs };
-      marks = record (with_standing (exchanged n [] (standing_in sh)) sh).marks { prepared = Some (record { call = Some l; marks = ks }) };
-    }) in
+    let with_locals : List Value → List Bool → Option TaintedShadow = λ vs ks. Some (calling n (Some vs) (Some (record { call = Some l; marks = ks })) sh) in
     ap (with_marks (calls_marks l (Some c) sh.marks)) (taken sh.state sh.state.frames (callee_type c).params (λ args. Some (prepared_locals c args)) h).1
     ∙ (ap (λ vs. with_locals vs (local_marks c (reverse (take n sh.marks.taint.operands)))) (ap (prepared_locals c) (sym r.values) ∙ sym (begun_values c ms))
     ∙ ap (with_locals (values_in (begun_with c ms))) (ap (local_marks c) (sym r.marks) ∙ sym (begun_marks c ms)))
@@ -108,10 +100,6 @@ exchanged_twice : (n : ℕ) (fs : List ShadowFrame) → exchanged_in n [] (excha
 exchanged_twice n [] = refl
 exchanged_twice n (fr ∷ below) = ap (λ o. (let t : ShadowFrame = record fr { top = record fr.top { ops = o } } in t) ∷ below) (drop-drop n 1 fr.top.ops)
 
-top_past : (n : ℕ) (fs : List ShadowFrame) → top_operands (exchanged_in n [] fs) ≡ drop n (top_operands fs)
-top_past n [] = sym (drop-nil n)
-top_past n (fr ∷ below) = refl
-
 -- the state without the slot's number
 module _ (m : Module) (f : Option ℕ) (ty : FuncType) (sh : Shadow) (h : IsSome (option_and_then (calls_typed m f (Some ty)) (swap (types.I32 ∷ []) [] sh))) where
   abbrev n : ℕ
@@ -120,8 +108,8 @@ module _ (m : Module) (f : Option ℕ) (ty : FuncType) (sh : Shadow) (h : IsSome
   abbrev past : Shadow
   past = record sh { frames = exchanged_in 1 [] sh.frames }
 
-  first : Swaps (types.I32 ∷ []) [] sh
-  first = swapped (types.I32 ∷ []) [] sh (inner_some (calls_typed m f (Some ty)) (swap (types.I32 ∷ []) [] sh) h)
+  first : Swaps (types.I32 ∷ []) [] sh sh.frames
+  first = swapped (types.I32 ∷ []) [] sh sh.frames (some_of (option_and_then (calls_typed m f (Some ty))) refl (swap (types.I32 ∷ []) [] sh) h)
 
   second : Taken past past.frames ty.params (prepared_slot m ty f)
   second = taken past past.frames ty.params (prepared_slot m ty f) (subst (λ (o : Option Shadow). IsSome (option_and_then (calls_typed m f (Some ty)) o)) first.is h)
@@ -149,14 +137,8 @@ slot_room r ty f asked there e =
     let fit = subst (λ t. IsSome (option_and_then (calls_typed r.module f t) swapping)) type there in
     record { type = type; fit = fit; has = slot_has r.module f asked r.shadow.state fit }
 
-abbrev calling_slot : ℕ → Option PreparedLocals → TaintedShadow → TaintedShadow
-calling_slot n p sh = record {
-  state = record (with_standing (exchanged n [] (standing_in sh)) sh).state { prepared = values_prepared p };
-  marks = record (with_standing (exchanged n [] (standing_in sh)) sh).marks { prepared = marks_prepared p };
-}
-
 pub slot_is : (l : Loc) (f : Option ℕ) (asked : FuncType) (ty : ℕ) (r : Replay) (ms : List Marked) (p : Option PreparedLocals) → IsSome (called_through ty f r) → asked ≡ get_or r.module.types ty asked
-    → AreOperandsBelow 1 (length asked.params) ms (standing_in r.shadow) → Prepares l asked f ms r p → slot_called l ty f r ≡ Some (calling_slot (1 + length asked.params) p r.shadow)
+    → AreOperandsBelow 1 (length asked.params) ms (standing_in r.shadow) → Prepares l asked f ms r p → slot_called l ty f r ≡ Some (calling (1 + length asked.params) (values_prepared p) (marks_prepared p) r.shadow)
 slot_is l f asked ty r ms p there listed below prepared =
     let m = r.module in
     let sh = r.shadow in

@@ -1,7 +1,8 @@
 -- What a host call makes of a state that it is fit for.
-use Rattle.std.proofs.Common.{◌≡◌, ℕ, suc, replicate, ◌+◌, ◌-◌, ◌<◌, ◌≤◌, List, [], ◌∷◌, ◌++◌, Option, Some, None, IsSome, Bool, true, false, length, take, drop, get_or, slice_get, refl, sym, ap, ◌∙◌, arith, append_assoc, ◌&&◌}
+use Rattle.std.proofs.Common.{◌≡◌, ℕ, replicate, ◌+◌, ◌-◌, ◌<◌, ◌≤◌, List, [], ◌∷◌, ◌++◌, Option, Some, None, IsSome, Bool, true, false, length, take, drop, get_or, slice_get, refl, sym, ap, ◌∙◌, arith, append_assoc, ◌&&◌}
 use Rattle.std.specs.Prelude.{reverse}
-use Rattle.std.proofs.lemmas.List.{map-append, take_more, reverse-append, length-take-le, length-drop, drop-drop}
+use Rattle.std.proofs.lemmas.Simd.{map-map}
+use Rattle.std.proofs.lemmas.List.{length-map, map-append, take_more, reverse-append, length-take-le, length-drop, drop-drop}
 use Rattle.std.proofs.lemmas.Option.{slice_get-get_or}
 use Rattle.wasm_sem.specs.Types.{Value, Module}
 use Rattle.module_ast.specs.Memory.{overlay}
@@ -30,8 +31,7 @@ marked_is k [] = refl
 marked_is k (v ∷ vs) = ap (λ us. v ∷ us) (marked_is k vs)
 
 pub marked_so : (k : Bool) (vs : List Value) → marks_in (marked_values k vs) ≡ each_marked k vs
-marked_so k [] = refl
-marked_so k (v ∷ vs) = ap (λ ks. k ∷ ks) (marked_so k vs)
+marked_so k vs = map-map (λ (m : Marked). m.mark) (λ (v : Value). record { value = v; mark = k }) vs
 
 each_last : {A : Type 0} (k : Bool) (xs : List A) → each_marked k xs ++ k ∷ [] ≡ k ∷ each_marked k xs
 each_last k [] = refl
@@ -41,13 +41,7 @@ each_reversed : {A : Type 0} (k : Bool) (xs : List A) → reverse (each_marked k
 each_reversed k [] = refl
 each_reversed k (x ∷ xs) = reverse-append (k ∷ []) (each_marked k xs) ∙ (ap (λ ks. ks ++ k ∷ []) (each_reversed k xs) ∙ each_last k xs)
 
--- ---- warnings
-
 -- ---- writes
-
-pub each_length : {A : Type 0} (k : Bool) (xs : List A) → length (each_marked k xs) ≡ length xs
-each_length k [] = refl
-each_length k (x ∷ xs) = ap suc (each_length k xs)
 
 pub each_is : {A : Type 0} (k : Bool) (xs : List A) → each_marked k xs ≡ replicate (length xs) k
 each_is k [] = refl
@@ -59,7 +53,7 @@ pub unmarked_part : (a n k : ℕ) (xs ys : List Bool) (bs : List ℕ) → n ≡ 
 unmarked_part a n k xs ys bs e size h g =
     let count : k ≡ length bs = omega (arith, e, size) in
     let part : length (take k (drop a xs)) ≡ length bs = omega (arith, length-take-le k (drop a xs) (omega (arith, count, length-drop a xs, h)), count) in
-    let next : a + k ≡ a + length (each_marked false bs) = omega (arith, count, each_length false bs) in
+    let next : a + k ≡ a + length (each_marked false bs) = omega (arith, count, length-map bs (λ b. false)) in
     ap (λ ys. take a xs ++ (ys ++ drop k (drop a xs))) (g ∙ (ap (λ n. replicate n false) part ∙ sym (each_is false bs)))
     ∙ ap (λ zs. take a xs ++ (each_marked false bs ++ zs)) (drop-drop k a xs ∙ ap (λ n. drop n xs) next) ∙ sym (append_assoc (take a xs) (each_marked false bs) (drop (a + length (each_marked false bs)) xs))
 

@@ -1,8 +1,8 @@
 -- What a state has for an item that is fit for it, and what the item makes of it.
 use Rattle.std.proofs.Common.{◌≡◌, subst, ℕ, zero, suc, ◌+◌, ◌≤◌, List, [], ◌∷◌, ◌++◌, Option, Some, None, IsSome, Bool, true, false, length, set, slice_get, option_and_then, take, drop, refl, sym, ap, ◌∙◌, arith, append_assoc}
-use Rattle.std.specs.Prelude.{reverse, is_some}
+use Rattle.std.specs.Prelude.{reverse}
 use Rattle.std.proofs.lemmas.List.{reverse-append, map-set}
-use Rattle.wasm_sem.specs.Types.{NumOp, ValType, LoadOp, Value, Loc, Module}
+use Rattle.wasm_sem.specs.Types.{NumOp, ValType, LoadOp, Value, Loc, Module, Event}
 use Rattle.wasm_num.specs.declared.ValType.TheVariants as types
 use Rattle.module_ast.specs.Memory.{load_value}
 use Rattle.module_ast.specs.Validation.{load_type, load_width, push}
@@ -13,12 +13,11 @@ use Rattle.hook_mono.specs.Words.{type_of}
 use Rattle.shadow_replay.specs.declared.Warning.{Warning}
 use Rattle.shadow_replay.specs.declared.marked.Marked.{Marked}
 use Rattle.wasm_sem.specs.Execution.{pop_values, TraceItem, event}
-use Rattle.wasm_sem.proofs.Straight.{some_is}
 use Rattle.shadow_replay.specs.Shadow.{ShadowFrame, Shadow, have_types, have_type, if_true, if_alike, if_there, writes_global, with_operands, with_swapped, swap_in, swap}
 use Rattle.shadow_replay.specs.Events.{event_effect, item_marks, tainted_effect}
 use Rattle.shadow_replay.specs.Taint.{Watch, join, some_marked, nth_mark, read_mark}
 use Rattle.shadow_replay.specs.Tainted.{TaintedShadow, with_marks, move}
-use Rattle.shadow_replay.specs.Replayed.{Replay, with_standing, standing_in, PreparedLocals, HeldOperands, shadow_seen, Becomes, TakesItem, number_effect, number_taken}
+use Rattle.shadow_replay.specs.Replayed.{Replay, with_standing, standing_in, PreparedLocals, HeldOperands, shadow_seen, Becomes, TakesItem, IsFitEvent, number_effect, number_taken}
 use Rattle.shadow_replay.specs.Stacked.{values_in, marks_in, Standing, Has, exchanged_in, exchanged}
 
 -- where something is tested and there
@@ -30,10 +29,10 @@ pub some_alike : (old : Option Value) (v : Value) (x : Option Shadow) → IsSome
 some_alike None v x h = absurd cc
 some_alike (Some old) v x h = (some_if (have_type (type_of old) v) x h).0
 
--- what leads on is there
-pub inner_some : {A : Type 0} (change : A → Option Shadow) (o : Option A) → IsSome (option_and_then change o) → IsSome o
-inner_some change None h = absurd cc
-inner_some change (Some a) h = refl
+-- what something is made of is there, where nothing is made of nothing
+pub some_of : {A B : Type 0} (of : Option A → Option B) → of None ≡ None → (o : Option A) → IsSome (of o) → IsSome o
+some_of of none None h = absurd cc
+some_of of none (Some a) h = refl
 
 -- ---- operands
 
@@ -55,29 +54,35 @@ pub push_is : (vs o : List Value) → push vs o ≡ reverse vs ++ o
 push_is [] o = refl
 push_is (v ∷ vs) o = push_is vs (v ∷ o) ∙ (sym (append_assoc (reverse vs) (v ∷ []) o) ∙ ap (λ us. us ++ o) (sym (reverse-append (v ∷ []) vs)))
 
-pub record Swaps (ts : List ValType) (vs : List Value) (sh : Shadow) : Type 0 where
-  pub has : Has (length ts) sh.frames
-  pub is : swap ts vs sh ≡ Some (record sh { frames = exchanged_in (length ts) (reverse vs) sh.frames })
+-- what is made of them
+pub popped_of : {A : Type 0} (of : Option (List Value × List Value) → Option A) → of None ≡ None → (n : ℕ) (o : List Value) → IsSome (of (pop_values n o []))
+    → Popped n o [] × IsSome (of (Some (reverse (take n o) ++ [], drop n o)))
+popped_of {A} of none n o h =
+    let p = popped n o [] (some_of of none (pop_values n o []) h) in
+    (p, subst (λ (a : Option A). IsSome a) (ap of p.is) h)
 
-swap_frames : (ts : List ValType) (vs : List Value) (sh : Shadow) (fs : List ShadowFrame) → IsSome (swap_in fs ts vs sh) → Has (length ts) fs × (swap_in fs ts vs sh ≡ Some (record sh { frames = exchanged_in (length ts) (reverse vs) fs }))
-swap_frames ts vs sh [] h = absurd cc
-swap_frames ts vs sh (fr ∷ below) h = by_pop (pop_values (length ts) fr.top.ops []) refl h
-  where
-    by_pop : (r : Option (List Value × List Value)) → pop_values (length ts) fr.top.ops [] ≡ r → IsSome (with_swapped sh fr below ts vs r)
-        → Has (length ts) (fr ∷ below) × (swap_in (fr ∷ below) ts vs sh ≡ Some (record sh { frames = exchanged_in (length ts) (reverse vs) (fr ∷ below) }))
-    by_pop None e h = absurd cc
-    by_pop (Some p) e h =
-        let q = popped (length ts) fr.top.ops [] (ap is_some e) in
-        let rest : p.1 ≡ drop (length ts) fr.top.ops = ap (λ (r : List Value × List Value). r.1) (some_is (sym e ∙ q.is)) in (
-          q.within,
-          ap (with_swapped sh fr below ts vs) e ∙ ((some_if (have_types ts p.0) (Some (with_operands sh fr below (push vs p.1))) h).0
-              ∙ ap (λ o. Some (with_operands sh fr below o)) (ap (push vs) rest ∙ push_is vs (drop (length ts) fr.top.ops))),
-        )
+pub record Swaps (ts : List ValType) (vs : List Value) (sh : Shadow) (fs : List ShadowFrame) : Type 0 where
+  pub has : Has (length ts) fs
+  pub is : swap_in fs ts vs sh ≡ Some (record sh { frames = exchanged_in (length ts) (reverse vs) fs })
 
-pub swapped : (ts : List ValType) (vs : List Value) (sh : Shadow) → IsSome (swap ts vs sh) → Swaps ts vs sh
-swapped ts vs sh h = let r = swap_frames ts vs sh sh.frames h in record { has = r.0; is = r.1 }
+pub swapped : (ts : List ValType) (vs : List Value) (sh : Shadow) (fs : List ShadowFrame) → IsSome (swap_in fs ts vs sh) → Swaps ts vs sh fs
+swapped ts vs sh [] h = absurd cc
+swapped ts vs sh (fr ∷ below) h =
+    let n = length ts in
+    let o = fr.top.ops in
+    let p = popped_of (with_swapped sh fr below ts vs) refl n o h in
+    record {
+      has = p.0.within;
+      is = ap (with_swapped sh fr below ts vs) p.0.is
+          ∙ (some_if (have_types ts (reverse (take n o) ++ [])) (Some (with_operands sh fr below (push vs (drop n o)))) p.1).0
+          ∙ ap (λ o. Some (with_operands sh fr below o)) (push_is vs (drop n o));
+    }
 
 -- ---- items
+
+-- the state that a function sees
+abbrev pub seen_in : {seen old : Replay} → seen ≡ old → Replay
+seen_in {seen} e = seen
 
 -- what is made of a state that is seen so
 pub becomes : (of : Replay → Option TaintedShadow) (seen old new : Replay) → seen ≡ old → of seen ≡ Some new.shadow → new.module ≡ seen.module → new.limit ≡ seen.limit → new.watch ≡ seen.watch → Becomes (of old) old new
@@ -91,8 +96,16 @@ becomes of seen old new e h m l w = record {
 pub takes : (i : TraceItem) (seen old new : Replay) → seen ≡ old → tainted_effect seen.module seen.limit seen.watch seen.shadow i ≡ Some new.shadow → new.module ≡ seen.module → new.limit ≡ seen.limit → new.watch ≡ seen.watch → TakesItem i old new
 takes i = becomes (λ (r : Replay). tainted_effect r.module r.limit r.watch r.shadow i)
 
-pub number_is : (op : NumOp) (r : Value) (sh : Shadow) → IsSome (number_effect op r sh) → Swaps (num_operands op) (r ∷ []) sh
-number_is op r sh h = swapped (num_operands op) (r ∷ []) sh (some_if (have_type (num_result op) r) (swap (num_operands op) (r ∷ []) sh) h).1
+-- an event that is fit
+pub takes_event : (e is : Event) (seen old new : Replay) → seen ≡ old → e ≡ is → IsFitEvent e old
+    → (IsFitEvent is seen → tainted_effect seen.module seen.limit seen.watch seen.shadow (event is) ≡ Some new.shadow)
+    → new.module ≡ seen.module → new.limit ≡ seen.limit → new.watch ≡ seen.watch → TakesItem (event e) old new
+takes_event e is seen old new sees same fit made m l w =
+    subst (λ (e : Event). TakesItem (event e) old new) (sym same)
+    (takes (event is) seen old new sees (made (subst (IsFitEvent is) (sym sees) (subst (λ (e : Event). IsFitEvent e old) same fit))) m l w)
+
+pub number_is : (op : NumOp) (r : Value) (sh : Shadow) → IsSome (number_effect op r sh) → Swaps (num_operands op) (r ∷ []) sh sh.frames
+number_is op r sh h = swapped (num_operands op) (r ∷ []) sh sh.frames (some_if (have_type (num_result op) r) (swap (num_operands op) (r ∷ []) sh) h).1
 
 pub number_takes : (op : NumOp) (r : Value) (k : Bool) (n : ℕ) (st : Standing) (sh : TaintedShadow) → IsSome (number_effect op r sh.state) → n ≡ length (num_operands op) → k ≡ some_marked (take n sh.marks.taint.operands)
     → st ≡ exchanged n (record { value = r; mark = k } ∷ []) (standing_in sh) → number_taken op r sh ≡ Some (with_standing st sh)
@@ -108,8 +121,7 @@ module _ (m : Module) (limit : ℕ) (w : Watch) (memory : List ℕ) (ks : List B
   global_set l x v k fit e q =
       let sh = (shadow_seen memory ks gs st p h g ws).state in
       let marks2 = item_marks m w sh (event (events.Global l Set x v)) (shadow_seen memory ks gs st p h g ws).marks in
-      let there = inner_some (writes_global x v) (swap (type_of v ∷ []) [] sh) fit in
-      let s = swapped (type_of v ∷ []) [] sh there in
+      let s = swapped (type_of v ∷ []) [] sh sh.frames (some_of (option_and_then (writes_global x v)) refl (swap (type_of v ∷ []) [] sh) fit) in
       let next : Shadow = record sh { frames = exchanged_in 1 [] st.frames } in
       let written = some_alike (slice_get (values_in gs) x) v (Some (record next { globals = set (values_in gs) x v })) (subst (λ o. IsSome (option_and_then (writes_global x v) o)) s.is fit) in
       ap (with_marks marks2) (ap (option_and_then (writes_global x v)) s.is ∙ written)
@@ -135,6 +147,6 @@ load_takes m limit w sh st l op offset a v k fit e q =
     let loaded = load_value op (a + offset) sh.state.memory in
     let first = some_if (have_type (load_type op) v) (if_there loaded swapping) fit in
     let second = some_there loaded swapping first.1 in
-    let s = swapped (types.I32 ∷ []) (v ∷ []) sh.state (subst (λ (o : Option Shadow). IsSome o) second first.1) in
+    let s = swapped (types.I32 ∷ []) (v ∷ []) sh.state sh.state.frames (subst (λ (o : Option Shadow). IsSome o) second first.1) in
     ap (with_marks (item_marks m w sh.state (event (events.Load l op offset a v)) sh.marks)) (first.0 ∙ (second ∙ s.is))
     ∙ (ap (λ k. Some (with_standing (exchanged 1 (record { value = v; mark = k } ∷ []) (standing_in sh)) sh)) (sym e) ∙ ap (λ st. Some (with_standing st sh)) (sym q))

@@ -5,8 +5,8 @@ use Rattle.std.proofs.lemmas.List.{reverse-append, reverse-reverse, length-rever
 use Rattle.wasm_sem.specs.Types.{Value}
 use Rattle.shadow_replay.specs.declared.marked.Marked.{Marked}
 use Rattle.shadow_replay.specs.Shadow.{ShadowLabel, ShadowFrame}
-use Rattle.shadow_replay.specs.Tainted.{held_arity}
-use Rattle.shadow_replay.specs.Stacked.{values_in, KeptLabel, KeptFrame, labels_in, operands_in, labels_kept, AreFramesKept, Standing, standing, AreWellKept, Has, HasLabel, outer_count, arity_in, top_operands, AreOperandsBelow}
+use Rattle.shadow_replay.specs.Tainted.{outer_count, arity_in, held_arity}
+use Rattle.shadow_replay.specs.Stacked.{values_in, KeptLabel, KeptFrame, labels_in, operands_in, labels_kept, AreFramesKept, Standing, standing, AreWellKept, Has, HasLabel, top_operands, AreOperandsBelow}
 use Rattle.shadow_replay.proofs.Stacks.{spots_length, lying, reverse-take, reverse-cut, has_values}
 
 -- ---- labels of the innermost frame

@@ -1,13 +1,12 @@
 -- Events warn of nothing: warnings come at host calls alone.
-use Rattle.std.proofs.Common.{◌≡◌, ℕ, zero, suc, List, [], ◌∷◌, Option, Some, None, Bool, true, false, cond, refl}
+use Rattle.std.proofs.Common.{◌≡◌, ℕ, zero, suc, List, [], ◌∷◌, Option, Some, None, refl}
 use Rattle.wasm_num.specs.declared.BlockKind.TheVariants as kinds
-use Rattle.wasm_sem.specs.Types.{BlockKind, FuncType, Loc, Module, Event}
-use Rattle.module_ast.specs.declared.ops.VarOp.TheVariants.{Get}
+use Rattle.wasm_sem.specs.Types.{FuncType, Loc, Module, Event}
 use Rattle.hook_select.specs.declared.Event.TheVariants as events
 use Rattle.wasm_sem.specs.Execution.{Callee, at_zero}
 use Rattle.shadow_replay.specs.Shadow.{ShadowFrame, ShadowLabel, HeldValues, Shadow}
-use Rattle.shadow_replay.specs.Taint.{Taint, exchange, add_pages}
-use Rattle.shadow_replay.specs.Tainted.{ShadowMarks, move, holds_marks, holds_results_marks, drops_held_marks, drops_fallen_marks, drops_marks, ends_marks, calls_marks, calls_typed_marks}
+use Rattle.shadow_replay.specs.Taint.{exchange}
+use Rattle.shadow_replay.specs.Tainted.{ShadowMarks, move, holds_marks, drops_held_marks, drops_fallen_marks, drops_marks, ends_marks, calls_marks, calls_typed_marks}
 use Rattle.shadow_replay.specs.Events.{event_marks}
 
 -- the marks warn of the same
@@ -17,14 +16,6 @@ Warns k l = l.taint.warnings ≡ k.taint.warnings
 zero_warns : (n : ℕ) (k a b : ShadowMarks) → Warns k a → Warns k b → Warns k (at_zero n a b)
 zero_warns zero k a b p q = p
 zero_warns (suc n) k a b p q = q
-
-holds_warn : (n : ℕ) (fs : List ShadowFrame) (k : ShadowMarks) → Warns k (holds_marks n fs k)
-holds_warn n [] k = refl
-holds_warn n (fr ∷ below) k = refl
-
-results_warn : (fs : List ShadowFrame) (k : ShadowMarks) → Warns k (holds_results_marks fs k)
-results_warn [] k = refl
-results_warn (fr ∷ below) k = refl
 
 held_warn : (n : ℕ) (ls : List ShadowLabel) (label : ℕ) (k : ShadowMarks) → Warns k (drops_held_marks n ls label k)
 held_warn n [] label k = refl
@@ -51,25 +42,10 @@ typed_warn : (m : Module) (p : Loc) (f : Option ℕ) (ty : Option FuncType) (k :
 typed_warn m p f None k = refl
 typed_warn m p f (Some ty) k = refl
 
-begin_warn : (m : Module) (sh : Shadow) (p : Loc) (kind : BlockKind) (k : ShadowMarks) → Warns k (event_marks m sh (events.Begin p kind) k)
-begin_warn m sh p kinds.Function k = refl
-begin_warn m sh p _ k = refl
-
-grown_warn : (refused : Bool) (by : ℕ) (t : Taint) → (cond refused t (add_pages by t)).warnings ≡ t.warnings
-grown_warn true by t = refl
-grown_warn false by t = refl
-
 pub event_warns : (m : Module) (sh : Shadow) (e : Event) (k : ShadowMarks) → Warns k (event_marks m sh e k)
-event_warns m sh (events.Br p n target) k = holds_warn n sh.frames k
-event_warns m sh (events.BrIf p n target x) k =
-    zero_warns x k (move (exchange 1 []) k) (holds_marks n sh.frames (move (exchange 1 []) k)) refl (holds_warn n sh.frames (move (exchange 1 []) k))
-event_warns m sh (events.BrTable p x n target) k = holds_warn n sh.frames (move (exchange 1 []) k)
-event_warns m sh (events.Begin p kind) k = begin_warn m sh p kind k
+event_warns m sh (events.BrIf p n target x) k = zero_warns x k (move (exchange 1 []) k) (holds_marks n sh.frames (move (exchange 1 []) k)) refl refl
+event_warns m sh (events.Begin p kinds.Function) k = refl
 event_warns m sh (events.End p kind begin) k = ends_warn sh.frames sh.held k
-event_warns m sh (events.MemoryGrow p by previous) k = grown_warn _ by k.taint
 event_warns m sh (events.CallPre p f args) k = calls_warn p _ k
 event_warns m sh (events.IndirectPre p ty slot f args) k = typed_warn m p f _ (move (exchange 1 []) k)
-event_warns m sh (events.Return p vs) k = results_warn sh.frames k
-event_warns m sh (events.Local p Get x v) k = refl
-event_warns m sh (events.Global p Get x v) k = refl
 event_warns m sh _ k = refl

@@ -1,12 +1,12 @@
 -- Locals of a function before they are set.
-use Rattle.std.proofs.Common.{◌≡◌, ℕ, zero, suc, ◌+◌, ◌-◌, ◌<◌, List, [], ◌∷◌, ◌++◌, false, length, take, drop, replicate, get_or, refl, sym, ap, ◌∙◌, arith}
+use Rattle.std.proofs.Common.{◌≡◌, ℕ, zero, suc, ◌+◌, ◌-◌, ◌<◌, List, ◌∷◌, ◌++◌, false, length, take, drop, replicate, get_or, refl, sym, ap, ◌∙◌, arith}
+use Rattle.std.proofs.lemmas.Simd.{map-map}
 use Rattle.std.proofs.lemmas.List.{map-append, take_all, drop_more}
 use Rattle.wasm_sem.specs.Types.{ValType, Value, Group}
 use Rattle.module_ast.specs.Validation.{declared_locals}
-use Rattle.wasm_sem.specs.Execution.{zero_of, zeros, Callee, host, hook, own}
+use Rattle.wasm_sem.specs.Execution.{zero_of, Callee, host, hook, own}
 use Rattle.shadow_replay.specs.declared.marked.Marked.{Marked}
 use Rattle.shadow_replay.specs.Shadow.{prepared_locals}
-use Rattle.shadow_replay.specs.Taint.{each_marked}
 use Rattle.shadow_replay.specs.Tainted.{local_marks}
 use Rattle.shadow_replay.specs.Stacked.{values_in, marks_in}
 use Rattle.shadow_replay.specs.Resolved.{zero_locals, begun_with}
@@ -34,20 +34,12 @@ zeros_group gs i d h =
     let g = get_or gs i d in ap (λ gs. zero_locals (declared_locals gs)) (drop_more gs i d h) ∙ map-append zero_local (replicate g.count g.ty) (declared_locals (drop (i + 1) gs))
 
 -- what is kept is what the definitions say
-zero_values : (ts : List ValType) → values_in (zero_locals ts) ≡ zeros ts
-zero_values [] = refl
-zero_values (t ∷ ts) = ap (λ vs. zero_of t ∷ vs) (zero_values ts)
-
-zero_marks : (ts : List ValType) → marks_in (zero_locals ts) ≡ each_marked false ts
-zero_marks [] = refl
-zero_marks (t ∷ ts) = ap (λ ks. false ∷ ks) (zero_marks ts)
-
 pub begun_values : (c : Callee) (ms : List Marked) → values_in (begun_with c ms) ≡ prepared_locals c (values_in ms)
-begun_values (own ty locals code) ms = map-append (λ (m : Marked). m.value) ms (zero_locals locals) ∙ ap (λ vs. values_in ms ++ vs) (zero_values locals)
+begun_values (own ty locals code) ms = map-append (λ (m : Marked). m.value) ms (zero_locals locals) ∙ ap (λ vs. values_in ms ++ vs) (map-map (λ (m : Marked). m.value) zero_local locals)
 begun_values (host ty) ms = refl
 begun_values (hook ty) ms = refl
 
 pub begun_marks : (c : Callee) (ms : List Marked) → marks_in (begun_with c ms) ≡ local_marks c (marks_in ms)
-begun_marks (own ty locals code) ms = map-append (λ (m : Marked). m.mark) ms (zero_locals locals) ∙ ap (λ ks. marks_in ms ++ ks) (zero_marks locals)
+begun_marks (own ty locals code) ms = map-append (λ (m : Marked). m.mark) ms (zero_locals locals) ∙ ap (λ ks. marks_in ms ++ ks) (map-map (λ (m : Marked). m.mark) zero_local locals)
 begun_marks (host ty) ms = refl
 begun_marks (hook ty) ms = refl

@@ -4,7 +4,7 @@ use Rattle.std.specs.Prelude.{◌≡◌, ℕ, List, [], ◌∷◌, length, map, 
 use Rattle.wasm_num.specs.declared.ValType.TheVariants as types
 use Rattle.wasm_sem.specs.Types.{NumOp, Value, FuncType, Loc, Module, StoreOp, Event}
 use Rattle.wasm_num.specs.Shapes.{num_operands, num_result}
-use Rattle.module_ast.specs.Memory.{with_bytes, store_bytes, grown_memory}
+use Rattle.module_ast.specs.Memory.{with_bytes, store_bytes}
 use Rattle.module_ast.specs.Validation.{store_width}
 use Rattle.wasm_sem.specs.declared.HostWrite.{HostWrite}
 use Rattle.wasm_sem.specs.Execution.{TraceItem, host_call, callees_of}
@@ -13,9 +13,9 @@ use Rattle.shadow_replay.specs.declared.marked.Marked.{Marked}
 use Rattle.shadow_replay.specs.Blocks.{block_at}
 use Rattle.shadow_replay.specs.Shadow.{ShadowFrame, Shadow, have_type, if_true, swap, holds, drops_label, begins_block, begins_function, calls_callee, calls_typed, prepared_slot}
 use Rattle.shadow_replay.specs.Events.{event_effect, tainted_effect}
-use Rattle.shadow_replay.specs.Stacked.{values_in, marks_in, Standing, exchanged_in, arity_in, AreOperandsBelow}
-use Rattle.shadow_replay.specs.Taint.{Watch, exchange, join, mark_bytes, add_pages, warnings_by}
-use Rattle.shadow_replay.specs.Tainted.{PreparedMarks, TaintedShadow, move, holds_marks, drops_marks, takes_given_marks, calls_typed_marks, slot_marks, with_marks}
+use Rattle.shadow_replay.specs.Stacked.{values_in, marks_in, Standing, exchanged_in, AreOperandsBelow}
+use Rattle.shadow_replay.specs.Taint.{Watch, exchange, join, mark_bytes, warnings_by}
+use Rattle.shadow_replay.specs.Tainted.{arity_in, PreparedMarks, TaintedShadow, move, holds_marks, drops_marks, takes_given_marks, calls_typed_marks, slot_marks, with_marks}
 
 pub record Replay : Type 0 where
   pub «module» : Module
@@ -102,11 +102,6 @@ number_effect op r sh = if_true (have_type (num_result op) r) (swap (num_operand
 -- and of its marks
 abbrev pub number_taken : NumOp → (result : Value) → TaintedShadow → Option TaintedShadow
 number_taken op r sh = with_marks (move (join (length (num_operands op))) sh.marks) (number_effect op r sh.state)
-
--- the memory has `by` pages more
-pub record Grows (by : ℕ) (old new : Replay) : Type 0 where
-  pub memory : grown_memory old.limit by old.shadow.state.memory ≡ Some new.shadow.state.memory
-  pub rest : new ≡ record old { shadow = with_marked_memory new.shadow.state.memory (add_pages by old.shadow.marks.taint).memory old.shadow }
 
 -- the lowest bytes of a value are written
 abbrev pub stored_memory : StoreOp → (address : ℕ) → Value → List ℕ → Option (List ℕ)

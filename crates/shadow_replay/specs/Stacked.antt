@@ -7,7 +7,6 @@ use Rattle.wasm_num.specs.declared.BlockKind.TheVariants as kinds
 use Rattle.shadow_replay.specs.declared.marked.Marked.{Marked}
 use Rattle.shadow_replay.specs.Shadow.{ShadowLabel, ShadowFrame}
 use Rattle.shadow_replay.specs.Taint.{set_first}
-use Rattle.shadow_replay.specs.Tainted.{held_arity}
 
 abbrev pub values_in : List Marked → List Value
 values_in ms = map (λ (m : Marked). m.value) ms
@@ -167,19 +166,10 @@ local_set_in x v (fr ∷ below) = record fr { locals = slice_set fr.locals x v }
 abbrev pub local_set : (index : ℕ) → Marked → Standing → Standing
 local_set x m st = record { frames = local_set_in x m.value st.frames; operands = st.operands; locals = set_first x m.mark st.locals }
 
--- how many values a branch to a label takes, and whether there is this label
-abbrev pub arity_in : (label : ℕ) → List ShadowFrame → ℕ
-arity_in n [] = 0
-arity_in n (fr ∷ below) = held_arity n fr.top.arity fr.outer
-
+-- the innermost frame has this label
 abbrev pub HasLabel : (label : ℕ) → List ShadowFrame → Type 0
 HasLabel n [] = ⊥
 HasLabel n (fr ∷ below) = n ≤ length fr.outer
-
--- how many labels the innermost frame has around its innermost label
-abbrev pub outer_count : List ShadowFrame → ℕ
-outer_count [] = 0
-outer_count (fr ∷ below) = length fr.outer
 
 abbrev pub top_operands : List ShadowFrame → List Value
 top_operands [] = []

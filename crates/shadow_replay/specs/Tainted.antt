@@ -28,8 +28,9 @@ pub record TaintedShadow : Type 0 where
 
 -- ---- blocks and branches
 
+-- moves marks on bytes and values, and warns of nothing
 abbrev pub move : (Taint → Taint) → ShadowMarks → ShadowMarks
-move change k = record k { taint = change k.taint }
+move change k = record k { taint = record (change k.taint) { warnings = k.taint.warnings } }
 
 -- how many values a branch to a label takes; the label is counted outwards from one whose branches take `arity` values
 abbrev pub held_arity : (label : ℕ) → (arity : ℕ) → List ShadowLabel → ℕ
@@ -37,13 +38,19 @@ held_arity zero a outer = a
 held_arity (suc n) a [] = 0
 held_arity (suc n) a (l ∷ ls) = held_arity n l.arity ls
 
-abbrev pub holds_marks : (label : ℕ) → List ShadowFrame → ShadowMarks → ShadowMarks
-holds_marks n [] k = k
-holds_marks n (fr ∷ below) k = record k { held = take (held_arity n fr.top.arity fr.outer) k.taint.operands }
+-- how many values a branch to a label takes, which is counted from the innermost one; none without a frame
+abbrev pub arity_in : (label : ℕ) → List ShadowFrame → ℕ
+arity_in n [] = 0
+arity_in n (fr ∷ below) = held_arity n fr.top.arity fr.outer
 
-abbrev pub holds_results_marks : List ShadowFrame → ShadowMarks → ShadowMarks
-holds_results_marks [] k = k
-holds_results_marks (fr ∷ below) k = holds_marks (length fr.outer) (fr ∷ below) k
+-- how many labels the innermost frame has around its innermost label
+abbrev pub outer_count : List ShadowFrame → ℕ
+outer_count [] = 0
+outer_count (fr ∷ below) = length fr.outer
+
+-- a branch to a label holds the marks of the values that it takes
+abbrev pub holds_marks : (label : ℕ) → List ShadowFrame → ShadowMarks → ShadowMarks
+holds_marks n fs k = record k { held = take (arity_in n fs) k.taint.operands }
 
 -- a branch closes the innermost label with its operands, and leaves the frame if the label is the function's
 abbrev pub drops_held_marks : (count : ℕ) → List ShadowLabel → (label : ℕ) → ShadowMarks → ShadowMarks

@@ -2,12 +2,12 @@
 
 ghost use Rattle.std.specs.Prelude.{◌≡◌, ◌+◌, slice_get, None, Some, IsSome, IfOk, OnOk, OnErr};
 ghost use Rattle.shadow_replay.specs.Stacked.{Has};
-ghost use Rattle.shadow_replay.specs.Taint.{nth_mark, read_mark};
+ghost use Rattle.shadow_replay.specs.Taint.{add_pages, nth_mark, read_mark};
 ghost use Rattle.wasm_sem.specs.Execution.{event, entry, callees_of, IsScriptInRange, Links};
 ghost use Rattle.run_store.specs.Resolved.{callee_for};
 ghost use Rattle.shadow_replay.specs.Events.{IsItemFit};
 ghost use Rattle.shadow_replay.specs.Opened.{opening_replay, replay_with};
-ghost use Rattle.shadow_replay.specs.Replayed.{Becomes, TakesItem, number_effect, number_taken, function_begun, block_begun, called, called_through, slot_called, call_warnings, answered, StoresBytes, Grows, HoldsValues, held_below, held_under, branch_taken, given_taken, ended, stored_memory, Prepares};
+ghost use Rattle.shadow_replay.specs.Replayed.{Becomes, TakesItem, number_effect, number_taken, function_begun, block_begun, called, called_through, slot_called, call_warnings, answered, StoresBytes, with_marked_memory, HoldsValues, held_below, held_under, branch_taken, given_taken, ended, stored_memory, Prepares};
 ghost use Rattle.shadow_replay.specs.Tainted.{with_marks, begins_marks, calls_marks};
 ghost use Rattle.module_ast.specs.Memory.{load_value, grown_memory};
 ghost use Rattle.module_ast.specs.Validation.{load_width};
@@ -247,7 +247,8 @@ impl<'m> Shadow<'m> {
     // Adds `by` pages to the memory, within its bound. Their bytes are not marked.
     fn grow(&mut self, by: u32) -> Result<(), NoMemory>
         requires { IsSome (grown_memory self.old.limit by self.old.shadow.state.memory) }
-        ensures ok { OnOk result (Grows by self.old self.new) }
+        ensures memory { OnOk result (grown_memory self.old.limit by self.old.shadow.state.memory ≡ Some self.new.shadow.state.memory) }
+        ensures rest { OnOk result (self.new ≡ record self.old { shadow = with_marked_memory self.new.shadow.state.memory (add_pages by self.old.shadow.marks.taint).memory self.old.shadow }) }
         ensures err { OnErr result (self.new ≡ self.old) }
     {
         let size = self.memory_marks.len() + by as usize * PAGE_SIZE;
@@ -524,11 +525,7 @@ impl<'m> Shadow<'m> {
                 value: Value::I32(*pages),
                 mark: false,
             }),
-            Event::Unary { op, result, .. } => {
-                self.take_number(*op, *result);
-                Ok(())
-            }
-            Event::Binary { op, result, .. } => {
+            Event::Unary { op, result, .. } | Event::Binary { op, result, .. } => {
                 self.take_number(*op, *result);
                 Ok(())
             }

@@ -3,7 +3,8 @@
 ghost use Rattle.std.specs.Prelude.{◌≡◌, ◌+◌, ◌<◌, ◌≤◌, ◌∷◌, [], OnOk, OnErr, IfOk, IfErr, length, reverse, take, slice_set};
 ghost use Rattle.module_ast.specs.Lists.{first_or};
 ghost use Rattle.shadow_replay.specs.Taint.{nth_mark, some_marked};
-ghost use Rattle.shadow_replay.specs.Stacked.{Has, HasLabel, HasLocal, AreOperandsBelow, operand_count, outer_count, arity_in, IsNested, IsOutermost, exchanged, label_closed, label_landed, label_opened, frame_entered, frame_left, local_set};
+ghost use Rattle.shadow_replay.specs.Stacked.{Has, HasLabel, HasLocal, AreOperandsBelow, operand_count, IsNested, IsOutermost, exchanged, label_closed, label_landed, label_opened, frame_entered, frame_left, local_set};
+ghost use Rattle.shadow_replay.specs.Tainted.{outer_count, arity_in};
 
 use crate::marked::Marked;
 use std::alloc::Global;

@@ -4,7 +4,7 @@ use Rattle.wasm_sem.specs.Types.{FuncType, Module}
 use Rattle.shadow_replay.specs.Stacked.{Standing, Has, exchanged, AreOperandsBelow}
 use Rattle.shadow_replay.specs.Tainted.{TaintedShadow}
 use Rattle.shadow_replay.specs.Replayed.{Replay, Prepares, shadow_seen, called_through, slot_called}
-use Rattle.shadow_replay.proofs.ShadowTakes.{becomes}
+use Rattle.shadow_replay.proofs.ShadowTakes.{seen_in, becomes}
 use Rattle.shadow_replay.proofs.ShadowEnters.{slot_room, slot_is}
 use Rattle.shadow_replay.proofs.shadow.Shadow.call_slot.Goals as goal
 
@@ -34,17 +34,11 @@ returns-clause-ok c =
     let n = length asked.params in
     let ms = c.in_ok-args.args.items in
     let p = c.in_ok-prepared.prepared in
-    let given = option_map (λ v. v.items) s.given in
-    let seen : Replay = record {
-      «module» = s.valid.now;
-      limit = s.memory.max;
-      watch = record { sources = s.sources.items; sinks = s.sinks.items };
-      shadow = shadow_seen s.memory.bytes s.memory_marks.items s.globals.items s.stack s.prepared s.held given s.warnings.items;
-    } in
+    let seen = seen_in c.self.view_is in
     let there : IsSome (called_through c.args.ty f seen) = subst (λ (r : Replay). IsSome (called_through c.args.ty f r)) (sym c.self.view_is) c.requires.fit in
     let listed = c.index-as_slice-ty.is ∙ ap (λ tys. get_or tys c.args.ty asked) (c.as_slice.ensures ∙ ap (λ (m : Module). m.types) c.module.ensures.module) in
     let count : length c.as_slice-count.result.now ≡ n = ap length c.as_slice-count.ensures in
-    let after : Standing → TaintedShadow = λ st. shadow_seen s.memory.bytes s.memory_marks.items s.globals.items st p s.held given s.warnings.items in
+    let after : Standing → TaintedShadow = λ st. shadow_seen s.memory.bytes s.memory_marks.items s.globals.items st p s.held (option_map (λ v. v.items) s.given) s.warnings.items in
     let args : AreOperandsBelow 1 n ms s.stack = subst (λ n. AreOperandsBelow 1 n ms s.stack) count c.in_ok-args.ensures in
     let stack : c.pop.new.self ≡ exchanged (1 + n) [] s.stack = c.pop.ensures ∙ ap (λ n. exchanged (1 + n) [] s.stack) count in
     let prepared : Prepares l asked f ms seen p = subst (λ (r : Replay). Prepares l asked f ms r p) (sym c.self.view_is) c.in_ok-prepared.ensures in

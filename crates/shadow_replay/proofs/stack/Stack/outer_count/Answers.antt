@@ -1,7 +1,8 @@
 use Rattle.std.specs.Prelude.{reverse}
 use Rattle.std.proofs.Common.{◌≡◌, ◌+◌, ◌-◌, ◌∙◌, ap, arith, take}
 use Rattle.std.proofs.lemmas.List.{length-reverse}
-use Rattle.shadow_replay.specs.Stacked.{KeptFrame, outer_count}
+use Rattle.shadow_replay.specs.Stacked.{KeptFrame}
+use Rattle.shadow_replay.specs.Tainted.{outer_count}
 use Rattle.shadow_replay.proofs.Stacks.{last_is, has_bases}
 use Rattle.shadow_replay.proofs.StackReads.{outer_counted}
 use Rattle.shadow_replay.proofs.stack.Stack.outer_count.Goals as goal
