@@ -1,9 +1,10 @@
 -- What labels name, from the blocks that the program keeps.
 use Rattle.std.proofs.Common.{◌≡◌, ℕ, zero, suc, ◌+◌, List, [], ◌∷◌, ◌++◌, map, take, refl, ap, ◌∙◌, false}
 use Rattle.std.specs.Prelude.{unwrap_or}
+use Rattle.std.proofs.lemmas.List.{take-map}
 use Rattle.module_ast.specs.Places.{Scope, target_of, left_by}
 use Rattle.branch_resolve.specs.declared.Block.{Block}
-use Rattle.branch_resolve.specs.Scopes.{blocks_around, ends, end_of}
+use Rattle.branch_resolve.specs.Scopes.{block_of, blocks_around, ends, end_of}
 use Rattle.module_ast.specs.Lists.{when}
 use Rattle.module_ast.specs.Structure.{i32_const}
 use Rattle.hook_select.specs.declared.GroupName.TheVariants as groups
@@ -29,10 +30,7 @@ pub all_is : (w : Setting) (bs : List Block) (ss : List Scope) → bs ≡ blocks
 all_is w bs ss e = ap (λ b. block_ends_code w (map end_of b)) e ∙ ends_around w ss
 
 left_around : (w : Setting) (ss : List Scope) (n : ℕ) → block_ends_code w (map end_of (take n (blocks_around ss))) ≡ tell_ends w (take n ss)
-left_around w [] zero = refl
-left_around w [] (suc n) = refl
-left_around w (s ∷ ss) zero = refl
-left_around w (s ∷ ss) (suc n) = ap (λ l. tell_end w s ++ l) (left_around w ss n)
+left_around w ss n = ap (λ bs. block_ends_code w (map end_of bs)) (take-map block_of n ss) ∙ ends_around w (take n ss)
 
 pub left_is : (w : Setting) (bs : List Block) (ss : List Scope) (l : ℕ) → bs ≡ blocks_around ss → block_ends_code w (ends bs l) ≡ tell_ends w (left_by ss l)
 left_is w bs ss l e = ap (λ b. block_ends_code w (ends b l)) e ∙ left_around w ss (l + 1)

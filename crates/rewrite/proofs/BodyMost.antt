@@ -4,13 +4,14 @@
 use Rattle.std.proofs.Common.{◌≡◌, ℕ, zero, suc, ◌+◌, ◌*◌, ◌^◌, ◌<◌, ◌≤◌, negsuc, List, [], ◌∷◌, ◌++◌, length, Bool, true, false, cond, length-append, arith}
 use Rattle.leb_binary.specs.Shortest.{unsigned_bytes}
 use Rattle.leb_binary.proofs.Lengths.{unsigned_five}
-use Rattle.wasm_sem.specs.Types.{ValType, Group}
+use Rattle.wasm_sem.specs.Types.{ValType, Group, BlockType}
 use Rattle.wasm_num.specs.declared.BlockKind.TheVariants as kinds
 use Rattle.wasm_num.specs.declared.ValType.TheVariants.{I32, I64}
 use Rattle.module_ast.specs.Lists.{when}
 use Rattle.module_ast.specs.Binary.{items_bytes, plain_bytes, code_bytes, expr_bytes, vec_bytes, val_type_bytes, group_bytes, body_bytes}
 use Rattle.module_ast.specs.Places.{Scope, function_scope, block_scope, loop_scope, if_scope, then_scope, else_scope, goes_on, code_size}
 use Rattle.module_ast.specs.Structure.{plains, Tree, done, plain, block, loop, if_then, if_else, Plain, call}
+use Rattle.module_ast.proofs.Writers.{items_many}
 use Rattle.module_ast.proofs.Sizes.{code_counts}
 use Rattle.module_ast.specs.Validation.Limits.{longest_file}
 use Rattle.hook_select.specs.declared.GroupName.TheVariants as groups
@@ -24,7 +25,7 @@ use Rattle.rewrite.specs.Templates.{tell_before, tell_begin, end_code}
 use Rattle.rewrite.specs.Rewrite.{live_code, entry_code, rewritten_code}
 use Rattle.rewrite.specs.Conditions.{IsReady}
 use Rattle.rewrite.specs.Sizes.{plains_length, size_of, IsNarrow}
-use Rattle.rewrite.proofs.CodeBytes.{code_length, plains_append, plains_before, plain_before, block_length, loop_length, then_length, both_length, instr_before}
+use Rattle.rewrite.proofs.CodeBytes.{code_length, plains_append, plains_before, plain_before, block_length, both_length, instr_before}
 use Rattle.rewrite.proofs.ShortNumbers.{mapped_short}
 use Rattle.rewrite.proofs.MostTold.{HasShort, IsPlaced, ArePlaced, most_when, most_tells, most_begin, most_before, most_closing}
 use Rattle.rewrite.proofs.MostTemplates.{most_instr}
@@ -40,8 +41,8 @@ pub mapped_most : (r : Remap) (k : Tree) → r.added < 2 ^ 32 → code_length (m
 mapped_most r done h = omega arith
 mapped_most r (plain i k) h = omega (arith, plain_before i k, plain_before (map_plain r i) (map_tree r k), mapped_plain r i h, mapped_most r k h)
 mapped_most r (block ty body k) h = omega (arith, block_length ty body k, block_length ty (map_tree r body) (map_tree r k), mapped_most r body h, mapped_most r k h)
-mapped_most r (loop ty body k) h = omega (arith, loop_length ty body k, loop_length ty (map_tree r body) (map_tree r k), mapped_most r body h, mapped_most r k h)
-mapped_most r (if_then ty body k) h = omega (arith, then_length ty body k, then_length ty (map_tree r body) (map_tree r k), mapped_most r body h, mapped_most r k h)
+mapped_most r (loop ty body k) h = omega (arith, block_length ty body k, block_length ty (map_tree r body) (map_tree r k), mapped_most r body h, mapped_most r k h)
+mapped_most r (if_then ty body k) h = omega (arith, block_length ty body k, block_length ty (map_tree r body) (map_tree r k), mapped_most r body h, mapped_most r k h)
 mapped_most r (if_else ty body other k) h = omega (arith, both_length ty body other k, both_length ty (map_tree r body) (map_tree r other) (map_tree r k), mapped_most r body h, mapped_most r other h, mapped_most r k h)
 
 -- ---- live code
@@ -60,6 +61,13 @@ module _ (w : Setting) (short : HasShort w) where
   rest_most true live k h = h
   rest_most false live k h = omega (arith, mapped_most (remap w) k (omega (arith, short.hooks)))
 
+  -- a block that has one sequence, or a loop or an `if`, which are as long; it leaves room for the hook call before an `if`
+  opened_most : (o : Scope) (ty : BlockType) (body k inside rest : Tree) → IsPlaced o
+      → code_length inside ≤ place_most * (code_size body + 1) + 16 * code_length body → code_length rest ≤ place_most * (code_size k + 1) + 16 * code_length k
+      → code_length (block ty (plains (tell_begin w o.begin o.kind) inside) rest) + 56 ≤ place_most * (code_size (block ty body k) + 1) + 16 * code_length (block ty body k)
+  opened_most o ty body k inside rest placed h r =
+      omega (arith, block_length ty (plains (tell_begin w o.begin o.kind) inside) rest, part_most o inside _ placed h, r, block_length ty body k)
+
   pub live_most : (scopes : List Scope) (p : ℕ) (k : Tree) → ArePlaced scopes → p + code_size k < 2 ^ 31 → length scopes + code_size k ≤ longest_file
       → code_length (live_code w scopes p k) ≤ place_most * (code_size k + 1) + 16 * code_length k
   live_most scopes p done s h few = omega (arith, plains_before (end_code w scopes) done, most_closing w short scopes s)
@@ -70,30 +78,17 @@ module _ (w : Setting) (short : HasShort w) where
   live_most scopes p (block ty body k) s h few =
       let o = block_scope p body in
       let placed : IsPlaced o = record { begin = omega arith; end = omega arith } in
-      let inside = live_code w (o ∷ scopes) (p + 1) body in
-      let behind = live_code w scopes (o.end + 1) k in
-      omega (arith, block_length ty (plains (tell_begin w o.begin o.kind) inside) behind, part_most o inside _ placed (live_most (o ∷ scopes) (p + 1) body (placed, s) (omega arith) (omega arith)), live_most scopes (o.end + 1) k s (omega arith) (omega arith), block_length ty body k)
+      omega (arith, opened_most o ty body k _ _ placed (live_most (o ∷ scopes) (p + 1) body (placed, s) (omega arith) (omega arith)) (live_most scopes (o.end + 1) k s (omega arith) (omega arith)))
   live_most scopes p (loop ty body k) s h few =
       let o = loop_scope p body in
       let placed : IsPlaced o = record { begin = omega arith; end = omega arith } in
-      let inside = live_code w (o ∷ scopes) (p + 1) body in
-      let behind = live_code w scopes (o.end + 1) k in
-      omega (arith, loop_length ty (plains (tell_begin w o.begin o.kind) inside) behind, part_most o inside _ placed (live_most (o ∷ scopes) (p + 1) body (placed, s) (omega arith) (omega arith)), live_most scopes (o.end + 1) k s (omega arith) (omega arith), loop_length ty body k)
+      omega (arith, opened_most o ty body k _ _ placed (live_most (o ∷ scopes) (p + 1) body (placed, s) (omega arith) (omega arith)) (live_most scopes (o.end + 1) k s (omega arith) (omega arith)))
   live_most scopes p (if_then ty body k) s h few =
       let o = if_scope p body in
       let placed : IsPlaced o = record { begin = omega arith; end = omega arith } in
-      let inside = live_code w (o ∷ scopes) (p + 1) body in
-      let behind = live_code w scopes (o.end + 1) k in
-      let part = plains (tell_begin w o.begin o.kind) inside in
-      omega (
-        arith,
-        plains_before (tell_before w p (keys.Plain groups.If)) (if_then ty part behind),
-        most_before w short p (keys.Plain groups.If) (omega arith),
-        then_length ty part behind,
-        part_most o inside _ placed (live_most (o ∷ scopes) (p + 1) body (placed, s) (omega arith) (omega arith)),
-        live_most scopes (o.end + 1) k s (omega arith) (omega arith),
-        then_length ty body k,
-      )
+      let opened = opened_most o ty body k _ _ placed (live_most (o ∷ scopes) (p + 1) body (placed, s) (omega arith) (omega arith)) (live_most scopes (o.end + 1) k s (omega arith) (omega arith)) in
+      let part = plains (tell_begin w o.begin o.kind) (live_code w (o ∷ scopes) (p + 1) body) in
+      omega (arith, plains_before (tell_before w p (keys.Plain groups.If)) (if_then ty part (live_code w scopes (o.end + 1) k)), most_before w short p (keys.Plain groups.If) (omega arith), opened)
   live_most scopes p (if_else ty body other k) s h few =
       let a = then_scope p body other in
       let b = else_scope p body other in
@@ -137,8 +132,7 @@ items_append (x ∷ xs) ys = omega (arith, length-append (group_bytes x) (items_
 
 -- a group has a byte at least
 groups_count : (gs : List Group) → length gs ≤ length (items_bytes group_bytes gs)
-groups_count [] = omega arith
-groups_count (g ∷ gs) = omega (arith, length-append (group_bytes g) (items_bytes group_bytes gs), length-append (unsigned_bytes g.count) (val_type_bytes g.ty), groups_count gs)
+groups_count = items_many group_bytes (λ g. omega (arith, length-append (unsigned_bytes g.count) (val_type_bytes g.ty)))
 
 -- one of temporaries has at most six
 group_most : (n : ℕ) (ty : ValType) → n < 2 ^ 32 → length (items_bytes group_bytes (locals_group n ty)) ≤ 6

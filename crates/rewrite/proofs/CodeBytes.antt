@@ -1,11 +1,11 @@
 -- The bytes of code: of plain instructions before a sequence, of blocks, and of an instruction before what follows it.
 --     plains_append, plains_before      plain instructions before others, and before a sequence
---     block_length, loop_length, then_length, both_length      of what opens a block
+--     block_length, both_length      of what opens a block: a loop, and an `if` with one sequence, are as long as a block
 --     plain_before, instr_before      of an instruction before what follows it, as it was and as it is rewritten
 use Rattle.std.proofs.Common.{◌≡◌, ℕ, ◌+◌, pos, List, [], ◌∷◌, ◌++◌, length, Bool, true, false, length-append, arith}
 use Rattle.wasm_sem.specs.Types.{BlockType}
 use Rattle.module_ast.specs.declared.code.BlockType.TheVariants.{Empty}
-use Rattle.module_ast.specs.Structure.{plains, Tree, done, plain, block, loop, if_then, if_else, Plain, br_if}
+use Rattle.module_ast.specs.Structure.{plains, Tree, done, plain, block, if_then, if_else, Plain, br_if}
 use Rattle.module_ast.specs.Binary.{block_type_bytes, plain_bytes, code_bytes}
 use Rattle.module_ast.specs.Places.{Scope, left_by}
 use Rattle.hook_select.specs.declared.GroupName.TheVariants as groups
@@ -43,12 +43,6 @@ type_length ty = length (block_type_bytes ty)
 pub block_length : (ty : BlockType) (body k : Tree) → code_length (block ty body k) ≡ 1 + (type_length ty + (code_length body + (1 + code_length k)))
 block_length ty body k = omega (arith, length-append (block_type_bytes ty ++ code_bytes body) (0x0B ∷ code_bytes k), length-append (block_type_bytes ty) (code_bytes body))
 
-pub loop_length : (ty : BlockType) (body k : Tree) → code_length (loop ty body k) ≡ 1 + (type_length ty + (code_length body + (1 + code_length k)))
-loop_length ty body k = omega (arith, length-append (block_type_bytes ty ++ code_bytes body) (0x0B ∷ code_bytes k), length-append (block_type_bytes ty) (code_bytes body))
-
-pub then_length : (ty : BlockType) (body k : Tree) → code_length (if_then ty body k) ≡ 1 + (type_length ty + (code_length body + (1 + code_length k)))
-then_length ty body k = omega (arith, length-append (block_type_bytes ty ++ code_bytes body) (0x0B ∷ code_bytes k), length-append (block_type_bytes ty) (code_bytes body))
-
 pub both_length : (ty : BlockType) (body other k : Tree) → code_length (if_else ty body other k) ≡ 1 + (type_length ty + (code_length body + (1 + (code_length other + (1 + code_length k)))))
 both_length ty body other k =
     omega (arith, length-append (block_type_bytes ty ++ code_bytes body) (0x05 ∷ (code_bytes other ++ 0x0B ∷ code_bytes k)), length-append (block_type_bytes ty) (code_bytes body), length-append (code_bytes other) (0x0B ∷ code_bytes k))
@@ -69,8 +63,8 @@ if_before is inside l k =
       arith,
       plains_before is (if_then Empty inside (plain (br_if l) k)),
       plains_before is (if_then Empty inside (plain (br_if l) done)),
-      then_length Empty inside (plain (br_if l) k),
-      then_length Empty inside (plain (br_if l) done),
+      block_length Empty inside (plain (br_if l) k),
+      block_length Empty inside (plain (br_if l) done),
       branch_before l k,
     )
 

@@ -2,7 +2,7 @@
 use Rattle.std.proofs.Common.{◌≡◌, ℕ, ◌+◌, ◌<◌, List, [], ◌∷◌, ◌++◌, length, Bool, true, false, refl, sym, ap, ◌∙◌, subst, arith, append_assoc}
 use Rattle.std.proofs.lemmas.List.{map-append}
 use Rattle.wasm_sem.specs.Types.{ValType, BlockType, Instr, Hooks}
-use Rattle.module_ast.specs.declared.code.Instr.TheVariants.{Block, Loop, If, IfElse, Br, BrIf, Return}
+use Rattle.module_ast.specs.declared.code.Instr.TheVariants.{Block, Loop, If, IfElse, BrIf}
 use Rattle.wasm_num.specs.declared.BlockKind.TheVariants as kinds
 use Rattle.module_ast.specs.Structure.Trees as tree
 use Rattle.hook_select.specs.declared.GroupName.TheVariants as groups
@@ -19,7 +19,8 @@ use Rattle.branch_resolve.specs.declared.Block.{Block as Kept}
 use Rattle.wasm_num.specs.declared.ValType.TheVariants.{I32}
 use Rattle.hook_select.specs.Groups.{has}
 use Rattle.i64_split.specs.declared.Temp.{Temp}
-use Rattle.i64_split.specs.Split.{temps, words_code}
+use Rattle.i64_split.specs.Split.{HasTemps, temps, words_code}
+use Rattle.module_ast.proofs.Each.{all_first, all_second, all_both, all_when}
 use Rattle.branch_resolve.specs.Scopes.{block_of, end_of}
 use Rattle.hook_mono.specs.Needed.{Site}
 use Rattle.i64_split.specs.Pushing.{instrs}
@@ -71,49 +72,41 @@ closed_function w f b old mid new is e h =
 -- ---- temporaries
 
 pub room_append : (pool : Pool) (xs ys : List (List ValType)) → HasRoom pool (xs ++ ys) → HasRoom pool xs × HasRoom pool ys
-room_append pool [] ys h = (tt, h)
-room_append pool (x ∷ xs) ys h = let r = room_append pool xs ys h.1 in ((h.0, r.0), r.1)
-
-room_joined : (pool : Pool) (xs ys : List (List ValType)) → HasRoom pool xs → HasRoom pool ys → HasRoom pool (xs ++ ys)
-room_joined pool [] ys h k = k
-room_joined pool (x ∷ xs) ys h k = (h.0, room_joined pool xs ys h.1 k)
-
-none_room : (pool : Pool) (b : Bool) → HasRoom pool (when b [])
-none_room pool true = tt
-none_room pool false = tt
+room_append pool xs ys h = (all_first (HasTemps pool 0) xs ys h, all_second (HasTemps pool 0) xs ys h)
 
 module _ (pool : Pool) (hooks : Hooks) (s : Site) (p : ℕ) where
   room_plain : (q : Plain) (t : Tree) (next : ℕ) → next ≡ p + 1 → HasRoom pool (code_temps hooks s p (plain q t))
       → HasRoom pool (code_temps hooks s p (plain q done)) × HasRoom pool (when (goes_on q) (code_temps hooks s next t))
   room_plain q t next e h =
       let r = room_append pool (plain_temps hooks s p q) (when (goes_on q) (code_temps hooks s (p + 1) t)) h in
-      (room_joined pool (plain_temps hooks s p q) (when (goes_on q) []) r.0 (none_room pool (goes_on q)), subst (λ n. HasRoom pool (when (goes_on q) (code_temps hooks s n t))) (sym e) r.1)
+      (all_both (HasTemps pool 0) (plain_temps hooks s p q) (when (goes_on q) []) r.0 (all_when (HasTemps pool 0) (goes_on q) [] tt), subst (λ n. HasRoom pool (when (goes_on q) (code_temps hooks s n t))) (sym e) r.1)
+
+  -- those before the temporaries of what follows
+  room_inside : (tss : List (List ValType)) (t : Tree) (q next : ℕ) → q ≡ next → HasRoom pool (tss ++ code_temps hooks s q t) → HasRoom pool (tss ++ []) × HasRoom pool (code_temps hooks s next t)
+  room_inside tss t q next e h =
+      let r = room_append pool tss (code_temps hooks s q t) h in
+      (all_both (HasTemps pool 0) tss [] r.0 tt, subst (λ n. HasRoom pool (code_temps hooks s n t)) e r.1)
 
   -- of the instruction, and of what follows it
   pub room_before : (i : Instr) (t : Tree) (next : ℕ) → next ≡ p + code_size (before i done) → HasRoom pool (code_temps hooks s p (before i t))
       → HasRoom pool (code_temps hooks s p (before i done)) × HasRoom pool (when (goes_on_by i) (code_temps hooks s next t))
-  room_before (Block b a) t next e h =
-      let n : p + code_size a + 2 ≡ next = omega arith in
-      let r = room_append pool (code_temps hooks s (p + 1) a) (code_temps hooks s (p + code_size a + 2) t) h in
-      (room_joined pool (code_temps hooks s (p + 1) a) [] r.0 tt, subst (λ n. HasRoom pool (code_temps hooks s n t)) n r.1)
-  room_before (Loop b a) t next e h =
-      let n : p + code_size a + 2 ≡ next = omega arith in
-      let r = room_append pool (code_temps hooks s (p + 1) a) (code_temps hooks s (p + code_size a + 2) t) h in
-      (room_joined pool (code_temps hooks s (p + 1) a) [] r.0 tt, subst (λ n. HasRoom pool (code_temps hooks s n t)) n r.1)
+  room_before (Block b a) t next e h = room_inside (code_temps hooks s (p + 1) a) t (p + code_size a + 2) next (omega arith) h
+  room_before (Loop b a) t next e h = room_inside (code_temps hooks s (p + 1) a) t (p + code_size a + 2) next (omega arith) h
   room_before (If b a) t next e h =
-      let n : p + code_size a + 2 ≡ next = omega arith in
-      let q = room_append pool (open_temps hooks kinds.If) (code_temps hooks s (p + 1) a ++ code_temps hooks s (p + code_size a + 2) t) h in
-      let r = room_append pool (code_temps hooks s (p + 1) a) (code_temps hooks s (p + code_size a + 2) t) q.1 in
-      (room_joined pool (open_temps hooks kinds.If) (code_temps hooks s (p + 1) a ++ []) q.0 (room_joined pool (code_temps hooks s (p + 1) a) [] r.0 tt), subst (λ n. HasRoom pool (code_temps hooks s n t)) n r.1)
-  room_before (IfElse b a o) t next e h =
-      let n : p + code_size a + code_size o + 3 ≡ next = omega arith in
-      let third = code_temps hooks s (p + code_size a + code_size o + 3) t in
-      let second = code_temps hooks s (p + code_size a + 2) o in
+      let opens = open_temps hooks kinds.If in
       let first = code_temps hooks s (p + 1) a in
-      let q = room_append pool (open_temps hooks kinds.If) (first ++ (second ++ third)) h in
+      let q = room_append pool opens (first ++ code_temps hooks s (p + code_size a + 2) t) h in
+      let r = room_inside first t (p + code_size a + 2) next (omega arith) q.1 in
+      (all_both (HasTemps pool 0) opens (first ++ []) q.0 r.0, r.1)
+  room_before (IfElse b a o) t next e h =
+      let opens = open_temps hooks kinds.If in
+      let first = code_temps hooks s (p + 1) a in
+      let second = code_temps hooks s (p + code_size a + 2) o in
+      let third = code_temps hooks s (p + code_size a + code_size o + 3) t in
+      let q = room_append pool opens (first ++ (second ++ third)) h in
       let r = room_append pool first (second ++ third) q.1 in
-      let u = room_append pool second third r.1 in
-      (room_joined pool (open_temps hooks kinds.If) (first ++ (second ++ [])) q.0 (room_joined pool first (second ++ []) r.0 (room_joined pool second [] u.0 tt)), subst (λ n. HasRoom pool (code_temps hooks s n t)) n u.1)
+      let u = room_inside second t (p + code_size a + code_size o + 3) next (omega arith) r.1 in
+      (all_both (HasTemps pool 0) opens (first ++ (second ++ [])) q.0 (all_both (HasTemps pool 0) first (second ++ []) r.0 u.0), u.1)
   room_before i t next e h = room_plain (the_plain i) t next e h
 
 -- ---- blocks
@@ -164,9 +157,7 @@ plain_added F G w ss p (Block b a) t h n put = absurd h
 plain_added F G w ss p (Loop b a) t h n put = absurd h
 plain_added F G w ss p (If b a) t h n put = absurd h
 plain_added F G w ss p (IfElse b a o) t h n put = absurd h
-plain_added F G w ss p (Br l) t h n put = absurd n
 plain_added F G w ss p (BrIf l) t h n put = absurd n
-plain_added F G w ss p Return t h n put = absurd n
 plain_added F G w ss p i t h n put = put (rest_code w ss (goes_on_by i) (p + 1) t)
 
 -- one that passes ends, and the hook calls before it

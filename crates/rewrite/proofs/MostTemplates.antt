@@ -1,7 +1,8 @@
 -- How many bytes a live instruction has at most in the output, against its own ones.
 --     most_template      of its template, which for a br_if is itself
 --     most_instr      as it stands in live code, a br_if too
-use Rattle.std.proofs.Common.{◌≡◌, ℕ, zero, suc, ◌+◌, ◌-◌, ◌*◌, ◌^◌, ◌<◌, ◌≤◌, pos, List, [], ◌∷◌, ◌++◌, length, length-append, take, drop, leb-true, Option, Some, None, IfSome, Bool, true, false, cond, unwrap_or, refl, ap, slice_get, arith}
+use Rattle.std.proofs.Common.{ℕ, ◌+◌, ◌-◌, ◌*◌, ◌^◌, ◌<◌, ◌≤◌, pos, List, [], ◌∷◌, ◌++◌, length, length-append, take, drop, leb-true, Option, Some, None, IfSome, Bool, true, false, cond, unwrap_or, ap, slice_get, arith}
+use Rattle.std.proofs.lemmas.Bool.{cond_both}
 use Rattle.std.proofs.lemmas.List.{take-append-drop}
 use Rattle.std.specs.Prelude.{◌/◌, ◌%◌}
 use Rattle.std.specs.Int.{w64, cast_unsigned}
@@ -10,9 +11,8 @@ use Rattle.wasm_num.specs.declared.ValType.TheVariants.{I32}
 use Rattle.module_ast.specs.declared.code.BlockType.TheVariants.{Empty}
 use Rattle.module_ast.specs.Binary.{plain_bytes}
 use Rattle.module_ast.specs.Validation.{Context, longest_file}
-use Rattle.module_ast.specs.Places.{type_of_callee, indirect_type, type_by, func_type_or, Scope, left_by, target_of}
+use Rattle.module_ast.specs.Places.{type_of_callee, indirect_type, type_by, Scope, left_by, target_of}
 use Rattle.module_ast.specs.Structure.{plains, done, plain, if_then, Plain, br, br_if, br_table, return_, call, call_indirect, local_get, local_tee, global_get, i32_const}
-use Rattle.module_ast.proofs.Each.{all_at}
 use Rattle.hook_select.specs.declared.GroupName.TheVariants as groups
 use Rattle.hook_select.specs.Groups.{has}
 use Rattle.hook_mono.specs.declared.HookKey.TheVariants as keys
@@ -28,8 +28,9 @@ use Rattle.rewrite.specs.Setting.{Setting, remap, wants, constant, low_word, hig
 use Rattle.rewrite.specs.Templates.{keep_code, kept_code, tee_code, target_code, told_code, tell_before, tell_values, tell_results, post_code, call_code, indirect_code, branch_code, template_by, template}
 use Rattle.rewrite.specs.Rewrite.{if_taken, br_if_before, instr_code}
 use Rattle.rewrite.specs.Sizes.{plains_length, IsNarrow}
-use Rattle.rewrite.proofs.CodeBytes.{code_length, plains_append, plains_before, plain_before, then_length}
-use Rattle.rewrite.proofs.ShortNumbers.{constant_short, mapped_short, AreNear, near_short, temps_near}
+use Rattle.rewrite.proofs.CodeBytes.{code_length, plains_append, plains_before, plain_before, block_length}
+use Rattle.rewrite.proofs.Elements.{all_cut, all_types}
+use Rattle.rewrite.proofs.ShortNumbers.{constant_short, mapped_short, IsNear, AreNear, near_short, temps_near}
 use Rattle.rewrite.proofs.MostTold.{HasShort, ArePlaced, most_word, most_words, most_sets, most_gets, most_tee, most_tell, most_tells, most_ends, most_left, most_saved, most_values, one_near, most_before, most_results}
 use Rattle.rewrite.proofs.TemplateLengths.{temps_length}
 use Rattle.rewrite.proofs.WatchedCode.{watch_code, IsSmall, small}
@@ -40,14 +41,9 @@ most_keep : (ts : List Temp) → AreNear ts → plains_length (keep_code ts) ≤
 most_keep [] h = omega arith
 most_keep (t ∷ ts) h = omega (arith, plains_append (sets ts) (local_tee t.local ∷ gets ts), near_short t h.0, most_sets ts h.1, most_gets ts h.1)
 
-near_parts : (n : ℕ) (ts : List Temp) → AreNear ts → AreNear (take n ts) × AreNear (drop n ts)
-near_parts zero ts h = (tt, h)
-near_parts (suc n) [] h = (tt, tt)
-near_parts (suc n) (t ∷ ts) h = let rest = near_parts n ts h.1 in ((h.0, rest.0), rest.1)
-
 most_kept : (n : ℕ) (i : Plain) (ts : List Temp) → AreNear ts → length ts ≤ 3 → plains_length (kept_code n i ts) ≤ length (plain_bytes i) + 66
 most_kept n i ts h three =
-    let near = near_parts n ts h in
+    let near = all_cut IsNear n ts h in
     omega (
       arith,
       plains_append (keep_code (take n ts)) (i ∷ tee_code (drop n ts)),
@@ -65,11 +61,7 @@ one_constant n = omega (arith, constant_short n)
 -- ---- types
 
 narrow_type : (most : ℕ) (c : Context) → IsNarrow most c → (t : ℕ) → length (indirect_type c t).params + length (indirect_type c t).results ≤ most
-narrow_type most c narrow t = go (slice_get c.types t) refl
-  where
-    go : (o : Option FuncType) → slice_get c.types t ≡ o → length (func_type_or o).params + length (func_type_or o).results ≤ most
-    go None e = omega arith
-    go (Some f) e = all_at (λ (t : FuncType). length t.params + length t.results ≤ most) c.types t f narrow.types e
+narrow_type most c narrow t = all_types (λ (t : FuncType). length t.params + length t.results ≤ most) c.types t (omega arith) narrow.types
 
 narrow_callee : (most : ℕ) (c : Context) → IsNarrow most c → (f : ℕ) → length (type_of_callee c f).params + length (type_of_callee c f).results ≤ most
 narrow_callee most c narrow f = go (slice_get c.funcs f)
@@ -85,26 +77,23 @@ module _ (w : Setting) (short : HasShort w) where
   most_post p results h few = omega (arith, most_values w short (pos p) (keys.CallPost results) [] results h few)
 
   most_call : (p f : ℕ) (t : FuncType) → p < 2 ^ 31 → length t.params + length t.results ≤ longest_file → plains_length (call_code w p f t) ≤ 49 * longest_file + 60 + length (plain_bytes (call f))
-  most_call p f t h few = go (wants w (keys.CallPre t.params))
-    where
-      made : Plain
-      made = call (map_index (remap w) f)
-
-      mapped : length (plain_bytes made) ≤ length (plain_bytes (call f)) + 10
-      mapped = omega (arith, mapped_short (remap w) f (omega (arith, short.hooks)))
-
-      go : (b : Bool) → plains_length (cond b (tell_values w (pos p) (keys.CallPre t.params) (constant f ∷ []) (temps w.pool t.params) ++ (made ∷ post_code w p t.results)) (made ∷ [])) ≤ 49 * longest_file + 60 + length (plain_bytes (call f))
-      go true =
-          omega (
-            arith,
-            plains_append (tell_values w (pos p) (keys.CallPre t.params) (constant f ∷ []) (temps w.pool t.params)) (made ∷ post_code w p t.results),
-            most_values w short (pos p) (keys.CallPre t.params) (constant f ∷ []) t.params h (omega (arith, few)),
-            one_constant f,
-            mapped,
-            most_post p t.results h (omega (arith, few)),
-            few,
-          )
-      go false = omega (arith, mapped)
+  most_call p f t h few =
+      let key = keys.CallPre t.params in
+      let made = call (map_index (remap w) f) in
+      let told = tell_values w (pos p) key (constant f ∷ []) (temps w.pool t.params) in
+      let mapped : length (plain_bytes made) ≤ length (plain_bytes (call f)) + 10 = omega (arith, mapped_short (remap w) f (omega (arith, short.hooks))) in
+      cond_both (wants w key) (told ++ (made ∷ post_code w p t.results)) (made ∷ []) (λ is. plains_length is ≤ 49 * longest_file + 60 + length (plain_bytes (call f)))
+      (λ on.
+      omega (
+        arith,
+        plains_append told (made ∷ post_code w p t.results),
+        most_values w short (pos p) key (constant f ∷ []) t.params h (omega (arith, few)),
+        one_constant f,
+        mapped,
+        most_post p t.results h (omega (arith, few)),
+        few,
+      ))
+      (λ off. omega (arith, mapped))
 
   most_indirect : (p ty : ℕ) (t : FuncType) (ts : List Temp) → p < 2 ^ 31 → length t.params + length t.results ≤ longest_file → AreNear ts → length ts ≤ length t.params + 1
       → plains_length (indirect_code w p ty t ts) ≤ 49 * longest_file + 120 + length (plain_bytes (call_indirect ty))
@@ -132,14 +121,14 @@ module _ (w : Setting) (short : HasShort w) where
   most_watched : (p : ℕ) (key : HookKey) (first : List Plain) (code : List Temp → List Plain) (tys : List ValType) (i : Plain)
       → p < 2 ^ 31 → plains_length first ≤ 6 → length tys ≤ 3 → ((ts : List Temp) → AreNear ts → length ts ≤ 3 → plains_length (code ts) ≤ length (plain_bytes i) + 66)
       → plains_length (watch_code w p key first code tys i) ≤ length (plain_bytes i) + 171
-  most_watched p key first code tys i h one three few = go (wants w key)
-    where
-      go : (b : Bool) → plains_length (cond b (code (temps w.pool tys) ++ tell w (pos p) key (first ++ words_code (temps w.pool tys))) (i ∷ [])) ≤ length (plain_bytes i) + 171
-      go true =
-          let ts = temps w.pool tys in
-          let near = temps_near w.pool tys short.locals (omega (arith, three)) in
-          omega (arith, plains_append (code ts) (tell w (pos p) key (first ++ words_code ts)), most_tell w short (pos p) key (first ++ words_code ts) h, plains_append first (words_code ts), most_words ts near, temps_length w.pool tys, few ts near (omega (arith, temps_length w.pool tys, three)), one, three)
-      go false = omega arith
+  most_watched p key first code tys i h one three few =
+      let ts = temps w.pool tys in
+      let told = tell w (pos p) key (first ++ words_code ts) in
+      let near = temps_near w.pool tys short.locals (omega (arith, three)) in
+      let kept = few ts near (omega (arith, temps_length w.pool tys, three)) in
+      cond_both (wants w key) (code ts ++ told) (i ∷ []) (λ is. plains_length is ≤ length (plain_bytes i) + 171)
+      (λ on. omega (arith, plains_append (code ts) told, most_tell w short (pos p) key (first ++ words_code ts) h, plains_append first (words_code ts), most_words ts near, temps_length w.pool tys, kept, one, three))
+      (λ off. omega arith)
 
   -- an instruction that is watched
   most_told : (p : ℕ) (key : HookKey) (told : Telling) (i : Plain) → p < 2 ^ 31 → IsSmall told i → plains_length (told_code w p key told i) ≤ 3 * length (plain_bytes i) + 171
@@ -200,7 +189,7 @@ module _ (w : Setting) (short : HasShort w) where
       omega (
         arith,
         plains_before (gets ts) (if_then Empty (plains (tell_ends w left) done) (plain (br_if l) done)),
-        then_length Empty (plains (tell_ends w left) done) (plain (br_if l) done),
+        block_length Empty (plains (tell_ends w left) done) (plain (br_if l) done),
         plains_before (tell_ends w left) done,
         plain_before (br_if l) done,
         most_gets ts near,

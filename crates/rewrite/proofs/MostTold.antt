@@ -1,5 +1,5 @@
 -- How many bytes hook calls have at most, with the values that they tell.
-use Rattle.std.proofs.Common.{◌≡◌, ℕ, zero, suc, ◌+◌, ◌*◌, ◌^◌, ◌<◌, ◌≤◌, ℤ, pos, List, [], ◌∷◌, ◌++◌, length, take, Option, Some, None, Bool, true, false, unwrap_or, refl, arith}
+use Rattle.std.proofs.Common.{◌≡◌, ℕ, ◌+◌, ◌*◌, ◌^◌, ◌<◌, ◌≤◌, ℤ, pos, List, [], ◌∷◌, ◌++◌, length, length-take, take, Option, Some, None, Bool, true, false, unwrap_or, refl, arith}
 use Rattle.std.specs.List.{AllByRecursion}
 use Rattle.std.proofs.lemmas.List.Quantifiers.{position-Some}
 use Rattle.leb_binary.specs.Leb.{IsInSize}
@@ -19,6 +19,7 @@ use Rattle.rewrite.specs.Setting.{Setting, wants, hook_index, tell, tells, tell_
 use Rattle.rewrite.specs.Templates.{tee_code, tell_before, tell_values, tell_results, tell_begin, end_code}
 use Rattle.rewrite.specs.Sizes.{plains_length, IsNarrow}
 use Rattle.rewrite.proofs.CodeBytes.{plains_append}
+use Rattle.rewrite.proofs.Elements.{all_cut}
 use Rattle.rewrite.proofs.ShortNumbers.{signed_short, constant_short, AreNear, near_short, temps_near}
 use Rattle.rewrite.proofs.TemplateLengths.{temps_length}
 
@@ -98,9 +99,7 @@ module _ (w : Setting) (short : HasShort w) where
 
   -- those of the innermost scopes
   pub most_left : (n : ℕ) (ss : List Scope) → ArePlaced ss → plains_length (tell_ends w (take n ss)) ≤ 24 * length ss
-  most_left zero ss h = omega arith
-  most_left (suc n) [] h = omega arith
-  most_left (suc n) (s ∷ ss) h = omega (arith, plains_append (tell_end w s) (tell_ends w (take n ss)), most_end s h.0, most_left n ss h.1)
+  most_left n ss h = omega (arith, most_ends (take n ss) (all_cut IsPlaced n ss h).0, length-take n ss)
 
   pub most_begin : (p : ℤ) (kind : BlockKind) → IsInSize 32 p → plains_length (tell_begin w p kind) ≤ 18
   most_begin p kind h = omega (arith, most_tells p (keys.Begin kind) [] h)

@@ -1,17 +1,17 @@
 -- A body and the types of its module have no more bytes than a file.
-use Rattle.std.proofs.Common.{◌≡◌, ℕ, zero, suc, ◌+◌, ◌≤◌, List, [], ◌∷◌, length, Option, Some, None, refl, ap, subst, slice_get, length-append, arith}
+use Rattle.std.proofs.Common.{◌≡◌, ℕ, zero, suc, ◌+◌, ◌≤◌, List, [], ◌∷◌, length, Some, refl, ap, subst, slice_get, length-append, arith}
 use Rattle.std.specs.List.{AllByRecursion}
 use Rattle.wasm_sem.specs.Types.{ValType, FuncType, Body, Module}
 use Rattle.module_ast.specs.Binary.{val_type_bytes, vec_bytes, items_bytes, func_type_bytes, sized_bytes, body_bytes, module_bytes}
 use Rattle.module_ast.specs.Places.{func_type_or}
 use Rattle.module_ast.specs.Validation.{IsWhole, longest_file}
-use Rattle.module_ast.proofs.Each.{all_at}
 use Rattle.module_ast.proofs.Indexed.{in_at, all_in}
 use Rattle.module_ast.proofs.Sizes.{item_counts, section_counts, sized_counts, bodies_count}
 use Rattle.leb_binary.specs.Shortest.{unsigned_bytes}
 use Rattle.hook_mono.specs.Needed.{Site, import_count, site_of, sites_from, sites}
 use Rattle.wasm_sem.proofs.Straight.{none_some, some_is}
 use Rattle.rewrite.specs.Sizes.{IsNarrow}
+use Rattle.rewrite.proofs.Elements.{all_types}
 
 -- a type has a byte for each parameter and result
 values_count : (ts : List ValType) → length (items_bytes val_type_bytes ts) ≡ length ts
@@ -40,11 +40,8 @@ few_types m whole =
     (λ t h. omega (arith, type_counts t, item_counts func_type_bytes m.types t h, types_count m, whole.size))
 
 few_results : (m : Module) (ty : ℕ) → IsWhole m → length (func_type_or (slice_get m.types ty)).results ≤ longest_file
-few_results m ty whole = go (slice_get m.types ty) refl
-  where
-    go : (o : Option FuncType) → slice_get m.types ty ≡ o → length (func_type_or o).results ≤ longest_file
-    go None e = omega arith
-    go (Some t) e = let few = all_at (λ (t : FuncType). length t.params + length t.results ≤ longest_file) m.types ty t (few_types m whole) e in omega (arith, few)
+few_results m ty whole =
+    omega (arith, all_types (λ (t : FuncType). length t.params + length t.results ≤ longest_file) m.types ty (omega arith) (few_types m whole))
 
 -- the site of a function is that of its body
 record Origin (m : Module) (bs : List Body) (k : ℕ) (s : Site) : Type 0 where

@@ -8,14 +8,14 @@ use Rattle.rewrite.specs.declared.sink.Opening.{Opening}
 use Rattle.rewrite.specs.declared.sink.Opening.TheVariants as openings
 use Rattle.rewrite.specs.Emitted.{opened}
 use Rattle.rewrite.specs.Sizes.{plains_length}
-use Rattle.rewrite.proofs.CodeBytes.{code_length, type_length, plain_before, plains_before, block_length, loop_length, then_length, both_length}
+use Rattle.rewrite.proofs.CodeBytes.{code_length, type_length, plain_before, plains_before, block_length, both_length}
 use Rattle.module_ast.proofs.Plains.{the_plain}
 
 -- an instruction before a sequence
 instr_bytes : (i : Instr) (t : Tree) → code_length (before i t) ≡ code_length (before i done) + code_length t
 instr_bytes (Block ty a) t = omega (arith, block_length ty a t, block_length ty a done)
-instr_bytes (Loop ty a) t = omega (arith, loop_length ty a t, loop_length ty a done)
-instr_bytes (If ty a) t = omega (arith, then_length ty a t, then_length ty a done)
+instr_bytes (Loop ty a) t = omega (arith, block_length ty a t, block_length ty a done)
+instr_bytes (If ty a) t = omega (arith, block_length ty a t, block_length ty a done)
 instr_bytes (IfElse ty a b) t = omega (arith, both_length ty a b t, both_length ty a b done)
 instr_bytes i t = omega (arith, plain_before (the_plain i) t, plain_before (the_plain i) done)
 
@@ -31,5 +31,5 @@ onto_plains is js t = omega (arith, onto_bytes is (plains js t), onto_bytes is t
 -- a block with one sequence in it
 pub opened_bytes : (o : Opening) (ty : BlockType) (a t : Tree) → code_length (opened o ty a t) ≡ 2 + type_length ty + code_length a + code_length t
 opened_bytes openings.Block ty a t = omega (arith, block_length ty a t)
-opened_bytes openings.Loop ty a t = omega (arith, loop_length ty a t)
-opened_bytes openings.If ty a t = omega (arith, then_length ty a t)
+opened_bytes openings.Loop ty a t = omega (arith, block_length ty a t)
+opened_bytes openings.If ty a t = omega (arith, block_length ty a t)

@@ -6,7 +6,7 @@ use Rattle.i64_split.specs.Split.{temps, words_code}
 use Rattle.wasm_num.specs.Shapes.{num_operands, num_result}
 use Rattle.wasm_num.specs.declared.NumOp.TheVariants.{I32Eqz}
 use Rattle.module_ast.specs.Binary.{plain_bytes}
-use Rattle.module_ast.specs.declared.code.Instr.TheVariants.{Block, Loop, If, IfElse, Br, BrIf, BrTable, Return, Call, CallIndirect}
+use Rattle.module_ast.specs.declared.code.Instr.TheVariants.{Block, Loop, If, IfElse, Call}
 use Rattle.module_ast.specs.Places.{Scope}
 use Rattle.module_ast.specs.Structure.{Tree, done, plain, Plain, unreachable, br, br_if, br_table, return_, call, call_indirect, local_get, global_get, i32_const, num, before, plain_of, instr_of}
 use Rattle.module_ast.proofs.Plains.{the_plain}
@@ -77,12 +77,7 @@ copy_is r s p (Block b a) copy x e h = absurd (none_some e)
 copy_is r s p (Loop b a) copy x e h = absurd (none_some e)
 copy_is r s p (If b a) copy x e h = absurd (none_some e)
 copy_is r s p (IfElse b a o) copy x e h = absurd (none_some e)
-copy_is r s p (Br l) copy x e h = absurd (none_some e)
-copy_is r s p (BrIf l) copy x e h = absurd (none_some e)
-copy_is r s p (BrTable ls l) copy x e h = absurd (none_some e)
-copy_is r s p Return copy x e h = absurd (none_some e)
 copy_is r s p (Call f) copy x e h = absurd (none_some e)
-copy_is r s p (CallIndirect ty) copy x e h = absurd (none_some e)
 copy_is r s p i copy x e h = (the_plain i, refl, before_back copy (the_plain i) (h done))
 
 -- ---- its template

@@ -1,5 +1,6 @@
 -- The templates, over what the program keeps.
 use Rattle.std.specs.Prelude.{ℕ, cond, pos, unwrap_or, List, [], ◌∷◌, ◌++◌, map}
+use Rattle.std.specs.List.{AllByRecursion}
 use Rattle.wasm_sem.specs.Types.{ValType, FuncType, Instr}
 use Rattle.wasm_num.specs.declared.ValType.TheVariants.{I32, I64}
 use Rattle.module_ast.specs.Places.{Scope}
@@ -44,8 +45,7 @@ one_if_same _ _ = 0
 
 -- temporaries of each of these lists of types are in the pool
 abbrev pub HasRoom : Pool → List (List ValType) → Type 0
-HasRoom pool [] = Unit {0}
-HasRoom pool (ts ∷ tss) = HasTemps pool 0 ts × HasRoom pool tss
+HasRoom pool tss = AllByRecursion (HasTemps pool 0) tss
 
 -- an instruction with no sequence in it, as a live instruction inside these blocks
 abbrev pub template_of : Setting → List Scope → (p : ℕ) → Instr → List Plain
