@@ -10,7 +10,7 @@ use Rattle.clap.specs.declared.builder.value_parser.ValueParser.TheVariants as p
 use Rattle.clap.proofs.ValueTestLemmas.{Accepts-accepts, accepts-Accepts}
 use Rattle.clap.specs.declared.error.ErrorKind.{ErrorKind}
 use Rattle.clap.proofs.OnLiterals.{clap_on_literals}
-use Rattle.command_line.specs.Lines.{IsLine, Line, is_complete, line_at, line_by, line_of, most_jobs, number_in, unless, wasabi}
+use Rattle.command_line.specs.Lines.{IsLine, Line, is_complete, line_at, line_by, line_of, number_in, unless, wasabi}
 use Rattle.command_line.specs.declared.words.Line.{Line as ReadLine}
 use Rattle.command_line.specs.declared.words.LineFault.TheVariants.{Refused}
 
@@ -55,36 +55,29 @@ no_number most t not = by (is_unsigned_in 1 most t) refl
         absurd (not (fits.0, fits.1))
     by false is = refl
 
--- ---- the numbers of a line are in their ranges
+-- ---- an output has no more bytes than a file that is read
 
-number_ranged : (most : ℕ) (o : Option Text) → 1 ≤ most → (1 ≤ unwrap_or (number_in most o) 1) × (unwrap_or (number_in most o) 1 ≤ most)
-number_ranged most None some = (omega arith, some)
-number_ranged most (Some t) some = by (is_unsigned_in 1 most t) refl
+number_at_most : (most : ℕ) (o : Option Text) → 1 ≤ most → unwrap_or (number_in most o) 1 ≤ most
+number_at_most most None some = some
+number_at_most most (Some t) some = by (is_unsigned_in 1 most t) refl
   where
-    by : (b : Bool) → is_unsigned_in 1 most t ≡ b
-        → (1 ≤ unwrap_or (cond b (Some (digits_value 10 (without_leading_plus t))) None) 1) × (unwrap_or (cond b (Some (digits_value 10 (without_leading_plus t))) None) 1 ≤ most)
-    by true is =
-        let fits = accepts-Accepts false (parser.Unsigned 1 most) t is in
-        (fits.2, fits.3)
-    by false is = (omega arith, some)
+    by : (b : Bool) → is_unsigned_in 1 most t ≡ b → unwrap_or (cond b (Some (digits_value 10 (without_leading_plus t))) None) 1 ≤ most
+    by true is = (accepts-Accepts false (parser.Unsigned 1 most) t is).3
+    by false is = some
 
-pub record IsRanged (line : Line) : Type 0 where
-  pub jobs : (1 ≤ line.jobs) × (line.jobs ≤ 64)
-  pub max_output : (1 ≤ line.max_output) × (line.max_output ≤ longest_file)
-
-pub line_ranged : (words : List Text) (line : Line) → IsLine words line → IsRanged line
-line_ranged words line is = by (fault_of wasabi words) is
+pub output_within : (words : List Text) (line : Line) → IsLine words line → line.max_output ≤ longest_file
+output_within words line is = by (fault_of wasabi words) is
   where
     value : Text → Option Text
     value = λ id. first_of id (matches_of wasabi words)
 
-    at : (complete : Bool) → cond complete (Some (line_at value)) None ≡ Some line → IsRanged line
+    at : (complete : Bool) → cond complete (Some (line_at value)) None ≡ Some line → line.max_output ≤ longest_file
     at true e =
         let same : line_at value ≡ line = cc in
-        subst IsRanged same (record { jobs = number_ranged most_jobs (value (codes "jobs")) (omega arith); max_output = number_ranged longest_file (value (codes "max-output")) (omega arith) })
+        subst (λ (l : Line). l.max_output ≤ longest_file) same (number_at_most longest_file (value (codes "max-output")) (omega arith))
     at false e = cc
 
-    by : (faults : Kinds) → unless faults (line_by value) ≡ Some line → IsRanged line
+    by : (faults : Kinds) → unless faults (line_by value) ≡ Some line → line.max_output ≤ longest_file
     by [] e = at (is_complete value) e
     by (fault ∷ faults) e = cc
 

@@ -1,6 +1,6 @@
 // Reads the words of a command.
 
-ghost use Rattle.std.specs.Prelude.{◌≡◌, ◌≢◌, ◌≤◌, IfOk, IsErrOf, option_map};
+ghost use Rattle.std.specs.Prelude.{◌≡◌, ◌≢◌, ◌≤◌, IfOk, IfSome, IsErrOf, option_map};
 ghost use Rattle.clap.specs.Words.{first_of, found_of, kind_of, rows_of};
 ghost use Rattle.module_ast.specs.Validation.Limits.{longest_file};
 ghost use Rattle.command_line.specs.Lines.{AsksForNothing, IsLine, line_by, line_of, number_in, texts};
@@ -88,7 +88,9 @@ fn fault_of(error: &Error) -> LineFault
 
 // The line of what the parser found; `None` if a text is missing or a number is not in its range.
 fn line_in<'w>(found: &ArgMatches<'w>) -> Option<Line<'w>>
-    ensures { option_map line_of result ≡ line_by (λ id. first_of id (rows_of (found_of found.now))) }
+    ensures line { option_map line_of result ≡ line_by (λ id. first_of id (rows_of (found_of found.now))) }
+    ensures jobs { IfSome result (λ line. (1 ≤ line.jobs) × (line.jobs ≤ 64)) }
+    ensures bound { IfSome result (λ line. (1 ≤ line.max_output) × (line.max_output ≤ longest_file)) }
 {
     Some(Line {
         mode: text_in(found, "mode")?,
@@ -115,7 +117,8 @@ fn text_in<'w>(found: &ArgMatches<'w>, id: &str) -> Option<&'w str>
 
 // The number that the parser found under an id, if it is from 1 to `most`. The parser accepts no other.
 fn number_in(found: &ArgMatches<'_>, id: &str, most: u64) -> Option<u64>
-    ensures { result ≡ number_in most (first_of id.now (rows_of (found_of found.now))) }
+    ensures number { result ≡ number_in most (first_of id.now (rows_of (found_of found.now))) }
+    ensures range { IfSome result (λ number. (1 ≤ number) × (number ≤ most)) }
 {
     match text_in(found, id)?.parse::<u64>() {
         Ok(number) if 1 <= number && number <= most => Some(number),

@@ -51,7 +51,7 @@ marked_with k (Some sh) b e =
 
 module _ (m : Module) (limit : ℕ) (w : Watch) where
   none_taken : (is : List TraceItem) (b : TaintedShadow) → tainted_effects m limit w None is ≡ Some b → ⊥
-  none_taken is b e = let none : None ≡ Some b = sym (nothing_more m limit w is) ∙ e in cc
+  none_taken is b e = let none : None ≡ Some b = sym (nothing_more (tainted_effect m limit w) is) ∙ e in cc
 
   -- an item that was taken has moved the marks
   taken_marks : (a c : TaintedShadow) (i : TraceItem) → tainted_effect m limit w a i ≡ Some c → c.marks ≡ item_marks m w a.state i a.marks

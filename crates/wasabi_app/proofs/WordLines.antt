@@ -7,7 +7,7 @@ use Rattle.hook_select.specs.Groups.{read_list}
 use Rattle.app_load.specs.declared.kinds.Kinds.{Kinds}
 use Rattle.app_load.specs.Kinds.{read_kinds}
 use Rattle.command_line.specs.Lines.{AsksForNothing, IsLine, Line, line_of_words}
-use Rattle.command_line.proofs.Parsed.{line_ranged}
+use Rattle.command_line.proofs.Parsed.{output_within}
 use Rattle.wasabi_app.specs.Words.{Given, given_by, hooks_read, keeps_read, given_in, given}
 
 -- what the words say is what their line says
@@ -37,4 +37,4 @@ given_bound words g e = by (line_of_words words) refl e
     by : (o : Option Line) → line_of_words words ≡ o → option_and_then given_in o ≡ Some g → g.bound ≤ longest_file
     by None is k = cc
     by (Some line) is k =
-        subst (λ n. n ≤ longest_file) (given_parts line (hooks_read (read_list line.hooks)) (read_kinds line.reports) (keeps_read line.names) g k) (line_ranged words line is).max_output.1
+        subst (λ n. n ≤ longest_file) (given_parts line (hooks_read (read_list line.hooks)) (read_kinds line.reports) (keeps_read line.names) g k) (output_within words line is)

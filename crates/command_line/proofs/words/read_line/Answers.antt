@@ -1,11 +1,8 @@
-use Rattle.std.proofs.Common.{◌≤◌, ◌∙◌, IfOk, IsErrOf, ap, inl, inr, subst, sym}
-use Rattle.std.proofs.lemmas.Result.{IfOk-weaker}
+use Rattle.std.proofs.Common.{◌∙◌, IfOk, IsErrOf, ap, inl, inr, subst, sym}
 use Rattle.clap.specs.Words.{IsAmong, fault_of, first_of, is_simple, is_simple_and_free, kind_of, matches_of}
-use Rattle.module_ast.specs.Validation.Limits.{longest_file}
 use Rattle.command_line.specs.Lines.{IsLine, line_by, line_of, texts}
-use Rattle.command_line.specs.declared.words.Line.{Line as ReadLine}
 use Rattle.command_line.specs.declared.words.LineFault.TheVariants.{Refused}
-use Rattle.command_line.proofs.Parsed.{line_ranged, line_read, none_read, none_with, same_error, wasabi_is_free, wasabi_is_simple}
+use Rattle.command_line.proofs.Parsed.{line_read, none_read, none_with, same_error, wasabi_is_free, wasabi_is_simple}
 use Rattle.command_line.proofs.words.read_line.Goals as goal
 
 pub returns-in-Err-clause-refused : goal.returns-in-Err-clause-refused
@@ -24,7 +21,7 @@ returns-clause-line c =
     let taken = sym (ap (λ app. fault_of app words) is) ∙ c.in-Ok.ensures.kinds (ap is_simple_and_free is ∙ wasabi_is_free) in
     let found = (c.in-Ok.ensures.matches (ap is_simple is ∙ wasabi_is_simple)).0 ∙ ap (λ app. matches_of app words) is in
     subst (λ r. IfOk r (λ line. IsLine words (line_of line))) (sym c.ok_or.ensures.value)
-    (line_read c.line_in.result _ _ (c.line_in.ensures ∙ ap (λ rows. line_by (λ id. first_of id rows)) found) taken)
+    (line_read c.line_in.result _ _ (c.line_in.ensures.line ∙ ap (λ rows. line_by (λ id. first_of id rows)) found) taken)
 
 pub returns-clause-refused : goal.returns-clause-refused
 returns-clause-refused c =
@@ -32,16 +29,4 @@ returns-clause-refused c =
     let is = c.in_ok-wasabi.ensures in
     let taken = sym (ap (λ app. fault_of app words) is) ∙ c.in-Ok.ensures.kinds (ap is_simple_and_free is ∙ wasabi_is_free) in
     let found = (c.in-Ok.ensures.matches (ap is_simple is ∙ wasabi_is_simple)).0 ∙ ap (λ app. matches_of app words) is in
-    λ refused. none_read c.line_in.result _ _ (c.line_in.ensures ∙ ap (λ rows. line_by (λ id. first_of id rows)) found) taken (subst (λ r. IsErrOf r Refused) c.ok_or.ensures.value refused)
-
--- the numbers are in their ranges
-pub returns-clause-jobs : goal.returns-clause-jobs
-returns-clause-jobs c =
-    let words = texts c.args.words.now in
-    IfOk-weaker _ (λ (line : ReadLine). IsLine words (line_of line)) (λ (line : ReadLine). (1 ≤ line.jobs) × (line.jobs ≤ 64)) (λ line is. (line_ranged words (line_of line) is).jobs) (returns-clause-line c)
-
-pub returns-clause-bound : goal.returns-clause-bound
-returns-clause-bound c =
-    let words = texts c.args.words.now in
-    IfOk-weaker _ (λ (line : ReadLine). IsLine words (line_of line)) (λ (line : ReadLine). (1 ≤ line.max_output) × (line.max_output ≤ longest_file)) (λ line is. (line_ranged words (line_of line) is).max_output)
-    (returns-clause-line c)
+    λ refused. none_read c.line_in.result _ _ (c.line_in.ensures.line ∙ ap (λ rows. line_by (λ id. first_of id rows)) found) taken (subst (λ r. IsErrOf r Refused) c.ok_or.ensures.value refused)
