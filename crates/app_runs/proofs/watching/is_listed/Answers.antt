@@ -1,4 +1,4 @@
-use Rattle.std.proofs.Common.{bytes_eq, lit<, rules, refl}
+use Rattle.std.proofs.Common.{bytes_eq, rules, refl}
 use Rattle.std.proofs.lemmas.Iterator.Search.{any_from_yields_List}
 use Rattle.hook_select.proofs.Pieces.{gives_pieces}
 use Rattle.app_runs.proofs.watching.is_listed.Goals as goal
