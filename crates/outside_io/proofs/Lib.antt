@@ -1,3 +1,6 @@
 pub mod Counting
 pub mod Fronts
+mod Logged
+mod Moments
+mod Steps
 pub mod Written

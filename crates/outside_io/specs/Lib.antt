@@ -1,5 +1,9 @@
 pub mod Calls
-pub mod Faults
+pub mod Disk
 pub mod Failing
+pub mod Faults
+pub mod Found
+pub mod Log
 pub mod Outside
 pub mod Shelved
+pub mod Whole
