@@ -18,6 +18,7 @@ pub data Reason : Type 0 where
   no_import : Reason
   few_groups : Reason
   not_nested : Reason
+  no_function : Reason
 
 -- the status of a command that is refused for this reason
 abbrev pub reason_status : Reason → Status
@@ -28,6 +29,7 @@ reason_status long_trace = status.LongTrace
 reason_status no_import = status.NoImport
 reason_status few_groups = status.FewGroups
 reason_status not_nested = status.NotNested
+reason_status no_function = status.NoFunction
 
 -- how a command ends that is not refused: what the command runs has ended without a trap, has trapped, or has not ended
 pub data Finish : Type 0 where

@@ -26,6 +26,7 @@ status_number status.NotTrace = 19
 status_number status.NoImport = 20
 status_number status.FewGroups = 21
 status_number status.NotNested = 22
+status_number status.NoFunction = 23
 
 -- what a status tells about; `of_nothing` is the class of a number that no status has
 pub data Class : Type 0 where
@@ -64,6 +65,7 @@ status_class status.NotTrace = of_bytes
 status_class status.NoImport = of_reasons
 status_class status.FewGroups = of_reasons
 status_class status.NotNested = of_reasons
+status_class status.NoFunction = of_reasons
 
 -- each status, once
 abbrev pub every_status : List Status
@@ -71,7 +73,7 @@ every_status =
     status.Done ∷ status.BadWords ∷ status.Missing ∷ status.Unread ∷ status.Unwritten ∷ status.Malformed ∷ status.Unfit
     ∷ status.Invalid ∷ status.NoOutput ∷ status.BadScript ∷ status.OutOfRange ∷ status.Trapped ∷ status.Unfinished
     ∷ status.NoMemory ∷ status.Unprinted ∷ status.BadInfo ∷ status.LongTrace ∷ status.NotTrace ∷ status.NoImport
-    ∷ status.FewGroups ∷ status.NotNested ∷ []
+    ∷ status.FewGroups ∷ status.NotNested ∷ status.NoFunction ∷ []
 
 -- the class of the first status of a list that has this number
 abbrev pub class_among : List Status → ℕ → Class

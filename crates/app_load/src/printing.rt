@@ -93,7 +93,7 @@ fn refuse<K: Sink>(out: &mut K, refusal: &Refusal) -> Status
     }
 }
 
-/// Prints the text of an answer, or the line of a refusal, and gives the number of the status, 0 to 22. If the sink
+/// Prints the text of an answer, or the line of a refusal, and gives the number of the status, 0 to 23. If the sink
 /// fails, the status of an answer is `Unprinted`, 15; that of a refusal stays. If memory runs out, the status is
 /// `NoMemory`, 14.
 pub fn tell<K: Sink>(out: &mut K, ending: Result<Printed, Refusal>) -> u8

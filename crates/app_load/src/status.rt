@@ -48,10 +48,12 @@ pub enum Status {
     FewGroups,
     /// The events do not nest.
     NotNested,
+    /// A piece of a list of functions means no function with a body.
+    NoFunction,
 }
 
 impl Status {
-    /// The number that the program ends with, 0 to 22; no status has the number 1 or 17.
+    /// The number that the program ends with, 0 to 23; no status has the number 1 or 17.
     pub fn number(self) -> u8
         ensures { result ≡ status_number self }
     {
@@ -77,6 +79,7 @@ impl Status {
             Status::NoImport => 20,
             Status::FewGroups => 21,
             Status::NotNested => 22,
+            Status::NoFunction => 23,
         }
     }
 }

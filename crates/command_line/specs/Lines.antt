@@ -39,6 +39,8 @@ options =
     ∷ (codes "script", any_text)
     ∷ (codes "sources", any_text)
     ∷ (codes "sinks", any_text)
+    ∷ (codes "functions", any_text)
+    ∷ (codes "except", any_text)
     ∷ (codes "hooks", text_or (codes "all"))
     ∷ (codes "reports", text_or (codes "all"))
     ∷ (codes "names", text_or (codes "drop"))
@@ -85,6 +87,8 @@ pub record Line : Type 0 where
   pub script : Option Text
   pub sources : Option Text
   pub sinks : Option Text
+  pub functions : Option Text
+  pub except : Option Text
   pub hooks : Text
   pub reports : Text
   pub names : Text
@@ -116,6 +120,8 @@ line_at value = record {
   script = value (codes "script");
   sources = value (codes "sources");
   sinks = value (codes "sinks");
+  functions = value (codes "functions");
+  except = value (codes "except");
   hooks = unwrap_or (value (codes "hooks")) [];
   reports = unwrap_or (value (codes "reports")) [];
   names = unwrap_or (value (codes "names")) [];
@@ -153,6 +159,8 @@ line_of line = record {
   script = option_map (λ t. t.now) line.script;
   sources = option_map (λ t. t.now) line.sources;
   sinks = option_map (λ t. t.now) line.sinks;
+  functions = option_map (λ t. t.now) line.functions;
+  except = option_map (λ t. t.now) line.except;
   hooks = line.hooks.now;
   reports = line.reports.now;
   names = line.names.now;

@@ -28,6 +28,10 @@ pub struct Line<'w> {
     pub sources: Option<&'w str>,
     /// `--sinks`: a list of names of imports, separated by commas.
     pub sinks: Option<&'w str>,
+    /// `--functions`: a list of the functions that get hooks, separated by commas.
+    pub functions: Option<&'w str>,
+    /// `--except`: a list of functions that get none, separated by commas.
+    pub except: Option<&'w str>,
     /// `--hooks`: a list of groups; `all` if the option is not given.
     pub hooks: &'w str,
     /// `--reports`: a list of kinds of reports; `all` if the option is not given.
@@ -105,6 +109,8 @@ fn line_in<'w>(found: &ArgMatches<'w>) -> Option<Line<'w>>
         script: text_in(found, "script"),
         sources: text_in(found, "sources"),
         sinks: text_in(found, "sinks"),
+        functions: text_in(found, "functions"),
+        except: text_in(found, "except"),
     })
 }
 

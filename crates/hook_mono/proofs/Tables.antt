@@ -9,10 +9,10 @@ use Rattle.std.specs.List.{position_or_len, position}
 use Rattle.std.proofs.lemmas.Bool.Decides.{nat_tests}
 use Rattle.std.proofs.lemmas.List.Sums.{fold-append}
 use Rattle.module_ast.specs.declared.module.Module.{Module}
-use Rattle.hook_select.specs.declared.Hooks.{Hooks}
+use Rattle.hook_select.specs.Selections.{Selection}
 use Rattle.hook_mono.specs.declared.HookKey.{HookKey}
 use Rattle.hook_mono.specs.Keys.{key_eq, find_key, with_key, with_keys}
-use Rattle.hook_mono.specs.Needed.{Site, sites, wanted_keys, needs_of, NeedsJoin}
+use Rattle.hook_mono.specs.Needed.{Site, sites, wanted_by, needs_by, NeedsJoin}
 use Rattle.hook_mono.proofs.KeyNumbers.{key_itself, same_keys}
 
 -- ---- what is found
@@ -105,12 +105,12 @@ pub joined_keys : (table more keys : List HookKey) → with_keys table (with_key
 joined_keys table more [] = refl
 joined_keys table more (key ∷ keys) = joined_keys table (with_key more key) keys ∙ ap (λ t. with_keys t keys) (one_joined table more key)
 
-bodies_join : (hooks : Hooks) (table : List HookKey) (ss : List Site) → fold with_keys table (map (needs_of hooks) ss) ≡ with_keys table (flat_map (wanted_keys hooks) ss)
+bodies_join : (hooks : Selection) (table : List HookKey) (ss : List Site) → fold with_keys table (map (needs_by hooks) ss) ≡ with_keys table (flat_map (wanted_by hooks) ss)
 bodies_join hooks table [] = refl
 bodies_join hooks table (s ∷ ss) =
-    ap (λ t. fold with_keys t (map (needs_of hooks) ss)) (joined_keys table [] (wanted_keys hooks s))
-    ∙ bodies_join hooks (with_keys table (wanted_keys hooks s)) ss
-    ∙ sym (fold-append with_key table (wanted_keys hooks s) (flat_map (wanted_keys hooks) ss))
+    ap (λ t. fold with_keys t (map (needs_by hooks) ss)) (joined_keys table [] (wanted_by hooks s))
+    ∙ bodies_join hooks (with_keys table (wanted_by hooks s)) ss
+    ∙ sym (fold-append with_key table (wanted_by hooks s) (flat_map (wanted_by hooks) ss))
 
-pub needs_join : (m : Module) (hooks : Hooks) → NeedsJoin m hooks
+pub needs_join : (m : Module) (hooks : Selection) → NeedsJoin m hooks
 needs_join m hooks = bodies_join hooks [] (sites m)

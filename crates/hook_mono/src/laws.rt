@@ -1,10 +1,11 @@
 // Laws of keys, of their names, and of the types.
 
 ghost use Rattle.module_ast.specs.declared.module.Module.{Module};
-ghost use Rattle.hook_select.specs.declared.Hooks.{Hooks};
+ghost use Rattle.hook_select.specs.Selections.{Selection};
 ghost use Rattle.hook_mono.specs.Keys.{KeysDiffer};
 ghost use Rattle.hook_mono.specs.Names.{NamesDiffer, NamesLeadBack};
 ghost use Rattle.hook_mono.specs.Needed.{NeedsJoin};
+ghost use Rattle.hook_mono.specs.Told.{TypesAreTold};
 
 use crate::{HookKey, HookTable};
 
@@ -19,9 +20,14 @@ pub fn keys_differ()
     ensures { KeysDiffer }
 {}
 
+/// The types of the values that the hook of a key is told are those of the fields that it tells.
+pub fn types_are_told()
+    ensures { TypesAreTold }
+{}
+
 /// The keys that the bodies of a module need, joined in the order of its functions, are those that the module needs.
 pub fn needs_join()
-    ensures { (m : Module) (hooks : Hooks) → NeedsJoin m hooks }
+    ensures { (m : Module) (hooks : Selection) → NeedsJoin m hooks }
 {}
 
 /// A key may go to other threads, and several threads may read it at the same time.

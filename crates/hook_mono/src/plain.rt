@@ -2,8 +2,8 @@
 
 ghost use Rattle.std.specs.Prelude.{◌≡◌, ℕ, Option, filter};
 ghost use Rattle.std.specs.Option.{option_map, option_to_list};
-ghost use Rattle.hook_mono.specs.Plains.{hook_of, is_plain, plain_name, plain_row, plain_told, plain_values};
-ghost use Rattle.hook_mono.specs.Told.{told_event};
+ghost use Rattle.hook_mono.specs.Plains.{is_plain, plain_hook, plain_name, plain_values};
+ghost use Rattle.hook_mono.specs.Told.{plain_told, told_event};
 ghost use Rattle.hook_mono.specs.Values.{values_from};
 ghost use Rattle.hook_mono.specs.Reading.{named};
 
@@ -67,7 +67,7 @@ type PlainHook = (&'static str, &'static [ValType]);
 
 // The hook of a group that is a key by itself; none for other groups.
 fn plain_hook(group: GroupName) -> Option<PlainHook>
-    ensures { option_map (λ hook. (hook.0.now, hook.1.now)) result ≡ option_map hook_of (plain_row group) }
+    ensures { option_map (λ hook. (hook.0.now, hook.1.now)) result ≡ plain_hook group }
 {
     each_plain!(hook_of(group))
 }

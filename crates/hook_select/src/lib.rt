@@ -3,11 +3,13 @@
 
 pub mod laws;
 mod read;
+mod selection;
 
 ghost use Rattle.std.specs.Prelude.{◌≡◌, ◌↔◌, true, false, All, IsTrue};
 ghost use Rattle.hook_select.specs.Groups.{has};
 
 pub use crate::read::{UnknownGroup, group_named, read_list};
+pub use crate::selection::Selection;
 use module_ast::module::Loc;
 use module_ast::ops::{LoadOp, StoreOp, VarOp};
 use wasm_num::{BlockKind, NumOp, Value, Values};

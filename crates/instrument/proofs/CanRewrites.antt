@@ -2,7 +2,8 @@
 use Rattle.std.proofs.Common.{◌≡◌, ℕ, ◌+◌, ◌^◌, ◌<◌, ◌≤◌, List, [], ◌∷◌, length, Option, Some, All, IfSome, sym, subst, arith, slice_get, length-append}
 use Rattle.std.proofs.lemmas.List.Elements.{All-weaker, recursion_from_All}
 use Rattle.std.proofs.lemmas.Option.{slice_get_within}
-use Rattle.wasm_sem.specs.Types.{ValType, ExportKind, Export, Element, Body, Module, Hooks, HookKey}
+use Rattle.wasm_sem.specs.Types.{ValType, ExportKind, Export, Element, Body, Module, Hooks, Selection, HookKey}
+use Rattle.hook_select.specs.Selections.{everywhere}
 use Rattle.module_ast.specs.declared.module.ExportKind.TheVariants.{Func, Table, Memory, Global}
 use Rattle.module_ast.specs.declared.module.Which.TheVariants.{Functions, Types, Locals}
 use Rattle.module_ast.specs.Binary.{locals_of, IsWithin}
@@ -50,7 +51,7 @@ module _ (r : Remap) (c : Context) (few : length c.funcs + r.added ≤ 2 ^ 32) w
 
 -- ---- how many hooks there are
 
-module _ (m : Module) (hooks : Hooks) (limits : IsWithin narrow m) where
+module _ (m : Module) (hooks : Selection) (limits : IsWithin narrow m) where
   pub keys_few : length (needed_keys m hooks) ≤ 400260
   keys_few = omega (arith, needed_count m hooks, (limits Types).0)
 
@@ -60,7 +61,7 @@ module _ (m : Module) (hooks : Hooks) (limits : IsWithin narrow m) where
 
 -- ---- functions that are named outside bodies
 
-module _ (m : Module) (hooks : Hooks) (valid : IsValid m) (limits : IsWithin narrow m) where
+module _ (m : Module) (hooks : Selection) (valid : IsValid m) (limits : IsWithin narrow m) where
   maps_index : (f : ℕ) → f < length (funcs_of m) → MapsIndex (hook_remap m (needed_keys m hooks)) f
   maps_index f h = λ k. omega (arith, funcs_few m hooks limits)
 
@@ -87,31 +88,31 @@ module _ (m : Module) (hooks : Hooks) (valid : IsValid m) (limits : IsWithin nar
 
 -- ---- bodies
 
--- with any hooks, where they and the module's functions are few
-module _ (m : Module) (hooks : Hooks) (valid : IsValid m) (limits : IsWithin narrow m) (keys : List HookKey) (few : length keys + length (funcs_of m) < 2 ^ 32) where
+-- with any groups and hooks, where these and the module's functions are few
+module _ (m : Module) (groups : Hooks) (valid : IsValid m) (limits : IsWithin narrow m) (keys : List HookKey) (few : length keys + length (funcs_of m) < 2 ^ 32) where
   -- a defined function
   site_numbers : (defined func ty : ℕ) (b : Body) → slice_get m.funcs defined ≡ Some ty → slice_get m.bodies defined ≡ Some b
-      → HasNumbers (setting_of hooks keys (import_count m) (site_of m func ty b))
+      → HasNumbers (setting_of groups keys (import_count m) (site_of m func ty b))
   site_numbers defined func ty b typed there =
       let (t, is) = get_within m.types ty (all_at (λ (ty : ℕ). ty < length m.types) m.funcs defined ty (recursion_from_All (λ (ty : ℕ). ty < length m.types) m.funcs (valid.rules function_types)) typed) in
       let own = func_type_or (slice_get m.types ty) in
-      let short = types_few m hooks valid limits in
-      let params = each_in HasFew (named_types m) own (named m ty) short in
+      let short = types_few m (everywhere groups) valid limits in
+      let params = each_in (HasFew 400) (named_types m) own (named m ty) short in
       let locals = all_at (λ (b : Body). locals_of b.groups ≤ 50000) m.bodies defined b (within_all (λ (b : Body). locals_of b.groups) 50000 m.bodies (limits Locals)) there in
       record {
         hooks = omega (arith, few, length-append (imported_funcs m.imports) m.funcs);
         calls =
             code_maps (hook_remap m keys) (body_context m t b) (omega (arith, few)) (t.results ∷ []) b.code [] (push t.results [])
             (valid.bodies defined ty t b typed is there);
-        locals = omega (arith, params.0, locals, pool_few m short hooks func ty b, declared_count b.groups, length-append own.params (declared_locals b.groups));
+        locals = omega (arith, params.0, locals, pool_few 400 m short groups func ty b, declared_count b.groups, length-append own.params (declared_locals b.groups));
       }
 
   -- what the rewriting of a body asks
-  pub can_rewrite_with : (defined : ℕ) → CanRewrite m defined hooks keys (import_count m)
+  pub can_rewrite_with : (defined : ℕ) → CanRewrite m defined groups keys (import_count m)
   can_rewrite_with defined s at =
       let r = site_is m defined s at in
-      subst (λ (s : Site). HasNumbers (setting_of hooks keys (import_count m) s)) (sym r.is) (site_numbers defined r.func r.ty r.body r.type_is r.body_is)
+      subst (λ (s : Site). HasNumbers (setting_of groups keys (import_count m) s)) (sym r.is) (site_numbers defined r.func r.ty r.body r.type_is r.body_is)
 
 -- with all hooks that the module needs
-pub can_rewrite : (m : Module) (hooks : Hooks) → IsValid m → IsWithin narrow m → (defined : ℕ) → CanRewrite m defined hooks (needed_keys m hooks) (import_count m)
-can_rewrite m hooks valid limits = can_rewrite_with m hooks valid limits (needed_keys m hooks) (omega (arith, funcs_few m hooks limits))
+pub can_rewrite : (m : Module) (groups : Hooks) (hooks : Selection) → IsValid m → IsWithin narrow m → (defined : ℕ) → CanRewrite m defined groups (needed_keys m hooks) (import_count m)
+can_rewrite m groups hooks valid limits = can_rewrite_with m groups valid limits (needed_keys m hooks) (omega (arith, funcs_few m hooks limits))

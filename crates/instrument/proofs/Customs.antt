@@ -1,8 +1,8 @@
 -- Names of custom sections change nothing of what a module is and does.
-use Rattle.std.proofs.Common.{◌≡◌, ◌<◌, ℕ, suc, nat_le, List, [], ◌∷◌, Option, Some, None, refl, sym, ap, subst, ◌∙◌, IfSome, slice_get}
+use Rattle.std.proofs.Common.{◌≡◌, ◌≤◌, ◌<◌, ℕ, suc, nat_le, List, [], ◌∷◌, Option, Some, None, refl, sym, ap, subst, ◌∙◌, IfSome, slice_get}
 use Rattle.std.specs.List.{AllZip}
 use Rattle.std.proofs.lemmas.List.Elements.{All-weaker}
-use Rattle.wasm_sem.specs.Types.{Export, ExportKind, FuncType, Limits, Module, Hooks, HookKey}
+use Rattle.wasm_sem.specs.Types.{Export, ExportKind, FuncType, Limits, Module, Selection, HookKey}
 use Rattle.module_ast.specs.declared.module.ExportKind.TheVariants.{Func, Table, Memory, Global}
 use Rattle.module_ast.specs.declared.module.Which.TheVariants.{Functions, Types, Parameters, Locals, Nesting}
 use Rattle.module_ast.specs.Validation.{wide, ValidityRule, export_indices, start_type, func_type, count_of, Keeps, KeepsRules, IsValid}
@@ -11,11 +11,13 @@ use Rattle.module_ast.specs.Structure.{funcs_of, memories_of, tables_of}
 use Rattle.module_ast.specs.Texts.{Text}
 use Rattle.wasm_sem.specs.declared.Call.{Call}
 use Rattle.wasm_sem.specs.declared.Script.{Script}
-use Rattle.wasm_sem.specs.Execution.{Refusal, call_refusal, calls_refusal, callees_of, exported_func, first_refusal, fit_all, func_at, least_size, link, memory_cap, refusal_unless, segment_range, table_cap}
-use Rattle.static_info.specs.Belongs.{FuncImport, IsHook}
+use Rattle.wasm_sem.specs.Execution.{Refusal, call_refusal, calls_refusal, callees_of, exported_func, first_refusal, fit_all, func_at, least_size, link_within, memory_cap, refusal_unless, segment_range, table_cap}
+use Rattle.static_info.specs.Belongs.{FuncImport, func_imports, IsHook}
 use Rattle.instrument.specs.Laws.{CustomsChangeNothing}
-use Rattle.instrument.specs.Same.{Same, SameRuns}
-use Rattle.instrument.specs.Shell.{with_customs}
+use Rattle.static_info.specs.declared.Info.{Info}
+use Rattle.instrument.specs.Same.{SameBy, SameRunsBy, IsPartOf}
+use Rattle.static_info.specs.Info.{info_of}
+use Rattle.instrument.specs.Shell.{HasShell, with_customs}
 
 -- ---- validity
 
@@ -76,25 +78,51 @@ calls_same customs m n [] = refl
 calls_same customs m n (c ∷ cs) =
     ap (first_refusal (call_refusal n c.args (func_at (callees_of m) (exported_func c.export.bytes m.exports)))) (calls_same customs m (suc n) cs)
 
-pub link_same : (customs : List Text) (m : Module) (s : Script) → link (with_customs customs m) s ≡ link m s
-link_same customs m s = ap (λ (first : Option Refusal). first_refusal first later) (calls_same customs m 0 s.calls)
+pub link_same : (customs : List Text) (m : Module) (slots : ℕ) (s : Script) → link_within slots (with_customs customs m) s ≡ link_within slots m s
+link_same customs m slots s = ap (λ (first : Option Refusal). first_refusal first later) (calls_same customs m 0 s.calls)
   where
     later : Option Refusal
     later =
         first_refusal (refusal_unless (nat_le (least_size (memories_of m)) s.pages) (memory_cap (least_size (memories_of m))))
-        (first_refusal (refusal_unless (nat_le (least_size (tables_of m)) 1000000) (table_cap (least_size (tables_of m))))
+        (first_refusal (refusal_unless (nat_le (least_size (tables_of m)) slots) (table_cap (least_size (tables_of m))))
         (refusal_unless (fit_all m s) segment_range))
 
-pub runs_same : (customs : List Text) (m : Module) (hooks : Hooks) (o : Module) (s : Script) → SameRuns m hooks o s
-    → SameRuns m hooks (with_customs customs o) s
-runs_same customs m hooks o s same = record { each = same.each; ends = same.ends; prefix = same.prefix }
+part_same : (customs : List Text) (info : Info) (m : Module) (hooks : Selection) (o : Module) (s : Script) (k : ℕ) → (n : ℕ) × (n ≤ k) × IsPartOf info m hooks o s n k → (n : ℕ) × (n ≤ k) × IsPartOf info m hooks (with_customs customs o) s n k
+part_same customs info m hooks o s k p =
+    let x = p.2 in
+    (p.0, p.1, record { front = x.front; back = x.back; before = x.before; now = x.now; store = x.store; host = x.host })
 
-pub customs_same : (customs : List Text) (m : Module) (hooks : Hooks) (o : Module) → Same m hooks o → Same m hooks (with_customs customs o)
-customs_same customs m hooks o same = record {
-  links = λ s range. link_same customs o s ∙ same.links s range;
-  runs = λ s range linked. runs_same customs m hooks o s (same.runs s range linked);
+pub runs_same : (customs : List Text) (info : Info) (m : Module) (hooks : Selection) (o : Module) (s : Script) → SameRunsBy info m hooks o s
+    → SameRunsBy info m hooks (with_customs customs o) s
+runs_same customs info m hooks o s same = record { each = same.each; ends = same.ends; prefix = same.prefix; parts = λ k. part_same customs info m hooks o s k (same.parts k) }
+
+pub customs_same : (customs : List Text) (info : Info) (m : Module) (hooks : Selection) (o : Module) → SameBy info m hooks o → SameBy info m hooks (with_customs customs o)
+customs_same customs info m hooks o same = record {
+  links = λ slots s. link_same customs o slots s ∙ same.links slots s;
+  runs = λ s range linked. runs_same customs info m hooks o s (same.runs s range linked);
+}
+
+-- ---- what is outside the bodies
+
+pub shell_same : (customs : List Text) (info : Info) (m o : Module) → HasShell info m o → HasShell info m (with_customs customs o)
+shell_same customs info m o shell = record {
+  new_types = shell.new_types;
+  types = shell.types;
+  new_imports = shell.new_imports;
+  imports = shell.imports;
+  as_many = shell.as_many;
+  hooks = hooks_same customs o (func_imports shell.new_imports) info.hooks shell.hooks;
+  funcs = shell.funcs;
+  tables = shell.tables;
+  memories = shell.memories;
+  globals = shell.globals;
+  exports = shell.exports;
+  start = shell.start;
+  elements = shell.elements;
+  bodies = shell.bodies;
+  segments = shell.segments;
 }
 
 pub customs_change_nothing : CustomsChangeNothing
 customs_change_nothing customs m hooks o valid within same =
-    (valid_same customs o valid, within_same wide customs o within, customs_same customs m hooks o same)
+    (valid_same customs o valid, within_same wide customs o within, customs_same customs (info_of m hooks) m hooks o same)

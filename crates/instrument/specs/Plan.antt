@@ -1,16 +1,16 @@
 -- What a module with hooks is made from.
 use Rattle.std.specs.Prelude.{◌≡◌, ℕ, ◌≤◌, List, [], length}
-use Rattle.wasm_sem.specs.Types.{Body, Module, Hooks, HookKey}
+use Rattle.wasm_sem.specs.Types.{Body, Module, Selection, HookKey}
 use Rattle.module_ast.specs.Binary.{body_bytes, module_bytes, IsWithin}
 use Rattle.module_ast.specs.Validation.{narrow, IsValid, longest_narrow_file}
 use Rattle.hook_mono.specs.Needed.{needed_keys}
 use Rattle.index_remap.specs.declared.Remap.{Remap}
 use Rattle.instrument.specs.Output.{hook_remap, output}
 
--- a module that gets hooks, and the selected groups
+-- a module that gets hooks, and which are selected
 pub record HookPlan : Type 0 where
   pub «module» : Module
-  pub hooks : Hooks
+  pub hooks : Selection
 
 -- the keys of the hooks that it needs
 abbrev pub plan_keys : HookPlan → List HookKey

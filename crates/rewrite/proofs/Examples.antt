@@ -8,6 +8,7 @@ use Rattle.module_ast.specs.Structure.{Tree, done, plain, block, loop, nop, br, 
 use Rattle.module_ast.specs.Binary.{body_bytes}
 use Rattle.hook_select.specs.declared.GroupName.TheVariants as groups
 use Rattle.hook_select.specs.Groups.{hooks_of, is_among}
+use Rattle.hook_select.specs.Selections.{everywhere}
 use Rattle.hook_mono.specs.Needed.{import_count, sites, needed_keys}
 use Rattle.rewrite.specs.Rewrite.{setting_of, rewritten_body}
 
@@ -36,7 +37,7 @@ abbrev nothing : FuncType
 nothing = record { params = []; results = [] }
 
 abbrev hooked : Module → Hooks → (defined : ℕ) → Option (List ℕ)
-hooked m hooks defined = option_map (λ s. body_bytes (rewritten_body (setting_of hooks (needed_keys m hooks) (import_count m) s))) (slice_get (sites m) defined)
+hooked m hooks defined = option_map (λ s. body_bytes (rewritten_body (setting_of hooks (needed_keys m (everywhere hooks)) (import_count m) s))) (slice_get (sites m) defined)
 
 -- the bytes of a body where these groups are selected
 abbrev bytes_with : List GroupName → Module → (defined : ℕ) → Option (List ℕ)

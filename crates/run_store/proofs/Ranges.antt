@@ -10,7 +10,7 @@ use Rattle.wasm_sem.proofs.Straight.{some_is, none_some}
 use Rattle.std.proofs.lemmas.Bool.{and_parts}
 use Rattle.module_ast.specs.Memory.{page_size}
 use Rattle.wasm_sem.proofs.SoundOpening.{links_fit}
-use Rattle.wasm_sem.proofs.SoundEntries.{no_refusal, not_refused}
+use Rattle.wasm_sem.proofs.SoundEntries.{no_refusal, not_refused, can_link}
 
 pub first_least : (rs : List Range) (r : Range) → Some r ≡ slice_get rs 0 → r.min ≡ least_size rs
 first_least [] r h = absurd (none_some (sym h))
@@ -50,4 +50,4 @@ module _ (m : Module) (s : Script) (valid : IsValid m) (links : Links m s) where
 
   pub elements_fit : fit_elements (opening_globals m s) (least_size (tables_of m)) m.elements ≡ true
   elements_fit =
-      (and_parts (fit_elements (opening_globals m s) (least_size (tables_of m)) m.elements) (fit_segments (opening_globals m s) (least_size (memories_of m) * page_size) m.segments) (links_fit m s links)).0
+      (and_parts (fit_elements (opening_globals m s) (least_size (tables_of m)) m.elements) (fit_segments (opening_globals m s) (least_size (memories_of m) * page_size) m.segments) (links_fit m s (can_link m s links))).0

@@ -44,15 +44,6 @@ branch_takes n old mid new fit h g =
     ∙ (ap (with_marks (holds_marks n (exchanged_in 1 [] sh.state.frames) (move (exchange 1 []) sh.marks))) is
     ∙ held_below_is 1 n sh h.operands s.has (subst (λ (o : Option Shadow). IsSome o) is fit) h.below.values h.below.marks))
 
--- a condition that is not 0
-pub taken_takes : (l : Loc) (n : ℕ) (target : ℤ) (x : ℕ) (old new : Replay) → (x ≡ 0 → ⊥) → Becomes (branch_taken n old.shadow) old new → TakesItem (event (events.BrIf l n target x)) old new
-taken_takes l n target zero old new some h = absurd (some refl)
-taken_takes l n target (suc x) old new some h = h
-
-pub taken_fit : (l : Loc) (n : ℕ) (target : ℤ) (x : ℕ) (old : Replay) → (x ≡ 0 → ⊥) → IsFitEvent (events.BrIf l n target x) old → IsSome (held_under n old.shadow.state)
-taken_fit l n target zero old some h = absurd (some refl)
-taken_fit l n target (suc x) old some h = h
-
 pub return_takes : (l : Loc) (vs : List Value) (n : ℕ) (old new : Replay) → IsFitEvent (events.Return l vs) old → n ≡ outer_count old.shadow.state.frames → HoldsValues n 0 old new → TakesItem (event (events.Return l vs)) old new
 return_takes l vs n old new fit e h =
     let sh = old.shadow in

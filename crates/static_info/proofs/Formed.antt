@@ -10,7 +10,8 @@ use Rattle.std.proofs.lemmas.Int.{ints}
 use Rattle.std.proofs.lemmas.List.{take_at, drop_at, length-map}
 use Rattle.std.proofs.lemmas.List.Elements.{All-from_recursion, All-cons, All-nil, All-append}
 use Rattle.std.proofs.lemmas.Option.{slice_get-get_or, slice_get_within, get_or_from_slice_get}
-use Rattle.wasm_sem.specs.Types.{BlockKind, FuncType, Body, Module, Hooks, HookKey}
+use Rattle.wasm_sem.specs.Types.{BlockKind, FuncType, Body, Module, Hooks, Selection, HookKey}
+use Rattle.hook_select.specs.Selections.{hooks_at}
 use Rattle.wasm_num.specs.declared.BlockKind.TheVariants as kinds
 use Rattle.module_ast.specs.Lists.{when}
 use Rattle.module_ast.specs.Validation.{IsWhole, push, IsValid, function_types, body_context, deepest, longest_file}
@@ -20,7 +21,7 @@ use Rattle.module_ast.proofs.Each.{all_both, all_when, all_each, all_filtered, a
 use Rattle.code_valid.proofs.Few.{entries_fit, imported_few}
 use Rattle.code_valid.proofs.Sizes.{few_positions, flat}
 use Rattle.hook_mono.specs.Keys.{IsProper, is_wanted, find_key, with_keys}
-use Rattle.hook_mono.specs.Needed.{Site, sites, end_keys, plain_keys, open_keys, close_keys, opcode_keys, live_keys, wanted_keys, needed_keys, import_count}
+use Rattle.hook_mono.specs.Needed.{Site, sites, end_keys, plain_keys, open_keys, close_keys, opcode_keys, live_keys, wanted_keys, wanted_by, needed_keys, import_count}
 use Rattle.branch_resolve.specs.declared.Block.{Block}
 use Rattle.branch_resolve.specs.Scopes.{block_of}
 use Rattle.static_info.specs.declared.TableInfo.{TableInfo}
@@ -146,10 +147,10 @@ with_proper acc (k ∷ more) h i = with_proper (cond (is_some (find_key acc k)) 
     by true = h
     by false = all_both IsProper acc (k ∷ []) h (i.0, tt)
 
-pub needed_proper : (m : Module) (hooks : Hooks) → All IsProper (needed_keys m hooks)
+pub needed_proper : (m : Module) (hooks : Selection) → All IsProper (needed_keys m hooks)
 needed_proper m hooks =
     All-from_recursion IsProper (needed_keys m hooks)
-    (with_proper [] _ tt (all_flat IsProper (wanted_keys hooks) (sites m) (all_each (λ (s : Site). AreProper (wanted_keys hooks s)) (sites m) (site_proper hooks))))
+    (with_proper [] _ tt (all_flat IsProper (wanted_by hooks) (sites m) (all_each (λ (s : Site). AreProper (wanted_by hooks s)) (sites m) (λ s. site_proper (hooks_at hooks s.func) s))))
 
 -- ---- functions
 
@@ -190,7 +191,7 @@ infos_have_form m hooks valid whole =
     let mapped = length-map (imported_funcs m.imports) (imported_info m) in
     record {
       proper = needed_proper m hooks;
-      distinct = all_distinct [] (flat_map (wanted_keys hooks) (sites m)) (λ i j d l k. absurd (omega arith));
+      distinct = all_distinct [] (flat_map (wanted_by hooks) (sites m)) (λ i j d l k. absurd (omega arith));
       count = omega arith;
       enough = omega arith;
       imported = subst (All IsImported) (sym (take_at imported defined (import_count m) mapped)) (All-from_recursion IsImported imported (imports_formed m (imported_funcs m.imports)));

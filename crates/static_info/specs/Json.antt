@@ -84,6 +84,10 @@ HoldInfo bytes info = (d : Data) × IsText bytes d × IsInfo d info
 abbrev pub HoldNoInfo : (bytes : List ℕ) → Type 0
 HoldNoInfo bytes = (d : Data) × IsText bytes d × ((info : Info) → IsInfo d info → ⊥)
 
+-- the text of information of the right form holds it
+abbrev pub TextsHoldInfos : Type 0
+TextsHoldInfos = (info : Info) → IsWellFormed info → HoldInfo (info_text info) info
+
 -- bytes hold at most one `Info`
 abbrev pub InfosAreUnique : Type 0
 InfosAreUnique = (bytes : List ℕ) (a b : Info) → HoldInfo bytes a → HoldInfo bytes b → a ≡ b

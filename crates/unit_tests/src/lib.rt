@@ -7,6 +7,8 @@ mod bodies;
 #[cfg(test)]
 mod checking;
 #[cfg(test)]
+mod disks;
+#[cfg(test)]
 mod encoding;
 #[cfg(test)]
 mod files;

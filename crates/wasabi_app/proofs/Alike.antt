@@ -1,6 +1,6 @@
 -- An output prints what its original prints.
 use Rattle.std.proofs.Common.{◌≡◌, ℕ, ◌+◌, ◌-◌, ◌*◌, ◌≤◌, List, length, true, not, Option, refl, sym, ap, subst, ◌∙◌, arith}
-use Rattle.wasm_sem.specs.Types.{Module, Hooks}
+use Rattle.wasm_sem.specs.Types.{Module, Selection}
 use Rattle.module_ast.specs.Binary.{limited_counts, IsWithin}
 use Rattle.module_ast.specs.declared.module.Which.TheVariants.{Functions, Types, Parameters, Locals, Nesting}
 use Rattle.module_ast.specs.Memory.{pages}
@@ -8,9 +8,11 @@ use Rattle.module_ast.specs.Validation.{narrow, wide, IsValid, deepest, longest_
 use Rattle.module_ast.proofs.Sizes.{within_more}
 use Rattle.wasm_sem.specs.declared.Answer.{Answer}
 use Rattle.wasm_sem.specs.declared.Script.{Script}
-use Rattle.wasm_sem.specs.Execution.{Summary, start_answer, call_answers, summary, summary_of, Configuration, configuration, Env, Phase, over, is_last, is_over, run_of, Links}
+use Rattle.wasm_sem.specs.Execution.{Summary, start_answer, call_answers, summary, summary_of, Configuration, configuration, Env, Phase, over, is_last, is_over, run_of, Links, most_slots}
 use Rattle.wasm_sem.proofs.Ended.{stays_over}
+use Rattle.wasm_sem.proofs.SoundEntries.{can_link}
 use Rattle.rewrite.specs.Cost.{cost}
+use Rattle.static_info.specs.Info.{info_of}
 use Rattle.instrument.specs.Same.{IsOver, SameRuns, Matches, env_in, env_of}
 use Rattle.app_load.specs.Files.{IsFit}
 use Rattle.app_load.specs.Plans.{Finish, Effect, does, prints, printing}
@@ -63,9 +65,9 @@ over_later m s a b sooner p =
 
 -- ---- runs that are the same
 
-module _ (m : Module) (hooks : Hooks) (o : Module) (s : Script) (same : SameRuns m hooks o s) where
+module _ (m : Module) (hooks : Selection) (o : Module) (s : Script) (same : SameRuns m hooks o s) where
   -- what is told of a moment and of one that matches it
-  told_alike : (n k : ℕ) → Matches m hooks o s n k → summary_of o s k ≡ summary_of m s n
+  told_alike : (n k : ℕ) → Matches (info_of m hooks) m hooks o s n k → summary_of o s k ≡ summary_of m s n
   told_alike n k match =
       summary_is (run_of o s k)
       ∙ same_summary (env_of m s n) (env_of o s k) match.phase match.started match.answers (ap (λ st. st.memory) match.store) (ap (λ st. st.hosts) match.store)
@@ -99,7 +101,7 @@ pub outputs_print_alike : OutputsPrintAlike
 outputs_print_alike file hooks keeps written has o fit s range links =
     let module_is : has.sound.result ≡ o = one_module written has.sound.result o has.sound.spelled fit.spelled in
     subst (λ x. PrintsAlike has.original x s) module_is
-    (prints_alike has.original hooks has.sound.result s (has.sound.same.runs s range links) (has.sound.same.links s range ∙ links))
+    (prints_alike has.original hooks has.sound.result s (has.sound.same.runs s range.writes (can_link has.original s links)) (has.sound.same.links most_slots s ∙ links))
 
 -- ---- the mode `run`
 

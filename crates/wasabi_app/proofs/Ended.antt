@@ -14,7 +14,7 @@ use Rattle.app_load.proofs.Deciding.{decides_reads, decides_refusals, decides_ef
 use Rattle.app_load.proofs.Telling.{tells}
 use Rattle.wasabi_app.specs.Modes.{plan_of}
 use Rattle.wasabi_app.specs.Ended.{IsEnded}
-use Rattle.wasabi_app.proofs.Modes.Instrument.{written}
+use Rattle.wasabi_app.proofs.Written.{written, chosen, named, exact}
 use Rattle.wasabi_app.proofs.Promised.{reported, recorded, treed, tried, warned}
 
 -- the plan of its words ended
@@ -26,6 +26,9 @@ fresh_ended words old new taken before after status x = record {
   ends = x;
   tells = tells status x;
   written = written words status x;
+  chosen = chosen words status x;
+  named = named words status x;
+  exact = exact words status x;
   reported = reported words old new fresh_tools taken before after status x;
   recorded = recorded words old new fresh_tools taken before after status x;
   treed = treed words old new fresh_tools taken before after status x;

@@ -5,7 +5,7 @@ use Rattle.std.proofs.lemmas.Bool.Decides.{nat_tests}
 use Rattle.std.proofs.lemmas.List.Elements.{All-head, All-tail}
 use Rattle.std.proofs.lemmas.Slice.Eq.{bytes_eq-Decides}
 use Rattle.outside_io.specs.Outside.{Contents, Wrote, OnlyWrote}
-use Rattle.wasm_sem.specs.Types.{Import, Module, Hooks}
+use Rattle.wasm_sem.specs.Types.{Import, Module, Selection}
 use Rattle.module_ast.specs.Binary.{module_bytes, Gram}
 use Rattle.module_ast.proofs.LeastModules.{module_least}
 use Rattle.module_ast.specs.Validation.Limits.{longest_narrow_file}
@@ -86,17 +86,17 @@ module _ (subject : List ℕ) (m : Module) (long bound : ℕ) where
   unhooked_no_memory = λ plan at tools. no_memory (Some (hooked subject m long bound plan)) at tools
 
 -- names make an output no shorter
-pub names_lengthen : (m : Module) (hooks : Hooks) (names : Names) → length (output_bytes m hooks) ≤ named_length m hooks names
+pub names_lengthen : (m : Module) (hooks : Selection) (names : Names) → length (output_bytes m hooks) ≤ named_length m hooks names
 names_lengthen m hooks names = omega (arith, length-append (output_bytes m hooks) (name_section_bytes (output_names m hooks names)))
 
 -- without names it is the output alone
-pub bare_output : (m : Module) (hooks : Hooks) → named_output m hooks no_names ≡ output_bytes m hooks
+pub bare_output : (m : Module) (hooks : Selection) → named_output m hooks no_names ≡ output_bytes m hooks
 bare_output m hooks = append-nil (output_bytes m hooks)
 
-pub bare_length : (m : Module) (hooks : Hooks) → named_length m hooks no_names ≡ output_length m hooks
+pub bare_length : (m : Module) (hooks : Selection) → named_length m hooks no_names ≡ output_length m hooks
 bare_length m hooks = ap length (bare_output m hooks)
 
-pub bare_made : (m : Module) (hooks : Hooks) (bytes : List ℕ) (info : Info) → IsNamedMade m hooks no_names bytes info → IsMade m hooks bytes info
+pub bare_made : (m : Module) (hooks : Selection) (bytes : List ℕ) (info : Info) → IsNamedMade m hooks no_names bytes info → IsMade m hooks bytes info
 bare_made m hooks bytes info made = record { written = made.written ∙ bare_output m hooks; information = made.information; form = made.form }
 
 -- ---- two files
@@ -134,26 +134,26 @@ same_files (Some name) a b same = ap (λ bytes. file name bytes ∷ []) (same (�
 abbrev pub IsAnswered : Option Plan → (old new : ShelfState) → List ToolState → (status : Status) → (told : List ℕ) → Type 0
 IsAnswered plan old new tools status told = (e : Effect) × IsCarriedOut plan old new tools tools e × (status ≡ finish_status e.finish) × (told ≡ e.text)
 
-module _ (g : Given) (target : List ℕ) (m : Module) (names : Names) (output info text : List ℕ) (made : IsOutputMade g m names output info text) where
-  files_are : (file target output ∷ info_files g.info info) ≡ (output_effect g target m names).files
+module _ (g : Given) (target : List ℕ) (m : Module) (hooks : Selection) (names : Names) (output info text : List ℕ) (made : IsOutputMade g m hooks names output info text) where
+  files_are : (file target output ∷ info_files g.info info) ≡ (output_effect g target m hooks names).files
   files_are =
       ap (λ bytes. file target bytes ∷ info_files g.info info) made.written
-      ∙ ap (λ (fs : List File). file target (named_output m g.hooks names) ∷ fs) (same_files g.info info (information_text m g.hooks) made.informs)
+      ∙ ap (λ (fs : List File). file target (named_output m hooks names) ∷ fs) (same_files g.info info (information_text m hooks) made.informs)
 
   abbrev written : Plan
-  written = ends (does (output_effect g target m names))
+  written = ends (does (output_effect g target m hooks names))
 
-  goes : output_plan g target m names ≡ written
-  goes = hooked_goes g.subject m (named_length m g.hooks names) g.bound written made.free made.within
+  goes : output_plan g target m hooks names ≡ written
+  goes = hooked_goes g.subject m (named_length m hooks names) g.bound written made.free made.within
 
   -- it is written
   pub output_written : (old new : ShelfState) (tools : List ToolState) (status : Status) (told : List ℕ)
       → WroteAll (file target output ∷ info_files g.info info) old.contents new.contents
       → OnlyWrote (length (file target output ∷ info_files g.info info)) old new → status ≡ Done → told ≡ text
-      → IsAnswered (Some (output_plan g target m names)) old new tools status told
+      → IsAnswered (Some (output_plan g target m hooks names)) old new tools status told
   output_written old new tools given told wrote calls status is =
       subst (λ p. IsAnswered (Some p) old new tools given told) (sym goes) (
-        output_effect g target m names,
+        output_effect g target m hooks names,
         record {
           leads = refl;
           files = subst (λ fs. WroteAll fs old.contents new.contents) files_are wrote;
@@ -163,16 +163,16 @@ module _ (g : Given) (target : List ℕ) (m : Module) (names : Names) (output in
           taken = sym (fed_none [] tools);
         },
         status,
-        is ∙ made.says ∙ ap (λ (bytes : List ℕ). wrote_text (length bytes) (hook_count m g.hooks)) made.written,
+        is ∙ made.says ∙ ap (λ (bytes : List ℕ). wrote_text (length bytes) (hook_count m hooks)) made.written,
       )
 
   -- or could not be
   pub output_unwritten : (old new : ShelfState) (tools : List ToolState) (refusal : Refusal)
       → FilesCause (file target output ∷ info_files g.info info) old new (refusal_status refusal) (refusal_text refusal)
-      → Yields (Some (output_plan g target m names)) old new tools tools (Err refusal)
+      → Yields (Some (output_plan g target m hooks names)) old new tools tools (Err refusal)
   output_unwritten old new tools refusal why =
       subst (λ p. Yields (Some p) old new tools tools (Err refusal)) (sym goes)
-      (unwritten (output_effect g target m names) (refusal_status refusal) (refusal_text refusal) refl old (none_read old)
+      (unwritten (output_effect g target m hooks names) (refusal_status refusal) (refusal_text refusal) refl old (none_read old)
       (subst (λ fs. FilesCause fs old new (refusal_status refusal) (refusal_text refusal)) files_are why) (sym (fed_none [] tools)))
 
 -- the canonical bytes of a file's module are as few as the narrow limits want

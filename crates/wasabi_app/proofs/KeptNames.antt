@@ -3,7 +3,7 @@ use Rattle.std.proofs.Common.{◌≡◌, ◌≢◌, ℕ, ◌+◌, ◌^◌, ◌<�
 use Rattle.std.proofs.lemmas.List.Elements.{All-nil, All-weaker}
 use Rattle.leb_binary.specs.Shortest.{unsigned_bytes}
 use Rattle.leb_binary.specs.Texts.{Text}
-use Rattle.wasm_sem.specs.Types.{Module, Hooks}
+use Rattle.wasm_sem.specs.Types.{Module, Selection}
 use Rattle.module_ast.specs.declared.module.Which.TheVariants.{Functions, Types}
 use Rattle.module_ast.specs.Ascii.{ascii_text}
 use Rattle.module_ast.specs.Binary.{module_bytes, sized_bytes, Gram, Fits, IsWithin}
@@ -13,6 +13,7 @@ use Rattle.module_ast.proofs.ReadFits.{read_fits}
 use Rattle.hook_mono.specs.Needed.{needed_keys}
 use Rattle.index_remap.specs.declared.Remap.{Remap}
 use Rattle.index_remap.specs.Remap.{MapsIndex}
+use Rattle.static_info.specs.Info.{info_of}
 use Rattle.name_map.specs.declared.Locals.{Locals}
 use Rattle.name_map.specs.declared.Named.{Named}
 use Rattle.name_map.specs.declared.Names.{Names}
@@ -26,8 +27,9 @@ use Rattle.name_map.proofs.Proper.{map_keeps_proper, read_are_proper}
 use Rattle.name_map.proofs.PutRead.{put_is_read}
 use Rattle.instrument.specs.Accepted.{IsAccepted}
 use Rattle.instrument.specs.Output.{hook_remap, output, output_bytes}
-use Rattle.instrument.specs.Shell.{Shell, with_customs}
-use Rattle.instrument.proofs.Customs.{valid_same, within_same, customs_same}
+use Rattle.instrument.specs.Made.{IsSound}
+use Rattle.instrument.specs.Shell.{with_customs}
+use Rattle.instrument.proofs.Customs.{valid_same, within_same, customs_same, shell_same}
 use Rattle.instrument.proofs.OutputNeeds.{needed_count}
 use Rattle.instrument.proofs.OutputRules.{funcs_counted, output_is_valid}
 use Rattle.instrument.proofs.OutputSame.{same}
@@ -36,7 +38,7 @@ use Rattle.instrument.proofs.OutputSpelled.{output_is_spelled}
 use Rattle.instrument.proofs.OutputWithin.{output_is_within}
 use Rattle.module_ast.specs.Validation.{narrow, wide, longest_file, longest_narrow_file}
 use Rattle.app_load.specs.Wants.{AreKept}
-use Rattle.wasabi_app.specs.KeptNames.{DroppedNamesLeaveNothing, HasNameSection, IsOutput, IsSoundWith, named_output, output_names}
+use Rattle.wasabi_app.specs.KeptNames.{CarriesNames, DroppedNamesLeaveNothing, HasNameSection, named_output, output_names}
 
 -- ---- whether there are names
 
@@ -57,7 +59,7 @@ named_or_not r names = by names.module names.functions names.locals
         inr (λ e. (let k = ap (λ (n : Names). n.locals) e in cc), λ e. (let k = ap (λ (n : Names). n.locals) e in cc))
 
 -- their indices in the output have 32 bits
-pub few_mapped : (m : Module) (hooks : Hooks) → IsWithin narrow m → length (funcs_of m) + length (needed_keys m hooks) < 2 ^ 32
+pub few_mapped : (m : Module) (hooks : Selection) → IsWithin narrow m → length (funcs_of m) + length (needed_keys m hooks) < 2 ^ 32
 few_mapped m hooks within =
     omega (arith, (within Functions).0, (within Types).0, needed_count m hooks, length-append (imported_funcs m.imports) m.funcs)
 
@@ -95,7 +97,7 @@ content_short names most least short = by (names_bytes names) short
 abbrev name_text : Text
 name_text = ascii_text (codes "name") refl
 
-module _ (file : List ℕ) (m : Module) (hooks : Hooks) (keeps : Bool) (names : Names) (accepted : IsAccepted file m) (short : length file ≤ longest_narrow_file)
+module _ (file : List ℕ) (m : Module) (hooks : Selection) (keeps : Bool) (names : Names) (accepted : IsAccepted file m) (short : length file ≤ longest_narrow_file)
     (kept : AreKept keeps file m names) (few : length (named_output m hooks names) ≤ longest_file) where
   small : length (module_bytes m) < 2 ^ 31
   small = omega (arith, short, module_least file m accepted.spelled)
@@ -129,22 +131,6 @@ module _ (file : List ℕ) (m : Module) (hooks : Hooks) (keeps : Bool) (names : 
       (map_keeps_proper remap (length (funcs_of m)) names (kept_proper keeps file m names kept)))
       (omega (arith, content))
 
-  -- with these custom sections it is sound
-  sound_with : (customs : List Text) → Gram (named_output m hooks names) (with_customs customs (output m hooks)) → HasNameSection names customs
-      → IsSoundWith names m hooks (named_output m hooks names)
-  sound_with customs spelled has = record {
-    short = few;
-    result = with_customs customs (output m hooks);
-    spelled = spelled;
-    limits = within_same wide customs (output m hooks) (output_is_within m hooks accepted.valid accepted.limits);
-    valid = valid_same customs (output m hooks) (output_is_valid m hooks accepted.valid);
-    shell = output_has_shell m hooks accepted.valid fits.counts;
-    customs = has;
-    same = customs_same customs m hooks (output m hooks) (same m hooks accepted.valid accepted.limits small fits accepted.free);
-    carries = carries;
-    follow = names_follow (hook_remap m (needed_keys m hooks)) names;
-  }
-
   content_few : length (content_bytes (output_names m hooks names)) < 2 ^ 32
   content_few =
       let section = name_section_bytes (output_names m hooks names) in
@@ -152,27 +138,38 @@ module _ (file : List ℕ) (m : Module) (hooks : Hooks) (keeps : Bool) (names : 
       let content = content_short (output_names m hooks names) longest_file (omega arith) whole in
       omega (arith, content)
 
-  is_sound : IsSoundWith names m hooks (named_output m hooks names)
-  is_sound = by (named_or_not (hook_remap m (needed_keys m hooks)) names)
+  -- the custom sections of what is written
+  with_names : (customs : List Text) × Gram (named_output m hooks names) (with_customs customs (output m hooks)) × HasNameSection names customs
+  with_names = by (named_or_not (hook_remap m (needed_keys m hooks)) names)
     where
-      by : (names ≡ no_names) ⊎ ((names ≢ no_names) × (output_names m hooks names ≢ no_names)) → IsSoundWith names m hooks (named_output m hooks names)
+      by : (names ≡ no_names) ⊎ ((names ≢ no_names) × (output_names m hooks names ≢ no_names))
+          → (customs : List Text) × Gram (named_output m hooks names) (with_customs customs (output m hooks)) × HasNameSection names customs
       by (inl none) =
           let plain : output_bytes m hooks ≡ named_output m hooks names =
           sym (append-nil (output_bytes m hooks)) ∙ ap (named_output m hooks) (sym none) in
-          sound_with [] (subst (λ bytes. Gram bytes (output m hooks)) plain bare) (inl (none, refl))
-      by (inr (some, there)) =
-          sound_with (name_text ∷ []) (put_keeps_module (output_bytes m hooks) (output m hooks) (output_names m hooks names) name_text refl there bare content_few)
-          (inr (some, (name_text, refl, refl)))
+          ([], subst (λ bytes. Gram bytes (output m hooks)) plain bare, inl (none, refl))
+      by (inr (some, there)) = (
+        name_text ∷ [],
+        put_keeps_module (output_bytes m hooks) (output m hooks) (output_names m hooks names) name_text refl there bare content_few,
+        inr (some, (name_text, refl, refl)),
+      )
 
-  pub written_output : IsOutput file hooks keeps (named_output m hooks names)
-  written_output = record {
-    original = m;
-    accepted = accepted;
-    names = names;
-    kept = kept;
-    output = refl;
-    sound = is_sound;
-  }
+  -- it is sound, and carries the names
+  pub written_sound : (sound : IsSound (info_of m hooks) m hooks (named_output m hooks names))
+      × CarriesNames names (hook_remap m (needed_keys m hooks)) (named_output m hooks names) sound.result
+  written_sound =
+      let (customs, spelled, has) = with_names in (
+        record {
+          short = few;
+          result = with_customs customs (output m hooks);
+          spelled = spelled;
+          limits = within_same wide customs (output m hooks) (output_is_within m hooks accepted.valid accepted.limits);
+          valid = valid_same customs (output m hooks) (output_is_valid m hooks accepted.valid);
+          shell = shell_same customs (info_of m hooks) m (output m hooks) (output_has_shell m hooks accepted.valid fits.counts);
+          same = customs_same customs (info_of m hooks) m hooks (output m hooks) (same m hooks accepted.valid accepted.limits small fits accepted.free);
+        },
+        record { customs = has; carries = carries; follow = names_follow (hook_remap m (needed_keys m hooks)) names },
+      )
 
 -- where names are dropped, it is the output alone
 customs_none : (names : Names) (customs : List Text) → names ≡ no_names → HasNameSection names customs → customs ≡ []
@@ -180,20 +177,9 @@ customs_none names customs none (inl is) = is.1
 customs_none names customs none (inr some) = absurd (some.0 none)
 
 pub dropped_names : DroppedNamesLeaveNothing
-dropped_names file hooks written is =
-    let none : is.sound.result.customs ≡ [] = customs_none is.names is.sound.result.customs is.kept is.sound.customs in
-    let bare : with_customs [] is.sound.result ≡ is.sound.result = ap (λ customs. with_customs customs is.sound.result) (sym none) in
-    record {
-      original = is.original;
-      accepted = is.accepted;
-      output = is.output ∙ ap (named_output is.original hooks) is.kept ∙ append-nil (output_bytes is.original hooks);
-      sound = record {
-        short = is.sound.short;
-        result = is.sound.result;
-        spelled = is.sound.spelled;
-        limits = is.sound.limits;
-        valid = is.sound.valid;
-        shell = subst (Shell is.original hooks) bare is.sound.shell;
-        same = is.sound.same;
-      };
-    }
+dropped_names file hooks written is = record {
+  original = is.original;
+  accepted = is.accepted;
+  output = is.output ∙ ap (named_output is.original hooks) is.kept ∙ append-nil (output_bytes is.original hooks);
+  sound = record { sound = is.sound; bare = customs_none is.names is.sound.result.customs is.kept is.named.customs };
+}

@@ -3,7 +3,7 @@ use Rattle.std.proofs.Common.{◌≡◌, ℕ, inl, inr, List, codes, Bool, true,
 use Rattle.module_ast.specs.Validation.Limits.{longest_file}
 use Rattle.outside_io.specs.Outside.{Contents}
 use Rattle.wasm_sem.specs.Types.{Loc}
-use Rattle.wasm_sem.specs.Execution.{link, Links}
+use Rattle.wasm_sem.specs.Execution.{link, Links, most_slots}
 use Rattle.run_session.proofs.InRange.{script_in_range}
 use Rattle.call_tree.specs.Paths.{paths}
 use Rattle.call_tree.specs.State.{path_counts_in}
@@ -84,7 +84,7 @@ reports_told held g _ _ e ((m, carried), there, (info, known, (s, found, leads))
       of_output = λ file hooks keeps has holds.
           let range = script_in_range d s spelled in
           let module_is : has.sound.result ≡ m = one_module there.bytes has.sound.result m has.sound.spelled there.spelled.0.spelled in
-          let both : Links has.original s = sym (has.sound.same.links s range) ∙ subst (λ x. Links x s) (sym module_is) ran.0 in
+          let both : Links has.original s = sym (has.sound.same.links most_slots s) ∙ subst (λ x. Links x s) (sym module_is) ran.0 in
           (outputs_report file hooks keeps there.bytes has m there.spelled.0 known.bytes info holds known.spelled.0 s range both).2 s.steps;
     }
 

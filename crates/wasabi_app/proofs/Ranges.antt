@@ -15,10 +15,10 @@ use Rattle.hook_select.specs.declared.GroupName.TheVariants as groups
 use Rattle.hook_mono.specs.declared.HookKey.TheVariants as keys
 use Rattle.hook_select.specs.Fields.{FieldType, place, number, signed, value, callee, values, Each}
 use Rattle.hook_select.specs.Events.{Row, row_of, types_at, event_row}
-use Rattle.hook_mono.specs.Told.{InKey, Told, event_told, values_told, word_fields, told_types, fields_from, told_event}
-use Rattle.hook_mono.specs.Plains.{plain_told}
+use Rattle.hook_mono.specs.Told.{InKey, Told, event_told, values_told, word_fields, told_types, fields_from, told_event, num_told, plain_told, key_told}
 use Rattle.hook_mono.specs.Values.{IsWord, AreWords, value_number, numbers, values_from, number_at}
-use Rattle.hook_mono.specs.Words.{num_told, key_told, value_types}
+use Rattle.hook_mono.specs.Words.{value_types}
+use Rattle.hook_mono.proofs.TypesTold.{types_told}
 use Rattle.branch_resolve.specs.declared.Block.{Block}
 use Rattle.index_remap.specs.declared.Remap.{Remap}
 use Rattle.index_remap.specs.Remap.{unmap_index}
@@ -30,6 +30,7 @@ use Rattle.static_info.specs.declared.FuncInfo.{FuncInfo}
 use Rattle.static_info.specs.declared.Info.{Info}
 use Rattle.static_info.specs.Form.{IsPosition, AreBlocksAfter, AreBlocks, IsDefined, IsWellFormed}
 use Rattle.static_info.specs.Read.{info_remap, callee_in, chosen_label, contains, within_block, table_at, end_event, jump_events, table_events, known_events, func_events, found_events, is_selected, loc_of, hook_events, read_hook}
+use Rattle.static_info.proofs.EventsTold.{events_told}
 use Rattle.trace_file.specs.Fields.{FitsNumber, FitsSigned, FitsLocation, FitsValue, FitsCallee, FitFields}
 use Rattle.trace_file.specs.Rows.{FitsRow, FitsEvent}
 use Rattle.app_runs.proofs.FewEvents.{few_label, table_labels, formed_there}
@@ -204,7 +205,7 @@ module _ (at : ℕ → Option ℕ) (called : (slot : ℕ) → FitsCallee (at slo
   rows_fit (e ∷ es) h = (h.0, rows_fit es h.1)
 
   key_fits : (key : HookKey) (vs : List Value) → AreFirst (value_types key) vs → Fit (told_event at (key_told key) loc vs)
-  key_fits key vs h = rows_fit _ (subst (AllByRecursion FitsRow) (sym (key_rows key vs)) (told_fit (key_told key) vs h))
+  key_fits key vs h = rows_fit _ (subst (AllByRecursion FitsRow) (sym (key_rows key vs)) (told_fit (key_told key) vs (subst (λ ts. AreFirst ts vs) (types_told key) h)))
 
 -- ---- the events of a br_table
 
@@ -254,7 +255,8 @@ module _ (info : Info) (formed : IsWellFormed info) (slots : List (Option ℕ)) 
     known_fits f (keys.Plain groups.BrTable) is h =
         table_fits hook few loc there (number_at vs 0) (first_word [] vs h.first) f.blocks (table_at loc.instr f.tables) (blocks_fit f.blocks is.1)
         (λ t e. table_labels loc.instr (negsuc 0) f.tables t is.2 e)
-    known_fits f key is h = key_fits (callee_in info slots) (λ slot. callee_fits info slots slot table) loc there key vs h
+    known_fits f key is h =
+        subst Fit (sym (events_told info slots key loc vs)) (key_fits (callee_in info slots) (λ slot. callee_fits info slots slot table) loc there key vs h)
 
     func_fits : (defined : Bool) (f : FuncInfo) (key : HookKey) → (defined ≡ true → IsDefined f) → AreFirst (value_types key) vs
         → Fit (func_events info slots hook defined f key loc vs)

@@ -1,7 +1,7 @@
 -- What `instrument` wrote is read by every mode that reads an output.
 use Rattle.std.proofs.Common.{◌≡◌, ℕ, ◌≤◌, inl, inr, List, [], length, Bool, true, false, Option, Some, None, refl, sym, subst, arith, nat_le}
 use Rattle.outside_io.specs.Outside.{Contents, Holds, ShelfState}
-use Rattle.wasm_sem.specs.Types.{Loc, Module, Hooks}
+use Rattle.wasm_sem.specs.Types.{Loc, Module, Selection}
 use Rattle.module_ast.specs.Validation.{wide, longest_file}
 use Rattle.wasm_sem.specs.declared.Script.{Script}
 use Rattle.wasm_sem.specs.Execution.{link}
@@ -12,7 +12,6 @@ use Rattle.static_info.specs.declared.Info.{Info}
 use Rattle.static_info.specs.Belongs.{Belongs}
 use Rattle.static_info.specs.Info.{info_of}
 use Rattle.static_info.specs.Json.{HoldInfo}
-use Rattle.instrument.specs.Shell.{with_customs}
 use Rattle.analyses.specs.Tools.{ToolState}
 use Rattle.app_load.specs.declared.kinds.Kinds.{Kinds}
 use Rattle.app_load.specs.Statuses as statuses
@@ -36,7 +35,7 @@ use Rattle.wasabi_app.specs.Modes.Tree.{where_nested, treed_plan, where_told, tr
 use Rattle.wasabi_app.specs.Playing.{linked, ending_finish}
 use Rattle.wasabi_app.specs.ReadBack.{OnlyBad, OutputIsRead, AreTaken, InfoIsRead, OutputsAreRead, IsOfScript, OnlyScriptsAreRefused}
 use Rattle.wasabi_app.specs.ToldRuns.{scripted}
-use Rattle.wasabi_app.proofs.Composed.{shell_belongs, bare_belongs}
+use Rattle.wasabi_app.proofs.Composed.{shell_belongs}
 use Rattle.wasabi_app.proofs.Traces.{leads_only}
 
 -- ---- plans that read nothing more
@@ -124,7 +123,7 @@ module _ (contents : Contents) (subject info_name script : List ℕ) where
 
 -- ---- the output of an accepted file, and its information
 
-module _ (file : List ℕ) (hooks : Hooks) (keeps : Bool) (written : List ℕ) (has : IsOutput file hooks keeps written) where
+module _ (file : List ℕ) (hooks : Selection) (keeps : Bool) (written : List ℕ) (has : IsOutput file hooks keeps written) where
   abbrev result : Module
   result = has.sound.result
 
@@ -138,7 +137,7 @@ module _ (file : List ℕ) (hooks : Hooks) (keeps : Bool) (written : List ℕ) (
   -- with the names that it carries
   carried : (kept : Bool) → (names : Names) × AreKept kept written result names
   carried false = (no_names, refl)
-  carried true = (output_names has.original hooks has.names, has.sound.carries)
+  carried true = (output_names has.original hooks has.names, has.named.carries)
 
   named_there : (kept : Bool) → (names : Names)
       × ((held : Option Contents) (name : List ℕ) → Holds held name written → Gives held (named_read name longest_file wide kept) (result, names))
@@ -157,9 +156,7 @@ module _ (file : List ℕ) (hooks : Hooks) (keeps : Bool) (written : List ℕ) (
 
   module _ (told : List ℕ) (holds : HoldInfo told (info_of has.original hooks)) (short : length told ≤ longest_file) where
     belongs : Belongs (info_of has.original hooks) result
-    belongs =
-        bare_belongs (info_of has.original hooks) result
-        (shell_belongs has.original hooks (with_customs [] result) has.accepted.free has.sound.shell)
+    belongs = shell_belongs has.original hooks result has.accepted.free has.sound.shell
 
     informed_there : (held : Option Contents) (name : List ℕ) → Holds held name told → Gives held (info_read name result) (info_of has.original hooks)
     informed_there held name there = record { bytes = told; read_well = record { there = there; short = short }; spelled = (holds, belongs) }

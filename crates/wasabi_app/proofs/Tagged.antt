@@ -1,8 +1,8 @@
 -- The warnings on an output are those of the original's run with marks.
-use Rattle.std.proofs.Common.{◌≡◌, ℕ, zero, suc, ◌+◌, ◌<◌, ◌≤◌, List, [], ◌∷◌, ◌++◌, length, map, Option, Some, None, Bool, true, false, nat_le, refl, sym, ap, subst, ◌∙◌, arith, add-one, append_assoc}
+use Rattle.std.proofs.Common.{◌≡◌, ℕ, zero, suc, ◌+◌, ◌<◌, ◌≤◌, List, [], ◌∷◌, ◌++◌, length, Option, Some, None, Bool, true, false, nat_le, refl, sym, ap, subst, ◌∙◌, arith, add-one, append_assoc}
 use Rattle.std.proofs.lemmas.Bool.Decides.{nat_tests}
 use Rattle.outside_io.specs.Outside.{Contents}
-use Rattle.wasm_sem.specs.Types.{Module, Event, GroupName}
+use Rattle.wasm_sem.specs.Types.{Module, GroupName}
 use Rattle.module_ast.specs.Binary.{Gram, IsWithin}
 use Rattle.module_ast.specs.Validation.{narrow, IsValid, longest_file, longest_narrow_file}
 use Rattle.module_ast.proofs.LeastModules.{module_least}
@@ -10,24 +10,24 @@ use Rattle.module_ast.proofs.ReadFits.{read_fits}
 use Rattle.hook_select.specs.declared.GroupName.TheVariants as groups
 use Rattle.hook_select.specs.Groups.{has}
 use Rattle.wasm_sem.specs.declared.Script.{Script}
-use Rattle.wasm_sem.specs.Execution.{TraceItem, entry, host_call, event, hook_call, instance, link, IsFree, IsScriptInRange, Links, Configuration, configuration, opening_configuration, run_of, items, trace, trace_of}
+use Rattle.wasm_sem.specs.Execution.{TraceItem, instance, link, IsFree, IsScriptInRange, Links, opening_configuration, run_of, items, trace, trace_of, most_slots, host_calls}
 use Rattle.wasm_sem.specs.Laws.{slots_in}
 use Rattle.wasm_sem.specs.Link as linking
 use Rattle.wasm_sem.proofs.AllChosen.{all_groups_keep}
 use Rattle.wasm_sem.proofs.Runs.{trace_add}
 use Rattle.wasm_sem.proofs.SoundRead.{read_complete}
-use Rattle.wasm_run.specs.Beside.{hosts_in}
+use Rattle.wasm_sem.proofs.SoundEntries.{can_link}
+use Rattle.wasm_sem.proofs.HostCounts.{calls-append, hosts_counted}
 use Rattle.run_session.proofs.InRange.{script_in_range}
-use Rattle.static_info.specs.declared.Info.{Info}
 use Rattle.static_info.specs.Info.{info_of}
-use Rattle.static_info.specs.Items.{read, read_call}
+use Rattle.static_info.specs.Items.{read}
 use Rattle.shadow_replay.specs.Laws.{tainted_shadow_after, FollowsTagged}
 use Rattle.shadow_replay.specs.Opened.{opening_replay}
 use Rattle.shadow_replay.specs.Taint.{Watch}
 use Rattle.shadow_replay.specs.Tainted.{TaintedShadow}
 use Rattle.shadow_replay.proofs.Shadows.{shadows_follow, warnings_follow}
 use Rattle.instrument.specs.Output.{output}
-use Rattle.instrument.specs.Same.{IsPrefix, SameRuns, env_in}
+use Rattle.instrument.specs.Same.{IsPrefix, SameRuns}
 use Rattle.instrument.proofs.OutputSame.{same}
 use Rattle.app_load.specs.Plans.{Effect, does, LeadsTo, Plan, prints}
 use Rattle.shadow_replay.specs.Items.{AreFitFor}
@@ -42,29 +42,12 @@ use Rattle.wasabi_app.specs.Modes.Taint.{watch_of, unknown_in, known, taint_text
 use Rattle.wasabi_app.specs.Modes.Trial.{all_hooks}
 use Rattle.app_runs.proofs.StepEvents.{trace_next}
 use Rattle.wasabi_app.proofs.Composed.{slots_of_env}
-use Rattle.wasabi_app.proofs.HostCounts.{host_count, count_append, step_few, hosts_counted}
+use Rattle.instrument.proofs.Hosts.{read_hosts, hosts_there}
 use Rattle.wasabi_app.proofs.Modes.Instrument.{hooked_leads}
 use Rattle.wasabi_app.proofs.Warned.{front_some, warned_more, warned_alike}
 
--- ---- what is read
-
--- reading keeps the host calls
-events_count : (es : List Event) (is : List TraceItem) → host_count (map event es ++ is) ≡ host_count is
-events_count [] is = refl
-events_count (e ∷ es) is = events_count es is
-
-read_count : (info : Info) (slots : List (Option ℕ)) (is : List TraceItem) → host_count (read info slots is) ≡ host_count is
-read_count info slots [] = refl
-read_count info slots (event e ∷ is) = read_count info slots is
-read_count info slots (entry c ∷ is) = read_count info slots is
-read_count info slots (host_call f vs rs ws ∷ is) = ap suc (read_count info slots is)
-read_count info slots (hook_call h ∷ is) = events_count (read_call info slots h) (read info slots is) ∙ read_count info slots is
-
-hosts_there : (c : Configuration) → hosts_in c ≡ (env_in c).store.hosts
-hosts_there (configuration e frames) = refl
-
 -- all groups are selected
-all_selected : (g : GroupName) → has all_hooks g ≡ true
+all_selected : (g : GroupName) → has all_hooks.groups g ≡ true
 all_selected groups.Start = refl
 all_selected _ = refl
 
@@ -78,7 +61,7 @@ module _ (m : Module) (is : IsFollowable m) (free : IsFree m) (s : Script) (rang
   told k = items_told (info_of m all_hooks) o s k
 
   runs_alike : SameRuns m all_hooks o s
-  runs_alike = (same m all_hooks is.valid is.limits (omega (arith, is.short)) is.fits free).runs s range links
+  runs_alike = (same m all_hooks is.valid is.limits (omega (arith, is.short)) is.fits free).runs s range.writes (can_link m s links)
 
   -- what is told is the beginning of the original's trace
   told_begins : (k : ℕ) → IsPrefix (told k) (trace_of m s k)
@@ -86,7 +69,7 @@ module _ (m : Module) (is : IsFollowable m) (free : IsFree m) (s : Script) (rang
       let (rest, whole) = runs_alike.prefix k in (
         rest,
         ap (λ slots. read (info_of m all_hooks) slots (trace_of o s k) ++ rest) (slots_of_env (run_of o s k)) ∙ whole
-            ∙ all_groups_keep m s (has all_hooks) free all_selected k,
+            ∙ all_groups_keep m s (has all_hooks.groups) free all_selected k,
       )
 
   -- so it is fit for a shadow of the original
@@ -97,31 +80,31 @@ module _ (m : Module) (is : IsFollowable m) (free : IsFree m) (s : Script) (rang
       (sym whole ∙ ap (λ l. l ++ rest) at ∙ append_assoc before (i ∷ behind) rest)
 
   -- and has the host calls that the output makes
-  told_count : (k : ℕ) → host_count (told k) ≡ hosts_made o s k
-  told_count k = read_count (info_of m all_hooks) (slots_in (run_of o s k)) (trace_of o s k) ∙ sym (hosts_counted o s k)
+  told_count : (k : ℕ) → host_calls (told k) ≡ hosts_made o s k
+  told_count k = read_hosts (info_of m all_hooks) (slots_in (run_of o s k)) (trace_of o s k) ∙ sym (hosts_counted o s k).0
 
   -- ---- a moment with as many host calls
 
-  next_count : (n : ℕ) → host_count (trace_of m s (suc n)) ≡ host_count (trace_of m s n) + host_count (items (instance m s) (run_of m s n))
+  next_count : (n : ℕ) → host_calls (trace_of m s (suc n)) ≡ host_calls (trace_of m s n) + host_calls (items (instance m s) (run_of m s n))
   next_count n =
-      ap (λ k. host_count (trace_of m s k)) (sym (add-one n)) ∙ ap host_count (trace_next m s n)
-      ∙ count_append (trace_of m s n) (items (instance m s) (run_of m s n))
+      ap (λ k. host_calls (trace_of m s k)) (sym (add-one n)) ∙ ap host_calls (trace_next m s n)
+      ∙ calls-append (trace_of m s n) (items (instance m s) (run_of m s n))
 
-  reaches : (n h : ℕ) → h ≤ host_count (trace_of m s n) → (k : ℕ) × (k ≤ n) × (host_count (trace_of m s k) ≡ h)
+  reaches : (n h : ℕ) → h ≤ host_calls (trace_of m s n) → (k : ℕ) × (k ≤ n) × (host_calls (trace_of m s k) ≡ h)
   reaches zero h few =
-      let none : host_count (trace_of m s 0) ≡ 0 = refl in
+      let none : host_calls (trace_of m s 0) ≡ 0 = refl in
       (0, omega arith, omega (arith, few, none))
-  reaches (suc n) h few = by (nat_le h (host_count (trace_of m s n))) refl (λ p. reaches n h p)
+  reaches (suc n) h few = by (nat_le h (host_calls (trace_of m s n))) refl (λ p. reaches n h p)
     where
-      by : (b : Bool) → nat_le h (host_count (trace_of m s n)) ≡ b
-          → (h ≤ host_count (trace_of m s n) → (k : ℕ) × (k ≤ n) × (host_count (trace_of m s k) ≡ h))
-          → (k : ℕ) × (k ≤ suc n) × (host_count (trace_of m s k) ≡ h)
+      by : (b : Bool) → nat_le h (host_calls (trace_of m s n)) ≡ b
+          → (h ≤ host_calls (trace_of m s n) → (k : ℕ) × (k ≤ n) × (host_calls (trace_of m s k) ≡ h))
+          → (k : ℕ) × (k ≤ suc n) × (host_calls (trace_of m s k) ≡ h)
       by true e sooner =
           let (k, within, at) = sooner (grind (arith, nat_tests, e)) in
           (k, omega (arith, within), at)
       by false e sooner =
-          let above : host_count (trace_of m s n) < h = grind (arith, nat_tests, e) in
-          (suc n, omega arith, omega (arith, few, above, next_count n, step_few m s n))
+          let above : host_calls (trace_of m s n) < h = grind (arith, nat_tests, e) in
+          (suc n, omega arith, omega (arith, few, above, next_count n, (hosts_counted m s n).1))
 
   -- ---- the warnings
 
@@ -166,7 +149,7 @@ module _ (m : Module) (is : IsFollowable m) (free : IsFree m) (s : Script) (rang
         sym (append_assoc (told s.steps) t.rest more) ∙ ap (λ l. l ++ more) t.whole
         ∙ sym (trace_add (instance m s) s.steps n (opening_configuration m s)) ∙ ap (trace_of m s) (sym swapped)
         ∙ trace_add (instance m s) n s.steps (opening_configuration m s) in
-        let counts : host_count (told s.steps) ≡ host_count (trace_of m s n) = told_count s.steps ∙ sym same ∙ hosts_counted m s n in
+        let counts : host_calls (told s.steps) ≡ host_calls (trace_of m s n) = told_count s.steps ∙ sym same ∙ (hosts_counted m s n).0 in
         warnings_are
         ∙ warned_alike m r.limit w (told s.steps) (trace_of m s n) (t.rest ++ more) further r.shadow t.shadow there.shadow whole counts t.at there.is
         ∙ there.warnings
@@ -174,11 +157,11 @@ module _ (m : Module) (is : IsFollowable m) (free : IsFree m) (s : Script) (rang
     pub tagged_warnings : AreTagged m o w s (warnings_told m w s)
     tagged_warnings =
         let t = shadow_told in
-        let whole = count_append (told s.steps) t.rest in
-        let few : host_count (told s.steps) ≤ host_count (trace_of m s s.steps) = omega (arith, whole, ap host_count t.whole) in
-        let (n, within, at) = reaches s.steps (host_count (told s.steps)) few in
+        let whole = calls-append (told s.steps) t.rest in
+        let few : host_calls (told s.steps) ≤ host_calls (trace_of m s s.steps) = omega (arith, whole, ap host_calls t.whole) in
+        let (n, within, at) = reaches s.steps (host_calls (told s.steps)) few in
         record {
-          reached = (n, within, hosts_counted m s n ∙ at ∙ told_count s.steps);
+          reached = (n, within, (hosts_counted m s n).0 ∙ at ∙ told_count s.steps);
           warned = warned_at;
           begun = subst (λ ws. IsPrefix ws (warned_by m s w s.steps)) (sym warnings_are) t.later;
           whole = λ over.
@@ -224,7 +207,7 @@ taints_tell held g script_name e (m, there, leads) =
     let range = script_in_range d s spelled in
     let o = output m all_hooks in
     let (links, printed) = played_leads held s (link o s) _ e ran in
-    let both : Links m s = sym ((same m all_hooks is.valid is.limits (omega (arith, is.short)) is.fits gets.0).links s range) ∙ links in
+    let both : Links m s = sym ((same m all_hooks is.valid is.limits (omega (arith, is.short)) is.fits gets.0).links most_slots s) ∙ links in
     let w = watch_of g m in
     let effect : prints (taint_text w m s) (ending_finish o s) ≡ e = cc in
     record {

@@ -6,7 +6,7 @@ use Rattle.module_ast.specs.declared.module.Which.TheVariants.{Functions}
 use Rattle.module_ast.specs.Validation.{wide, longest_file}
 use Rattle.module_ast.specs.Structure.{imported_funcs}
 use Rattle.wasm_sem.specs.declared.Script.{Script}
-use Rattle.wasm_sem.specs.Execution.{IsFree, IsScriptInRange, Links}
+use Rattle.wasm_sem.specs.Execution.{IsFree, IsScriptInRange, Links, most_slots}
 use Rattle.static_info.specs.declared.Info.{Info}
 use Rattle.static_info.specs.Info.{info_of}
 use Rattle.shadow_replay.specs.Opened.{opening_replay}
@@ -66,7 +66,7 @@ module _ (m o : Module) (info : Info) (pair : ArePaired m o info) (s : Script) (
   pub pair_links : Links m s
   pair_links =
       let is = pair.followable in
-      let both = (same m all_hooks is.valid is.limits (omega (arith, is.short)) is.fits pair.free).links s range in
+      let both = (same m all_hooks is.valid is.limits (omega (arith, is.short)) is.fits pair.free).links most_slots s in
       sym both ∙ subst (λ x. Links x s) pair.is linked
 
   same_items : items_told info o s s.steps ≡ items_told (info_of m all_hooks) (output m all_hooks) s s.steps

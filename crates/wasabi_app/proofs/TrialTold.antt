@@ -1,11 +1,12 @@
 -- A trial tells of the original.
 use Rattle.std.proofs.Common.{◌≡◌, ◌∙◌, ℕ, ◌≤◌, List, [], ◌∷◌, length, map, true, refl, sym, ap, ap₂, subst, arith, All, IsTrue, is_some}
-use Rattle.wasm_sem.specs.Types.{Module, Event, Hooks}
+use Rattle.wasm_sem.specs.Types.{Module, Event, Selection}
 use Rattle.module_ast.specs.Binary.{module_bytes}
 use Rattle.module_ast.specs.Validation.Limits.{longest_narrow_file}
 use Rattle.hook_select.specs.Events.{group_of}
 use Rattle.wasm_sem.specs.declared.Script.{Script}
 use Rattle.wasm_sem.specs.Execution.{summary, summary_of, run_of}
+use Rattle.wasm_sem.proofs.SoundEntries.{can_link}
 use Rattle.instrument.specs.Same.{IsOver, IsPrefix, SameRuns, env_in}
 use Rattle.instrument.proofs.OutputSame.{same}
 use Rattle.instrument.proofs.Reports as runs
@@ -30,7 +31,7 @@ use Rattle.wasabi_app.proofs.TrialLinks.{made_free, same_steps, trial_in_range, 
 -- ---- what is told of a run when it stops
 
 -- Where the first run is over, and the second, both are told alike, whatever their steps are.
-texts_alike : (m o : Module) (hooks : Hooks) (s t : Script) (n k : ℕ) → SameRuns m hooks o t → ((i : ℕ) → run_of m s i ≡ run_of m t i) → s.calls ≡ t.calls
+texts_alike : (m o : Module) (hooks : Selection) (s t : Script) (n k : ℕ) → SameRuns m hooks o t → ((i : ℕ) → run_of m s i ≡ run_of m t i) → s.calls ≡ t.calls
     → IsOver m s n → IsOver o t k → run_text s.calls (summary_of m s n) ≡ run_text t.calls (summary_of o t k)
 texts_alike m o hooks s t n k alike steps calls over_m over_o =
     let over_t : IsOver m t n = ap (λ c. (env_in c).phase) (sym (steps n)) ∙ over_m in
@@ -59,7 +60,8 @@ module _ (number : ℕ) where
   runs_alike =
       let short : length (module_bytes (made number)) ≤ longest_narrow_file = made_short number in
       (same (made number) all_hooks (made_valid number) (made_narrow number) (omega (arith, short)) (made_fits number) (made_free number)).runs
-      (trial_script number second_steps) (trial_in_range number second_steps (omega arith) (omega arith)) (trial_links number second_steps)
+      (trial_script number second_steps) (trial_in_range number second_steps (omega arith) (omega arith)).writes
+      (can_link (made number) (trial_script number second_steps) (trial_links number second_steps))
 
   pub trial_tells : TrialTells number
   trial_tells =

@@ -1,7 +1,7 @@
 -- Warnings come at host calls alone, so that those of two lists with as many host calls of one run are the same.
 use Rattle.std.proofs.Common.{◌≡◌, ℕ, ◌+◌, List, [], ◌∷◌, ◌++◌, Option, Some, None, Bool, refl, sym, ap, ◌∙◌, arith, append_assoc, append-nil}
 use Rattle.wasm_sem.specs.Types.{Loc, Module}
-use Rattle.wasm_sem.specs.Execution.{TraceItem, entry, host_call, event, hook_call}
+use Rattle.wasm_sem.specs.Execution.{TraceItem, entry, host_call, event, hook_call, host_calls}
 use Rattle.shadow_replay.specs.Shadow.{Shadow}
 use Rattle.shadow_replay.specs.Events.{effect, item_marks, tainted_effect, tainted_effects}
 use Rattle.shadow_replay.specs.Taint.{Watch, Taint, unmark_writes, warn}
@@ -10,7 +10,6 @@ use Rattle.shadow_replay.proofs.ShadowReturns.{nothing_more}
 use Rattle.shadow_replay.proofs.Shadows.{tainted_append}
 use Rattle.shadow_replay.proofs.Warnings.{Warns, event_warns}
 use Rattle.instrument.specs.Same.{IsPrefix}
-use Rattle.wasabi_app.proofs.HostCounts.{host_count}
 
 -- ---- an item
 
@@ -29,7 +28,7 @@ item_more w m sh (host_call f vs rs ws) k = by k.prepared
     by (Some p) = warn_more w p.call f p.marks (unmark_writes ws k.taint)
 
 -- and nothing else does
-item_warns : (w : Watch) (m : Module) (sh : Shadow) (i : TraceItem) (k : ShadowMarks) → host_count (i ∷ []) ≡ 0 → Warns k (item_marks m w sh i k)
+item_warns : (w : Watch) (m : Module) (sh : Shadow) (i : TraceItem) (k : ShadowMarks) → host_calls (i ∷ []) ≡ 0 → Warns k (item_marks m w sh i k)
 item_warns w m sh (entry c) k none = refl
 item_warns w m sh (event e) k none = event_warns m sh e k
 item_warns w m sh (hook_call h) k none = refl
@@ -37,7 +36,7 @@ item_warns w m sh (host_call f vs rs ws) k none = absurd (omega (arith, none))
 
 -- ---- items
 
-count_parts : (i : TraceItem) (is : List TraceItem) → host_count (i ∷ is) ≡ host_count (i ∷ []) + host_count is
+count_parts : (i : TraceItem) (is : List TraceItem) → host_calls (i ∷ is) ≡ host_calls (i ∷ []) + host_calls is
 count_parts (entry c) is = omega arith
 count_parts (event e) is = omega arith
 count_parts (hook_call h) is = omega arith
@@ -58,7 +57,7 @@ module _ (m : Module) (limit : ℕ) (w : Watch) where
   taken_marks a c i e = marked_with (item_marks m w a.state i a.marks) (effect m limit a.state i) c e
 
   -- without a host call there are no more warnings
-  warned_same : (is : List TraceItem) (a b : TaintedShadow) → tainted_effects m limit w (Some a) is ≡ Some b → host_count is ≡ 0
+  warned_same : (is : List TraceItem) (a b : TaintedShadow) → tainted_effects m limit w (Some a) is ≡ Some b → host_calls is ≡ 0
       → b.marks.taint.warnings ≡ a.marks.taint.warnings
   warned_same [] a b e none =
       let same : a ≡ b = cc in
@@ -94,7 +93,7 @@ module _ (m : Module) (limit : ℕ) (w : Watch) where
           (first ++ rest, sym (append_assoc a.marks.taint.warnings first rest) ∙ ap (λ ws. ws ++ rest) (here ∙ sym moved) ∙ later)
 
   -- two fronts of one list with as many host calls warn of the same
-  pub warned_alike : (xs ys r q : List TraceItem) (a b c : TaintedShadow) → xs ++ r ≡ ys ++ q → host_count xs ≡ host_count ys
+  pub warned_alike : (xs ys r q : List TraceItem) (a b c : TaintedShadow) → xs ++ r ≡ ys ++ q → host_calls xs ≡ host_calls ys
       → tainted_effects m limit w (Some a) xs ≡ Some b → tainted_effects m limit w (Some a) ys ≡ Some c → b.marks.taint.warnings ≡ c.marks.taint.warnings
   warned_alike [] ys r q a b c is same e f =
       let here : a ≡ b = cc in
@@ -107,7 +106,7 @@ module _ (m : Module) (limit : ℕ) (w : Watch) where
       let tail : xs ++ r ≡ ys ++ q = cc in
       let px = count_parts x xs in
       let py = count_parts y ys in
-      let one : host_count (x ∷ []) ≡ host_count (y ∷ []) = ap (λ i. host_count (i ∷ [])) head in
+      let one : host_calls (x ∷ []) ≡ host_calls (y ∷ []) = ap (λ i. host_calls (i ∷ [])) head in
       by head (tainted_effect m limit w a x) refl e (λ d g there. warned_alike xs ys r q d b c tail (omega (arith, same, px, py, one)) g there)
     where
       by : x ≡ y → (o : Option TaintedShadow) → tainted_effect m limit w a x ≡ o → tainted_effects m limit w o xs ≡ Some b

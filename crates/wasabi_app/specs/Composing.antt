@@ -1,6 +1,6 @@
 -- What the reports on an output, and a trial, tell of the original.
 use Rattle.std.specs.Prelude.{◌≡◌, ℕ, List, Bool, true, IsTrue, is_some, All, map}
-use Rattle.wasm_sem.specs.Types.{Module, Event, Hooks}
+use Rattle.wasm_sem.specs.Types.{Module, Event, Selection}
 use Rattle.module_ast.specs.Binary.{Gram}
 use Rattle.module_ast.specs.Validation.{wide}
 use Rattle.hook_select.specs.Events.{group_of}
@@ -27,12 +27,12 @@ use Rattle.wasabi_app.specs.KeptNames.{IsOutput}
 use Rattle.wasabi_app.specs.Modes.Trial.{all_hooks, first_steps, second_steps, told_of_run, trial_events, trial_output, trial_script}
 
 -- the events of the selected groups that the original shows in `steps` steps
-abbrev pub selected_events : Module → Hooks → Script → (steps : ℕ) → List Event
+abbrev pub selected_events : Module → Selection → Script → (steps : ℕ) → List Event
 selected_events m hooks s steps = events_in (shown_so_far m hooks s steps)
 
 -- If the run of the output is over, the reports on the output are those on the original's selected events. The events
 -- of the output are in any case the first of these, and none of them is a stray.
-pub record ReportsOriginal (m : Module) (hooks : Hooks) (info : Info) (o : Module) (s : Script) (steps : ℕ) : Type 0 where
+pub record ReportsOriginal (m : Module) (hooks : Selection) (info : Info) (o : Module) (s : Script) (steps : ℕ) : Type 0 where
   pub whole : IsOver o s steps → (kinds : Kinds) → reports_text kinds (events_told info o s steps) ≡ reports_text kinds (selected_events m hooks s steps)
   pub begun : IsPrefix (events_told info o s steps) (selected_events m hooks s steps)
   pub no_stray : All (λ (e : Event). IsTrue (is_some (group_of e))) (events_told info o s steps)
@@ -40,7 +40,7 @@ pub record ReportsOriginal (m : Module) (hooks : Hooks) (info : Info) (o : Modul
 -- all this holds for a module whose runs are the same as those of the original
 abbrev pub SameRunsReport : Type 0
 SameRunsReport =
-    (m : Module) (hooks : Hooks) (o : Module) (s : Script) → SameRuns m hooks o s
+    (m : Module) (hooks : Selection) (o : Module) (s : Script) → SameRuns m hooks o s
     → (steps : ℕ) → ReportsOriginal m hooks (info_of m hooks) o s steps
 
 -- All this holds for the output of each accepted file, with names or without, read as a module, and bytes that hold the
@@ -48,7 +48,7 @@ SameRunsReport =
 -- each script with which the original links.
 abbrev pub OutputsReport : Type 0
 OutputsReport =
-    (file : List ℕ) (hooks : Hooks) (keeps : Bool) (written : List ℕ) (has : IsOutput file hooks keeps written) (o : Module) → IsFit wide written o
+    (file : List ℕ) (hooks : Selection) (keeps : Bool) (written : List ℕ) (has : IsOutput file hooks keeps written) (o : Module) → IsFit wide written o
     → (told : List ℕ) (info : Info) → HoldInfo told (info_of has.original hooks) → HoldInfo told info
     → (s : Script) → IsScriptInRange s → Links has.original s
     → Belongs info o × Links o s × ((steps : ℕ) → ReportsOriginal has.original hooks info o s steps)
@@ -56,7 +56,7 @@ OutputsReport =
 -- The names that a report tells of an output that was written with names are those that the file has.
 abbrev pub KeptNamesComeBack : Type 0
 KeptNamesComeBack =
-    (file : List ℕ) (hooks : Hooks) (written : List ℕ) (has : IsOutput file hooks true written) (o : Module) → Gram written o
+    (file : List ℕ) (hooks : Selection) (written : List ℕ) (has : IsOutput file hooks true written) (o : Module) → Gram written o
     → (carried : Names) → AreKept true written o carried → original_names (info_of has.original hooks) carried ≡ has.names.functions
 
 -- A trial: if the output's run is over, its events are all events of the original, and each analysis that was fresh

@@ -6,8 +6,8 @@ use Rattle.app_load.specs.Statuses.{class_of}
 use Rattle.app_load.specs.Feeding.{fresh_tools}
 use Rattle.outside_io.specs.Outside.{ShelfState, PrintState}
 use Rattle.wasabi_app.specs.Modes.{plan_of}
-use Rattle.wasabi_app.specs.Modes.Instrument.{IsInstrumentedBy}
 use Rattle.wasabi_app.specs.Promised.{IsRecorded, IsReported, IsTreed, IsTried, IsWarnedOf}
+use Rattle.wasabi_app.specs.Written.{IfInstrumented, IsChosen, IsExact, IsNamed, IsWritten}
 
 -- A command ends by the plan of its words, whatever the analyses have taken then. All that `run_app` ensures holds of
 -- this end: what its status tells, what is stored if the work of a mode was done, and which status comes.
@@ -15,7 +15,10 @@ pub record IsEnded (words : List (List ℕ)) (old new : ShelfState) (before afte
   pub taken : List ToolState
   pub ends : Ends (plan_of words) old new fresh_tools taken before after status
   pub tells : Tells (plan_of words) old new fresh_tools taken before after status (class_of status)
-  pub written : IsInstrumentedBy words old.contents new.contents status
+  pub written : IfInstrumented words status (λ line. IsWritten line old.contents new.contents)
+  pub chosen : IfInstrumented words status (λ line. IsChosen line old.contents new.contents)
+  pub named : IfInstrumented words status (λ line. IsNamed line old.contents new.contents)
+  pub exact : IfInstrumented words status (λ line. IsExact line old.contents new.contents)
   pub reported : IsReported words old new fresh_tools taken before after status
   pub recorded : IsRecorded words old new fresh_tools taken before after status
   pub treed : IsTreed words old new fresh_tools taken before after status

@@ -4,9 +4,10 @@ use Rattle.std.specs.List.{list_any}
 use Rattle.std.specs.Ordering.{nat_cmp, eq_by_cmp}
 use Rattle.std.specs.Cmp.Lexicographic.{slice_cmp}
 use Rattle.std.specs.FinMap.{get}
-use Rattle.wasm_sem.specs.Types.{Module, GroupName, Hooks}
+use Rattle.wasm_sem.specs.Types.{Module, Selection}
 use Rattle.module_ast.specs.Validation.{wide}
 use Rattle.hook_select.specs.Groups.{has}
+use Rattle.hook_select.specs.declared.GroupName.TheVariants.{Begin, End}
 use Rattle.wasm_sem.specs.declared.Script.{Script}
 use Rattle.wasm_sem.specs.Execution.{TraceItem, IsScriptInRange, Links}
 use Rattle.static_info.specs.declared.Info.{Info}
@@ -38,12 +39,12 @@ pub record RefusesFirstEnd (is : List TraceItem) : Type 0 where
 abbrev pub BadAreRefused : Type 0
 BadAreRefused = (is : List TraceItem) → RefusesFirstEnd is
 
--- For the output of each accepted file with all groups, with names or without, read as a module, and bytes that hold
+-- For the output of each accepted file with begins and ends, in all functions or some, with names or without, read as a module, and bytes that hold
 -- the information on its original, read as information: the information tells of begins and ends, and no end is
 -- refused, with each script with which the original links.
 abbrev pub OutputsNest : Type 0
 OutputsNest =
-    (file : List ℕ) (hooks : Hooks) → ((group : GroupName) → has hooks group ≡ true)
+    (file : List ℕ) (hooks : Selection) → has hooks.groups Begin ≡ true → has hooks.groups End ≡ true
     → (keeps : Bool) (written : List ℕ) (made : IsOutput file hooks keeps written) (o : Module) → IsFit wide written o
     → (told : List ℕ) (info : Info) → HoldInfo told (info_of made.original hooks) → HoldInfo told info
     → (s : Script) → IsScriptInRange s → Links made.original s

@@ -9,7 +9,7 @@ use Rattle.name_map.specs.declared.Names.{Names}
 use Rattle.static_info.specs.declared.Info.{Info}
 use Rattle.static_info.specs.Info.{info_of}
 use Rattle.static_info.specs.Json.{HoldInfo}
-use Rattle.wasm_sem.specs.Types.{Hooks}
+use Rattle.wasm_sem.specs.Types.{Selection}
 use Rattle.call_tree.specs.Counts.{PathCounts, nodes_of}
 use Rattle.call_tree.specs.Paths.{paths, HasBadEnd}
 use Rattle.std.specs.FinMap.{get}
@@ -69,7 +69,7 @@ pub record PrintsReports (held : Option Contents) (g : Given) (info_name script_
   pub script_there : Gives held (script_read script_name) script
   pub links : Links subject script
   pub is : effect ≡ report_effect g.kinds g.keeps subject carried info script
-  pub of_output : (file : List ℕ) (hooks : Hooks) (keeps : Bool) (has : IsOutput file hooks keeps subject_there.bytes)
+  pub of_output : (file : List ℕ) (hooks : Selection) (keeps : Bool) (has : IsOutput file hooks keeps subject_there.bytes)
       → HoldInfo info_there.bytes (info_of has.original hooks) → ReportsOriginal has.original hooks info subject script script.steps
 
 abbrev pub IsReported : (words : List (List ℕ)) → (old new : ShelfState) → (was is : List ToolState) → (before after : PrintState) → (status : ℕ) → Type 0

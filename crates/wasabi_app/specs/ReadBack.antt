@@ -1,7 +1,7 @@
 -- That each mode that reads an output reads what `instrument` wrote.
 use Rattle.std.specs.Prelude.{◌≡◌, ◌≢◌, ℕ, ◌≤◌, List, length, Bool, Option, Some}
 use Rattle.outside_io.specs.Outside.{Contents, Holds}
-use Rattle.wasm_sem.specs.Types.{Module, Hooks}
+use Rattle.wasm_sem.specs.Types.{Module, Selection}
 use Rattle.module_ast.specs.Validation.{wide, longest_file}
 use Rattle.name_map.specs.declared.Names.{Names}
 use Rattle.static_info.specs.Info.{info_of}
@@ -49,7 +49,7 @@ pub record AreTaken (contents : Contents) (subject info script : List ℕ) : Typ
 
 -- Wherever the bytes of the information are found, they are read as information that belongs to the output. If the
 -- contents of the shelf are known, and both are there, both are taken.
-pub record InfoIsRead (written told : List ℕ) (original : Module) (hooks : Hooks) (result : Module) : Type 0 where
+pub record InfoIsRead (written told : List ℕ) (original : Module) (hooks : Selection) (result : Module) : Type 0 where
   pub informed : (held : Option Contents) (name : List ℕ) → Holds held name told → Gives held (info_read name result) (info_of original hooks)
   pub taken : (contents : Contents) (subject info script : List ℕ) → contents subject ≡ Some written → contents info ≡ Some told
       → AreTaken contents subject info script
@@ -58,7 +58,7 @@ pub record InfoIsRead (written told : List ℕ) (original : Module) (hooks : Hoo
 -- no more of these bytes than are read.
 abbrev pub OutputsAreRead : Type 0
 OutputsAreRead =
-    (file : List ℕ) (hooks : Hooks) (keeps : Bool) (written : List ℕ) (has : IsOutput file hooks keeps written)
+    (file : List ℕ) (hooks : Selection) (keeps : Bool) (written : List ℕ) (has : IsOutput file hooks keeps written)
     → (result : Module) × OutputIsRead written result
     × ((told : List ℕ) → HoldInfo told (info_of has.original hooks) → length told ≤ longest_file → InfoIsRead written told has.original hooks result)
 

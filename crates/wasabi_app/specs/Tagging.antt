@@ -4,8 +4,7 @@ use Rattle.outside_io.specs.Outside.{Contents}
 use Rattle.wasm_sem.specs.Types.{Module}
 use Rattle.module_ast.specs.Validation.{narrow, longest_narrow_file}
 use Rattle.wasm_sem.specs.declared.Script.{Script}
-use Rattle.wasm_sem.specs.Execution.{IsScriptInRange, Links, run_of}
-use Rattle.wasm_run.specs.Beside.{hosts_in}
+use Rattle.wasm_sem.specs.Execution.{hosts_in, IsScriptInRange, Links, run_of}
 use Rattle.shadow_replay.specs.declared.Warning.{Warning}
 use Rattle.shadow_replay.specs.Taint.{Watch}
 use Rattle.shadow_replay.specs.Tagged.{tagged_of}

@@ -11,6 +11,9 @@ too_large_text long = concat_texts (codes "error 9: the output would be " ∷ de
 abbrev pub no_import_text : (name : List ℕ) → List ℕ
 no_import_text name = concat_texts (codes "error 20: no imported function " ∷ name ∷ codes "\n" ∷ [])
 
+abbrev pub no_function_text : (piece : List ℕ) → List ℕ
+no_function_text piece = concat_texts (codes "error 23: no function " ∷ piece ∷ codes "\n" ∷ [])
+
 -- the line of an output of `bytes` bytes with `hooks` hooks
 abbrev pub wrote_text : (bytes hooks : ℕ) → List ℕ
 wrote_text bytes hooks = concat_texts (codes "wrote " ∷ decimal bytes ∷ codes " bytes with " ∷ decimal hooks ∷ codes " hooks\n" ∷ [])

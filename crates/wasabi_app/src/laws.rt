@@ -2,6 +2,7 @@
 
 ghost use Rattle.wasabi_app.specs.Alike.{OutputsPrintAlike, RunsPrintAlike};
 ghost use Rattle.wasabi_app.specs.Composing.{KeptNamesComeBack, OutputsReport, SameRunsReport, TrialsTell};
+ghost use Rattle.wasabi_app.specs.Handed.{WrittenIsTaken};
 ghost use Rattle.wasabi_app.specs.KeptNames.{DroppedNamesLeaveNothing};
 ghost use Rattle.wasabi_app.specs.Laws.{SomeFeed, SomeMake, SomeWrite};
 ghost use Rattle.wasabi_app.specs.Nesting.{BadAreRefused, NodesCountPaths, OutputsNest};
@@ -49,6 +50,14 @@ pub fn outputs_are_read()
     ensures statuses { OnlyScriptsAreRefused }
 {}
 
+/// Two commands: `instrument`, and later `run`, `report`, `record` or `tree` on what it wrote. If the shelf has the same contents
+/// at the end of the first and at the beginning of the second, then the second never ends with 6, 7, 8 or 16. It ends with 3
+/// because of its script alone. A `report` prints the reports on the original's selected events. For the three modes that read
+/// the information, this information must be no longer than what the program reads.
+pub fn written_is_taken()
+    ensures taken { WrittenIsTaken }
+{}
+
 /// What `instrument` writes without names is the output alone. If the names are written, a report on the output, with
 /// the information on its original, has the names of the original's functions as the original's file carries them.
 pub fn names_are_kept()
@@ -90,16 +99,14 @@ pub fn warnings_are_tagged()
 
 /// What the mode `tree` tells: each path of calls that came in the items of a run has its node, with the number of
 /// begins with this path. No other path has a node. Items are refused exactly if they are bad, at the first end that
-/// does not close the latest begin that is open. That never comes for the output of an accepted file with all groups,
-/// read as a module, and the information on its original: the output's items are the first of the original's, which are
-/// well nested.
+/// does not close the latest begin that is open. That never comes for the output of an accepted file with begins and
+/// ends, in all functions or some, read as a module, and the information on its original: the output's items are the first
+/// of the original's selected ones, which are well nested.
 pub fn trees_tell()
     ensures counts { NodesCountPaths }
     ensures refusals { BadAreRefused }
     ensures outputs { OutputsNest }
 {
-    // for the proof: no end in the items of a run is bad, if its valid module imports no hook.
-    call_tree::laws::nests();
-    // for the proof: if all groups are selected, nothing of a trace is left out.
+    // for the proof: the trace of a valid module that imports no hook is well nested.
     wasm_sem::laws::traces_nest();
 }

@@ -19,9 +19,9 @@ ghost use Rattle.wasabi_app.specs.Texts.{taken_text, too_large_text};
 
 use crate::output_bound::OutputBound;
 use app_load::{Refusal, Status, refused};
-use hook_select::Hooks;
+use hook_select::{Hooks, Selection};
 use index_remap::Remap;
-use instrument::{InstrumentFault, Made, hook_remap, instrument, needed_hooks};
+use instrument::{InstrumentFault, Made, hook_remap, instrument_selected, needed_hooks};
 use module_ast::module::{LONGEST_FILE, Limits};
 use name_map::{Names, map_names, no_names, put_section};
 use par_phase::Jobs;
@@ -43,7 +43,7 @@ pub(crate) struct Subject<'m> {
     pub(crate) names: &'m Names,
 }
 
-/// The output of a module with these hooks, and after that the section of its names. Both together have at most `bound`
+/// The output of a module with the selected hooks, and after that the section of its names. Both together have at most `bound`
 /// bytes.
 ///
 /// An `Err` has status 9 if an import names the module of the hooks, or if the output with its names would have more
@@ -52,19 +52,19 @@ pub(crate) fn hooked<R: Threads + Sync>(
     rt: &R,
     alloc: Global,
     subject: &Subject<'_>,
-    hooks: Hooks,
+    hooks: &Selection<'_>,
     jobs: Jobs,
     bound: OutputBound,
 ) -> Result<Made, Refusal>
     requires limits { IsWithin narrow subject.now.module.now }
     requires short { length (module_bytes subject.now.module.now) ≤ longest_narrow_file }
     requires proper { AreProper (length (funcs_of subject.now.module.now)) subject.now.names.now }
-    ensures made { IfOk result (λ made. IsNamedMade subject.now.module.now hooks subject.now.names.now made.bytes.items made.info) }
+    ensures made { IfOk result (λ made. IsNamedMade subject.now.module.now hooks.now subject.now.names.now made.bytes.items made.info) }
     ensures free { OnOk result (IsFree subject.now.module.now) }
-    ensures within { OnOk result (named_length subject.now.module.now hooks subject.now.names.now ≤ bound) }
-    ensures refused { IfErr result (GetsNone subject.now.name.now subject.now.module.now (named_length subject.now.module.now hooks subject.now.names.now) bound) }
+    ensures within { OnOk result (named_length subject.now.module.now hooks.now subject.now.names.now ≤ bound) }
+    ensures refused { IfErr result (GetsNone subject.now.name.now subject.now.module.now (named_length subject.now.module.now hooks.now subject.now.names.now) bound) }
 {
-    match instrument(
+    match instrument_selected(
         rt,
         alloc,
         subject.module,
@@ -110,7 +110,14 @@ pub(crate) fn hooked_for_all<R: Threads + Sync>(
         names: &names,
     };
     let bound = OutputBound::new(LONGEST_FILE);
-    hooked(rt, alloc, &subject, Hooks::all(), jobs, bound)
+    hooked(
+        rt,
+        alloc,
+        &subject,
+        &Selection::everywhere(Hooks::all()),
+        jobs,
+        bound,
+    )
 }
 
 /// Reads an output from its bytes. An output is valid, so that an `Err` is want of memory.
@@ -136,18 +143,18 @@ pub(crate) fn read_output<R: Threads + Sync>(
 fn with_names(
     alloc: Global,
     subject: &Subject<'_>,
-    hooks: Hooks,
+    hooks: &Selection<'_>,
     bound: OutputBound,
     made: Made,
 ) -> Result<Made, Refusal>
     requires limits { IsWithin narrow subject.now.module.now }
     requires proper { AreProper (length (funcs_of subject.now.module.now)) subject.now.names.now }
-    requires made { IsMade subject.now.module.now hooks made.bytes.items made.info }
+    requires made { IsMade subject.now.module.now hooks.now made.bytes.items made.info }
     requires free { IsFree subject.now.module.now }
-    ensures made { IfOk result (λ made. IsNamedMade subject.now.module.now hooks subject.now.names.now made.bytes.items made.info) }
+    ensures made { IfOk result (λ made. IsNamedMade subject.now.module.now hooks.now subject.now.names.now made.bytes.items made.info) }
     ensures free { OnOk result (IsFree subject.now.module.now) }
-    ensures within { OnOk result (named_length subject.now.module.now hooks subject.now.names.now ≤ bound) }
-    ensures refused { IfErr result (GetsNone subject.now.name.now subject.now.module.now (named_length subject.now.module.now hooks subject.now.names.now) bound) }
+    ensures within { OnOk result (named_length subject.now.module.now hooks.now subject.now.names.now ≤ bound) }
+    ensures refused { IfErr result (GetsNone subject.now.name.now subject.now.module.now (named_length subject.now.module.now hooks.now subject.now.names.now) bound) }
 {
     let Made { mut bytes, info } = made;
     let Ok(()) = put_names(alloc, &mut bytes, subject, hooks, info.remap()) else {
@@ -166,13 +173,13 @@ fn put_names(
     alloc: Global,
     out: &mut Vec<u8>,
     subject: &Subject<'_>,
-    hooks: Hooks,
+    hooks: &Selection<'_>,
     remap: Remap,
 ) -> Result<(), AllocError>
     requires limits { IsWithin narrow subject.now.module.now }
     requires proper { AreProper (length (funcs_of subject.now.module.now)) subject.now.names.now }
-    requires remap { remap ≡ hook_remap subject.now.module.now (needed_keys subject.now.module.now hooks) }
-    ensures { OnOk result (out.new.items ≡ out.old.items ++ name_section_bytes (output_names subject.now.module.now hooks subject.now.names.now)) }
+    requires remap { remap ≡ hook_remap subject.now.module.now (needed_keys subject.now.module.now hooks.now) }
+    ensures { OnOk result (out.new.items ≡ out.old.items ++ name_section_bytes (output_names subject.now.module.now hooks.now subject.now.names.now)) }
 {
     let names = map_names(alloc, subject.names, remap)?;
     put_section(alloc, out, &names)
@@ -184,7 +191,7 @@ fn too_large<R: Threads + Sync>(
     rt: &R,
     alloc: Global,
     subject: &Subject<'_>,
-    hooks: Hooks,
+    hooks: &Selection<'_>,
     jobs: Jobs,
     bound: OutputBound,
     bare: u64,
@@ -192,9 +199,9 @@ fn too_large<R: Threads + Sync>(
     requires limits { IsWithin narrow subject.now.module.now }
     requires proper { AreProper (length (funcs_of subject.now.module.now)) subject.now.names.now }
     requires free { IsFree subject.now.module.now }
-    requires is { bare ≡ length (output_bytes subject.now.module.now hooks) }
+    requires is { bare ≡ length (output_bytes subject.now.module.now hooks.now) }
     requires over { bound < bare }
-    ensures { GetsNone subject.now.name.now subject.now.module.now (named_length subject.now.module.now hooks subject.now.names.now) bound result }
+    ensures { GetsNone subject.now.name.now subject.now.module.now (named_length subject.now.module.now hooks.now subject.now.names.now) bound result }
 {
     match whole_length(rt, alloc, subject, hooks, jobs, bare) {
         Ok(whole) => refused(Status::NoOutput, too_large_line(alloc, whole)),
@@ -208,14 +215,14 @@ fn whole_length<R: Threads + Sync>(
     rt: &R,
     alloc: Global,
     subject: &Subject<'_>,
-    hooks: Hooks,
+    hooks: &Selection<'_>,
     jobs: Jobs,
     bare: u64,
 ) -> Result<u64, NoMemory>
     requires limits { IsWithin narrow subject.now.module.now }
     requires proper { AreProper (length (funcs_of subject.now.module.now)) subject.now.names.now }
-    requires is { bare ≡ length (output_bytes subject.now.module.now hooks) }
-    ensures { IfOk result (λ whole. whole ≡ named_length subject.now.module.now hooks subject.now.names.now) }
+    requires is { bare ≡ length (output_bytes subject.now.module.now hooks.now) }
+    ensures { IfOk result (λ whole. whole ≡ named_length subject.now.module.now hooks.now subject.now.names.now) }
 {
     let table = needed_hooks(rt, alloc, subject.module, hooks, jobs.count())?;
     let remap = hook_remap(subject.module, &table);

@@ -5,14 +5,13 @@
 ghost use Rattle.std.specs.Prelude.{◌≡◌, ◌≢◌};
 ghost use Rattle.std.specs.Process.{exit_status};
 ghost use Rattle.command_line.specs.Lines.{texts};
-ghost use Rattle.wasabi_cli.specs.Command.{HasEnded};
+ghost use Rattle.wasabi_app.specs.Ended.{IsEnded};
 
-use outside_io::{HostShelf, HostSink};
+use outside_io::{HostShelf, HostSink, Shelf, Sink};
 use std::alloc::Global;
 use std::env;
 use std::io::ErrorKind;
 use std::process::ExitCode;
-use std::rt::Files;
 use std::thread::Threads;
 use wasabi_app::run_command;
 
@@ -24,21 +23,23 @@ fn main(rt: HostRuntime) -> ExitCode {
     let Ok(words) = words.collect::<Vec<String>>(rt.alloc()) else {
         return ExitCode::from(14);
     };
-    command(&rt, rt.alloc(), &words)
+    let mut shelf = HostShelf::new(&rt);
+    let mut sink = HostSink::new(&rt);
+    command(&rt, rt.alloc(), &words, &mut shelf, &mut sink)
 }
 
-// Runs the command of these words on the files of the machine and its standard output. The exit code is the status of
-// the command.
-fn command<R: Files + AllocGlobal + Print + Threads + Sync>(
+// Runs the command of these words on a shelf and an output. The exit code is the status of the command. It has no other
+// way to a file or to an output.
+fn command<R: Threads + Sync, S: Shelf, K: Sink>(
     rt: &R,
     alloc: Global,
     words: &[String],
+    shelf: &mut S,
+    out: &mut K,
 ) -> ExitCode
-    ensures { HasEnded (texts words.now) (exit_status result) }
+    ensures { IsEnded (texts words.now) (S.seen shelf.old) (S.seen shelf.new) (K.seen out.old) (K.seen out.new) (exit_status result) }
 {
-    let mut shelf = HostShelf::new(rt);
-    let mut sink = HostSink::new(rt);
-    let status = run_command(rt, alloc, words, &mut shelf, &mut sink);
+    let status = run_command(rt, alloc, words, shelf, out);
     ExitCode::from(status)
 }
 

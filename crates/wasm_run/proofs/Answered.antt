@@ -7,9 +7,9 @@ use Rattle.module_ast.specs.Structure.{Tree}
 use Rattle.run_store.specs.Held.{Held}
 use Rattle.wasm_sem.specs.declared.HostAnswer.{HostAnswer}
 use Rattle.wasm_sem.specs.declared.Script.{Script}
-use Rattle.wasm_sem.specs.Execution.{Callee, IsWriteInRange, host, hook, instance, Env, run_of, Store, zeros, values_of, no_answer, answer_at, writes_done, written_memory, answered_store}
+use Rattle.wasm_sem.specs.Execution.{hosts_in, Callee, IsWriteInRange, host, hook, instance, Env, run_of, Store, zeros, values_of, no_answer, answer_at, writes_done, written_memory, answered_store}
 use Rattle.wasm_run.specs.Answering.{returned_with}
-use Rattle.wasm_run.specs.Beside.{hosts_in, HasMadeHosts}
+use Rattle.wasm_run.specs.Beside.{HasMadeHosts}
 use Rattle.run_stack.specs.Flat.{Flat}
 use Rattle.wasm_run.specs.Moves.{RunsOn}
 use Rattle.run_stack.specs.Slots.{index_count, behind_call}

@@ -18,6 +18,7 @@ use Rattle.wasm_run.specs.Running.{KeepsConfiguration, IsLinked, IsRunning}
 use Rattle.run_stack.specs.Standing.{KeepsStore}
 use Rattle.wasm_run.proofs.Invoking.{Invoker, behind, lies_behind, left_are, room_behind}
 use Rattle.wasm_sem.proofs.Operands.{push_append}
+use Rattle.wasm_sem.proofs.SoundEntries.{can_link}
 use Rattle.run_stack.proofs.Pushed.{push_length}
 use Rattle.wasm_run.proofs.Rooms.{next_state, same_room, frames_fit}
 
@@ -64,7 +65,7 @@ module _ (m : Module) (s : Script) (made : ℕ) (f : Flat) (memory : Held) (glob
   fits : length (all_values (answered ∷ x.below)) ≤ t.value_room
   fits =
       (frames_fit m t.value_room t.spot_room (answered ∷ x.below)
-      (subst (IsConfigurationWithin m) answered_at (stays_within m s linked.valid linked.complete linked.range linked.links (made + 1))) room_here).0
+      (subst (IsConfigurationWithin m) answered_at (stays_within m s linked.valid linked.complete linked.range.writes (can_link m s linked.links) (made + 1))) room_here).0
 
   values_answered : push vs (drop count t.values) ≡ all_values (answered ∷ x.below)
   values_answered = ap (push vs) (left_are m s made f memory globals linked slot func k called x t moves) ∙ push_append vs x.rest (under caller x.below)

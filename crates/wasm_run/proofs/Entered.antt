@@ -11,10 +11,10 @@ use Rattle.wasm_sem.specs.declared.Answer.TheVariants.{Returned}
 use Rattle.wasm_sem.specs.declared.HostAnswer.{HostAnswer}
 use Rattle.wasm_sem.specs.declared.Script.{Script}
 use Rattle.wasm_sem.specs.declared.Trap.TheVariants.{Depth}
-use Rattle.wasm_sem.specs.Execution.{hook_in, Callee, host, hook, own, callee_type, callees_of, is_hook_function, Instance, instance, Frame, Env, Phase, starting, calling, over, Configuration, configuration, reduces, traps, new_frame, env_after, invoke, after_step, run_of, Store, zeros, values_of, answer_at, writes_done, written_memory, answered_store, told_items, items}
+use Rattle.wasm_sem.specs.Execution.{hosts_in, hook_in, Callee, host, hook, own, callee_type, callees_of, is_hook_function, Instance, instance, Frame, Env, Phase, starting, calling, over, Configuration, configuration, reduces, traps, new_frame, env_after, invoke, after_step, run_of, Store, zeros, values_of, answer_at, writes_done, written_memory, answered_store, told_items, items}
 use Rattle.wasm_sem.specs.Heights.{function_context}
 use Rattle.wasm_sem.proofs.Straight.{some_is}
-use Rattle.wasm_run.specs.Beside.{hosts_in, HasMadeHosts}
+use Rattle.wasm_run.specs.Beside.{HasMadeHosts}
 use Rattle.wasm_run.specs.Entering.{StandsAlone}
 use Rattle.wasm_run.specs.Entries.{EntersWith, EntersNext}
 use Rattle.run_stack.specs.Flat.{Flat}

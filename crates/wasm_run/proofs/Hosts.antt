@@ -7,8 +7,8 @@ use Rattle.wasm_sem.specs.declared.Answer.TheVariants.{Trapped}
 use Rattle.wasm_sem.specs.declared.Script.{Script}
 use Rattle.wasm_sem.specs.declared.Trap.{Trap}
 use Rattle.wasm_sem.specs.declared.Trap.TheVariants.{Depth}
-use Rattle.wasm_sem.specs.Execution.{own, Instance, instance, Frame, Env, Configuration, configuration, Next, reduces, traps, ends, stuck, with_ops, frame_behind, step, after_step, run_of}
-use Rattle.wasm_run.specs.Beside.{hosts_in, HasMadeHosts}
+use Rattle.wasm_sem.specs.Execution.{hosts_in, own, Instance, instance, Frame, Env, Configuration, configuration, Next, reduces, traps, ends, stuck, with_ops, frame_behind, step, after_step, run_of}
+use Rattle.wasm_run.specs.Beside.{HasMadeHosts}
 use Rattle.run_stack.specs.Calls.{NextIsNoCall}
 use Rattle.run_stack.specs.Flat.{Flat, first_rest}
 use Rattle.wasm_run.specs.Running.{IsLinked, KeepsConfiguration, IsRunning, IsInside}

@@ -11,6 +11,7 @@ use Rattle.wasm_sem.specs.Heights.{IsConfigurationWithin}
 use Rattle.wasm_sem.specs.Execution.{Callee, callee_type, callees_of, Instance, instance, Frame, Env, Configuration, configuration, stuck, pop_values, with_ops, invoke, call_popped, frame_behind, step, run_of, told_invoke, told_popped, told_code}
 use Rattle.wasm_sem.proofs.Sound.{never_lacks}
 use Rattle.wasm_sem.proofs.Heights.{stays_within}
+use Rattle.wasm_sem.proofs.SoundEntries.{can_link}
 use Rattle.run_stack.specs.Flat.{Spot, Flat, moved_spots, first_rest, HasMoreRoom}
 use Rattle.run_stack.specs.Kept.{under, Lies}
 use Rattle.run_stack.specs.Slots.{index_count, with_index, behind_call, before_call}
@@ -114,7 +115,7 @@ module _ (m : Module) (s : Script) (made : ℕ) (f : Flat) (memory : Held) (glob
       -- there is room for the number of the slot again
       pub room_back : (u : Flat) → HasMoreRoom t u → length u.values + index_count slot ≤ u.value_room
       room_back u more =
-          let fit = (frames_fit m f.value_room f.spot_room (x.frame ∷ x.below) (subst (IsConfigurationWithin m) x.at (stays_within m s linked.valid linked.complete linked.range linked.links made)) x.room).0 in
+          let fit = (frames_fit m f.value_room f.spot_room (x.frame ∷ x.below) (subst (IsConfigurationWithin m) x.at (stays_within m s linked.valid linked.complete linked.range.writes (can_link m s linked.links) made)) x.room).0 in
           let n = index_there slot x.ops (under x.frame x.below) in
           omega (
             arith,
@@ -165,7 +166,7 @@ module _ (m : Module) (s : Script) (made : ℕ) (f : Flat) (memory : Held) (glob
       go (configuration e []) at keeps h = absurd h
       go (configuration e (fr ∷ below)) at (lies, store, room) h =
           let p = pops e fr below (pop_values count h.ops [])
-          (subst (λ n. n ≢ stuck) h.next_is (subst (λ c. step inst c ≢ stuck) at (never_lacks m s linked.valid linked.complete linked.range linked.links made))) in
+          (subst (λ n. n ≢ stuck) h.next_is (subst (λ c. step inst c ≢ stuck) at (never_lacks m s linked.valid linked.complete linked.range.writes (can_link m s linked.links) made))) in
           record {
             env = e;
             frame = fr;

@@ -30,6 +30,7 @@ use Rattle.run_stack.proofs.Pushed.{push_length, pushed_same}
 use Rattle.wasm_sem.specs.Typed.{IsPhaseTyped}
 use Rattle.wasm_sem.proofs.Live.{IsLive, IsStateLive}
 use Rattle.wasm_sem.proofs.LiveSteps.{always_live}
+use Rattle.wasm_sem.proofs.SoundEntries.{can_link}
 use Rattle.module_ast.specs.Validation.{push}
 use Rattle.run_stack.specs.declared.steps.Did.{Did}
 use Rattle.run_stack.specs.declared.steps.Did.TheVariants as dids
@@ -168,7 +169,7 @@ module _ (m : Module) (s : Script) (made : ℕ) (f : Flat) (memory : Held) (glob
         → GoesAtNoCall r fr.top.rest → Advances inst e fr below r f memory globals t u g → Leaves r (configuration e (fr ∷ below)) t u g
     step_leaves e fr below (Ok dids.Went) at st room none w =
         let l = running.linked in
-        let live : IsLive m s e (fr ∷ below) = subst (IsStateLive m s) at (always_live m s l.valid l.complete l.range l.links made) in
+        let live : IsLive m s e (fr ∷ below) = subst (IsStateLive m s) at (always_live m s l.valid l.complete l.range.writes (can_link m s l.links) made) in
         let there = sym (next_state m s l.valid l.complete l.range l.links made (configuration e (fr ∷ below)) at) in (
           record {
             linked = l;

@@ -9,7 +9,7 @@ use Rattle.wasm_sem.specs.declared.Call.{Call}
 use Rattle.wasm_sem.specs.declared.Script.{Script}
 use Rattle.wasm_sem.specs.Execution.{entry, Callee, callee_type, callees_of, func_at, exported_func, Entry, entry_with, entry_to, entry_of, Instance, instance, no_export, call_refusal, calls_refusal, Frame, Env, is_last, Configuration, configuration, Phase, starting, calling, over, invoke, enter_callee, enter_entry, start_entry, call_entry, enter_phase, is_over, run_of, values_of, told_invoke, told_callee, told_begun, told_begins}
 use Rattle.wasm_sem.specs.Typed.{HaveTypes, IsPhaseTyped, IsConfigurationTyped}
-use Rattle.wasm_sem.proofs.SoundEntries.{no_refusal, start_enters, call_enters}
+use Rattle.wasm_sem.proofs.SoundEntries.{no_refusal, start_enters, call_enters, can_link}
 use Rattle.wasm_sem.proofs.Sound.{always_typed}
 use Rattle.wasm_run.specs.Entries.{EntersWith, EntersNext}
 use Rattle.wasm_run.specs.Moves.{env_beside, MayWant}
@@ -83,7 +83,7 @@ module _ (m : Module) (s : Script) where
     pub call_next : (functions : List ℕ) (n f : ℕ) (c : Call) → AreCalled m s functions → slice_get s.calls n ≡ Some c → slice_get functions n ≡ Some f → e.phase ≡ calling n → (called : Callee) × EntersWith inst e f c.args called
     call_next functions n f c are at there phase =
         let within : n < length (instance m s).calls = omega (arith, slice_get_within s.calls n c at, length-map s.calls (entry_of m)) in
-        let h = call_enters m s n linked.links within in
+        let h = call_enters m s n (can_link m s linked.links) within in
         let is : call_entry (slice_get inst.calls n) ≡ entry_with c.args f (slice_get (callees_of m) f) =
         ap call_entry (slice_get-map (entry_of m) s.calls n ∙ ap (option_map (entry_of m)) at) ∙ ap (entry_to (callees_of m) c.args) (exported_at m s functions n f c are at there) in
         go (slice_get (callees_of m) f) refl (sym is ∙ h.is) is
@@ -96,7 +96,7 @@ module _ (m : Module) (s : Script) where
 
   -- a call that is entered is one of the script
   pub number_within : (linked : IsLinked m s) (functions : List ℕ) (made n : ℕ) → AreCalled m s functions → (env_beside (run_of m s made)).phase ≡ calling n → n < length functions
-  number_within linked functions made n are phase = go (run_of m s made) (always_typed m s linked.valid linked.complete linked.range linked.links made) phase
+  number_within linked functions made n are phase = go (run_of m s made) (always_typed m s linked.valid linked.complete linked.range.writes (can_link m s linked.links) made) phase
     where
       go : (c : Configuration) → IsConfigurationTyped m s c → (env_beside c).phase ≡ calling n → n < length functions
       go (configuration e fs) typed phase = omega (arith, subst (λ p. IsPhaseTyped inst p fs) phase typed.phase, calls_count m s functions are)
@@ -108,7 +108,7 @@ enters_outside inst (configuration e (fr ∷ below)) func numbers out h = absurd
 
 -- a function that runs is not behind the end
 pub inside_goes : (m : Module) (s : Script) (linked : IsLinked m s) (made : ℕ) → IsInside (run_of m s made) → is_over (run_of m s made) ≡ false
-inside_goes m s linked made inside = go (run_of m s made) (always_typed m s linked.valid linked.complete linked.range linked.links made) inside
+inside_goes m s linked made inside = go (run_of m s made) (always_typed m s linked.valid linked.complete linked.range.writes (can_link m s linked.links) made) inside
   where
     by_phase : (e : Env) (p : Phase) (fs : List Frame) → IsPhaseTyped (instance m s) p fs → IsInside (configuration e fs) → is_last p ≡ false
     by_phase e starting fs h inside = refl

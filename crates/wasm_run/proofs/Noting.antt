@@ -9,7 +9,7 @@ use Rattle.hook_select.specs.Events.{group_of}
 use Rattle.run_store.specs.Held.{Held}
 use Rattle.wasm_sem.specs.declared.HostAnswer.{HostAnswer}
 use Rattle.wasm_sem.specs.declared.Script.{Script}
-use Rattle.wasm_sem.specs.Execution.{TraceItem, entry, event, host_call, host_item, Callee, host, callee_type, Instance, instance, Frame, Env, Configuration, configuration, Next, run_of, values_of, answer_at, writes_done, told_invoke, told_items, items_by, items, has_group}
+use Rattle.wasm_sem.specs.Execution.{hosts_in, TraceItem, entry, event, host_call, host_item, Callee, host, callee_type, Instance, instance, Frame, Env, Configuration, configuration, Next, run_of, values_of, answer_at, writes_done, told_invoke, told_items, items_by, items, has_group}
 use Rattle.wasm_sem.specs.Rules.{next_answer, answered_values}
 use Rattle.wasm_sem.proofs.Rules.{AreEvents, no_more, an_event, only_quiet, quiet_events, post_events, jump_events, begin_events, Invokes, begins, too_deep, replies, hears, StepRule, computes, halts, jumps, stays, calls, misses, opens, skips, falls, finishes, enters, rests, lacks, rule_of}
 use Rattle.wasm_run.specs.declared.note.Entry.{Entry}
@@ -20,7 +20,7 @@ use Rattle.run_store.specs.Resolved.{callee_for}
 use Rattle.wasm_run.specs.declared.functions.Invocation.{Invocation}
 use Rattle.wasm_run.specs.declared.functions.Target.{Target}
 use Rattle.wasm_run.specs.declared.functions.Target.TheVariants as targets
-use Rattle.wasm_run.specs.Beside.{hosts_in, HasMadeHosts}
+use Rattle.wasm_run.specs.Beside.{HasMadeHosts}
 use Rattle.run_stack.specs.Below.{IsBelow}
 use Rattle.wasm_run.specs.Entries.{EntersNext}
 use Rattle.run_stack.specs.Flat.{Flat}

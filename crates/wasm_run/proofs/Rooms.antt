@@ -16,6 +16,7 @@ use Rattle.wasm_sem.specs.Heights.{function_context, operands_on, AreFramesWithi
 use Rattle.wasm_sem.proofs.Runs.{run_add}
 use Rattle.wasm_sem.proofs.Sound.{never_lacks}
 use Rattle.wasm_sem.proofs.Heights.{stays_within}
+use Rattle.wasm_sem.proofs.SoundEntries.{can_link}
 use Rattle.wasm_run.proofs.Following.{Follows, stays, returns, leaves, NextFollows, step_follows}
 use Rattle.run_stack.specs.Flat.{Flat, PutsFrame}
 use Rattle.run_stack.specs.Kept.{ops_of, spots_of, all_values, low_of, all_spots, Lies}
@@ -120,7 +121,7 @@ module _ (m : Module) (s : Script) (valid : IsValid m) (complete : IsComplete m)
       let c = configuration e (fr ∷ below) in
       step_room values labels fr.top.rest (step (instance m s) c) (λ calls_none.
       next_fits m values labels (instance m s) fr below c (step (instance m s) c) (step_follows (instance m s) e fr below calls_none)
-      (subst (IsConfigurationWithin m) (next_state n c at) (stays_within m s valid complete range links (n + 1))) h)
+      (subst (IsConfigurationWithin m) (next_state n c at) (stays_within m s valid complete range.writes (can_link m s links) (n + 1))) h)
 
   -- what the machine keeps of a moment with a frame is ready for the next step
   pub standing_at : (f : Flat) (memory : Held) (globals : List Value) (n : ℕ) (e : Env) (fr : Frame) (below : List Frame) → run_of m s n ≡ configuration e (fr ∷ below)
@@ -129,7 +130,7 @@ module _ (m : Module) (s : Script) (valid : IsValid m) (complete : IsComplete m)
     lies = lies;
     memory_is = keeps.memory_is;
     globals_are = keeps.globals_are;
-    ready = ready_unless (step (instance m s) (configuration e (fr ∷ below))) (subst (λ c. step (instance m s) c ≢ stuck) at (never_lacks m s valid complete range links n));
+    ready = ready_unless (step (instance m s) (configuration e (fr ∷ below))) (subst (λ c. step (instance m s) c ≢ stuck) at (never_lacks m s valid complete range.writes (can_link m s links) n));
     room = room_at f.value_room f.spot_room n e fr below at room;
   }
 

@@ -15,6 +15,7 @@ use Rattle.wasm_sem.specs.declared.Trap.TheVariants.{NoSlot, EmptySlot, WrongTyp
 use Rattle.wasm_sem.specs.Laws.{slots_in}
 use Rattle.wasm_sem.specs.Execution.{Callee, callee_type, callees_of, Instance, instance, Frame, Env, Configuration, configuration, Next, traps, stuck, pop_values, with_ops, invoke, call_popped, call_func, same_func_type, have_same_types, same_type, call_typed, call_slot, call_through, frame_behind, reduce_plain, reduce_code, step, run_of, told_popped, told_call, told_matched, told_typed, told_slot, told_indirect, told_code, told_items, in_slot}
 use Rattle.wasm_sem.proofs.Sound.{never_lacks}
+use Rattle.wasm_sem.proofs.SoundEntries.{can_link}
 use Rattle.run_stack.specs.Flat.{Flat}
 use Rattle.run_stack.specs.Kept.{under, Lies}
 use Rattle.wasm_run.specs.Reaching.{Reaches, IsAtSlot}
@@ -50,7 +51,7 @@ module _ (m : Module) (s : Script) (made : ℕ) (f : Flat) (memory : Held) (glob
   inst = instance m s
 
   never : step inst (run_of m s made) ≢ stuck
-  never = let l = running.linked in never_lacks m s l.valid l.complete l.range l.links made
+  never = let l = running.linked in never_lacks m s l.valid l.complete l.range.writes (can_link m s l.links) made
 
   -- ---- a direct call
 

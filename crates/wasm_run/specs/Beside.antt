@@ -4,7 +4,7 @@ use Rattle.std.specs.Prelude.{◌≡◌, ℕ, ◌≤◌, List, Option}
 use Rattle.wasm_sem.specs.Types.{Module, Value}
 use Rattle.module_ast.specs.Memory.{pages}
 use Rattle.wasm_sem.specs.declared.Script.{Script}
-use Rattle.wasm_sem.specs.Execution.{opening_store, Env, Configuration, configuration, run_of}
+use Rattle.wasm_sem.specs.Execution.{hosts_in, opening_store, Env, Configuration, configuration, run_of}
 use Rattle.wasm_sem.specs.Rules.{HasSameRest}
 use Rattle.run_store.specs.Held.{Held}
 use Rattle.run_store.specs.declared.functions.Function.{Function}
@@ -18,10 +18,6 @@ pub record GoesOnBeside (old new : Env) : Type 0 where
   pub started : new.started ≡ old.started
   pub answers : new.answers ≡ old.answers
   pub store : HasSameRest old.store new.store
-
--- how many host calls were made
-abbrev pub hosts_in : Configuration → ℕ
-hosts_in (configuration e fs) = e.store.hosts
 
 -- how many pages the memory has
 abbrev pub pages_in : Configuration → ℕ

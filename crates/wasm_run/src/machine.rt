@@ -1,9 +1,9 @@
 // The machine: a run with its progress and its notes.
 
 ghost use Rattle.std.specs.Prelude.{◌≡◌, ◌+◌, ◌-◌, ◌<◌, ◌^◌, [], Some, None, true, false, IfOk, OnErr, MatchOption};
-ghost use Rattle.wasm_sem.specs.Execution.{turn_by, IsScriptInRange, Links, is_over};
+ghost use Rattle.wasm_sem.specs.Execution.{hosts_in, turn_by, IsScriptInRange, Links, is_over};
 ghost use Rattle.wasm_sem.specs.Laws.{slots_in};
-ghost use Rattle.wasm_run.specs.Beside.{hosts_in, pages_in};
+ghost use Rattle.wasm_run.specs.Beside.{pages_in};
 ghost use Rattle.wasm_run.specs.Moves.{MayWant};
 ghost use Rattle.wasm_run.specs.Noting.{IsNoteOf, next_outside, noted_items};
 ghost use Rattle.wasm_run.specs.Progress.{IsEntry, TakesStep};

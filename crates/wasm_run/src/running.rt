@@ -2,11 +2,11 @@
 
 ghost use Rattle.std.specs.Prelude.{◌≡◌, ℕ, ◌+◌, ◌-◌, ◌<◌, ◌^◌, [], length, Some, None, Ok, slice_get, IfOk, MatchOption, OnErr};
 ghost use Rattle.module_ast.specs.Structure.{code_of, before, plain, call, call_indirect};
-ghost use Rattle.wasm_sem.specs.Execution.{hook_in, Callee, hook, host, own, callees_of, instance, IsScriptInRange, Links, Frame, traps, step, items};
+ghost use Rattle.wasm_sem.specs.Execution.{hosts_in, hook_in, Callee, hook, host, own, callees_of, instance, IsScriptInRange, Links, Frame, traps, step, items};
 ghost use Rattle.wasm_sem.specs.Laws.{slots_in};
 ghost use Rattle.module_ast.specs.Validation.{declared_locals};
 ghost use Rattle.wasm_run.specs.Running.{Run, configuration_of, HoldsIf, IsInside, Innermost};
-ghost use Rattle.wasm_run.specs.Beside.{hosts_in, pages_in};
+ghost use Rattle.wasm_run.specs.Beside.{pages_in};
 ghost use Rattle.run_stack.specs.Advances.{IsAtCall};
 ghost use Rattle.wasm_run.specs.Entries.{EntersNext, EntersFunction};
 ghost use Rattle.run_stack.specs.Leaving.{LeavesLast};

@@ -245,3 +245,11 @@ events_in (event e ∷ is) = e ∷ events_in is
 events_in (entry c ∷ is) = events_in is
 events_in (host_call f vs rs ws ∷ is) = events_in is
 events_in (hook_call h ∷ is) = events_in is
+
+-- how many calls of the host are among the items
+abbrev pub host_calls : List TraceItem → ℕ
+host_calls [] = 0
+host_calls (host_call f vs rs ws ∷ is) = suc (host_calls is)
+host_calls (entry c ∷ is) = host_calls is
+host_calls (event e ∷ is) = host_calls is
+host_calls (hook_call h ∷ is) = host_calls is

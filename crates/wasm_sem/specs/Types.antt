@@ -30,4 +30,5 @@ pub use Rattle.module_ast.specs.declared.spaces.Counts.{Counts}
 pub use Rattle.hook_select.specs.declared.Event.{Event}
 pub use Rattle.hook_select.specs.declared.GroupName.{GroupName}
 pub use Rattle.hook_select.specs.declared.Hooks.{Hooks}
+pub use Rattle.hook_select.specs.Selections.{Selection}
 pub use Rattle.hook_mono.specs.declared.HookKey.{HookKey}

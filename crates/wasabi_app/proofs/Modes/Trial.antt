@@ -2,7 +2,7 @@
 use Rattle.app_load.proofs.Going.{made_here}
 use Rattle.std.proofs.Common.{◌≡◌, ℕ, ◌≤◌, inr, List, length, refl, sym, ap, subst, nat_le, Bool, true, false, IfSome, Some, Result, Ok, Err}
 use Rattle.module_ast.specs.Validation.Limits.{longest_file}
-use Rattle.wasm_sem.specs.Types.{Module, Hooks}
+use Rattle.wasm_sem.specs.Types.{Module, Selection}
 use Rattle.wasm_sem.specs.Execution.{IsFree}
 use Rattle.static_info.specs.Info.{info_of}
 use Rattle.static_info.specs.declared.Info.{Info}
@@ -85,7 +85,7 @@ of_number number m at was is result e y = subst (λ x. Yields (Some (pair_plan n
 
 -- ---- the output that is made for all groups
 
-pub few_of : (m : Module) (hooks : Hooks) (bytes : List ℕ) (info : Info) → hooks ≡ all_hooks → IsMade m hooks bytes info → length bytes ≤ longest_file
+pub few_of : (m : Module) (hooks : Selection) (bytes : List ℕ) (info : Info) → hooks ≡ all_hooks → IsMade m hooks bytes info → length bytes ≤ longest_file
     → output_length m all_hooks ≤ longest_file
 few_of m hooks bytes info all made fits =
     subst (λ h. output_length m h ≤ longest_file) all (subst (λ (b : List ℕ). length b ≤ longest_file) made.written fits)

@@ -1,19 +1,18 @@
 -- The mode `instrument`.
-use Rattle.std.specs.Prelude.{◌≡◌, ℕ, ◌≤◌, ◌⊎◌, List, [], ◌∷◌, length, codes, Bool, true, false, cond, bytes_eq, nat_le, Option, Some, None, option_map, option_and_then}
+use Rattle.std.specs.Prelude.{ℕ, List, [], ◌∷◌, codes, Bool, true, false, cond, bytes_eq, nat_le, Option, Some, None, option_map, option_and_then}
 use Rattle.std.specs.List.{list_any}
-use Rattle.outside_io.specs.Outside.{Contents}
-use Rattle.wasm_sem.specs.Types.{Module}
+use Rattle.wasm_sem.specs.Types.{Module, Selection}
 use Rattle.module_ast.specs.Validation.{narrow, longest_narrow_file}
 use Rattle.wasm_sem.specs.Execution.{is_hook}
 use Rattle.name_map.specs.declared.Names.{Names}
 use Rattle.app_load.specs.Kinds.{no_kinds}
 use Rattle.wasabi_app.specs.Making.{hook_count, named_length, information_text}
-use Rattle.wasabi_app.specs.KeptNames.{IsOutput, named_output}
-use Rattle.wasabi_app.specs.Texts.{taken_text, too_large_text, wrote_text}
-use Rattle.app_load.specs.Wants.{Read, named_read, IsRead}
-use Rattle.app_load.specs.Plans.{no_output, done, File, file, Effect, does, Plan, reads, ends, refusing}
-use Rattle.app_load.specs.Writing.{WroteAll}
-use Rattle.wasabi_app.specs.Words.{Given, Asks}
+use Rattle.wasabi_app.specs.KeptNames.{named_output}
+use Rattle.wasabi_app.specs.Selecting.{Selected, selects, finds_no, selected_by, reads_names, names_kept}
+use Rattle.wasabi_app.specs.Texts.{taken_text, too_large_text, no_function_text, wrote_text}
+use Rattle.app_load.specs.Wants.{Read, named_read}
+use Rattle.app_load.specs.Plans.{no_output, no_function, done, File, file, Effect, does, Plan, reads, ends, refusing}
+use Rattle.wasabi_app.specs.Words.{Given}
 use Rattle.wasabi_app.specs.Mode.{Mode}
 
 -- some import names the module of the hooks
@@ -26,12 +25,12 @@ info_files None text = []
 info_files (Some name) text = file name text ∷ []
 
 -- the output is written with its names after it, and then the information
-abbrev pub output_effect : Given → (target : List ℕ) → Module → Names → Effect
-output_effect g target m names = record {
+abbrev pub output_effect : Given → (target : List ℕ) → Module → Selection → Names → Effect
+output_effect g target m hooks names = record {
   kinds = no_kinds;
   events = [];
-  files = file target (named_output m g.hooks names) ∷ info_files g.info (information_text m g.hooks);
-  text = wrote_text (named_length m g.hooks names) (hook_count m g.hooks);
+  files = file target (named_output m hooks names) ∷ info_files g.info (information_text m hooks);
+  text = wrote_text (named_length m hooks names) (hook_count m hooks);
   finish = done;
 }
 
@@ -49,16 +48,26 @@ untaken false subject plan = plan
 abbrev pub hooked : (subject : List ℕ) → Module → (output_length bound : ℕ) → Plan → Plan
 hooked subject m long bound plan = untaken (names_hooks m) subject (bounded (nat_le long bound) long plan)
 
--- the output of a module with these names is made and written
-abbrev pub output_plan : Given → (target : List ℕ) → Module → Names → Plan
-output_plan g target m names = hooked g.subject m (named_length m g.hooks names) g.bound (ends (does (output_effect g target m names)))
+-- the output of a module with these hooks and names is made and written
+abbrev pub output_plan : Given → (target : List ℕ) → Module → Selection → Names → Plan
+output_plan g target m hooks names = hooked g.subject m (named_length m hooks names) g.bound (ends (does (output_effect g target m hooks names)))
 
--- the read of the subject, with its names if they are kept
+-- the plan of the hooks that are selected; or the refusal of status 23, if a piece of a list means no function with a body
+abbrev pub found : Selected → (Selection → Plan) → Plan
+found (selects hooks) plan = plan hooks
+found (finds_no piece) plan = refusing no_function (no_function_text piece)
+
+-- the hooks are selected of a module with these names, and its output is made and written with the names that are kept
+abbrev pub selected_plan : Given → (target : List ℕ) → Module → Names → Plan
+selected_plan g target m names =
+    found (selected_by g.hooks g.functions g.except m names) (λ hooks. output_plan g target m hooks (names_kept g.keeps names))
+
+-- the read of the subject, with its names if they are kept or if there is a list of functions
 abbrev pub subject_read : Given → Read
-subject_read g = named_read g.subject longest_narrow_file narrow g.keeps
+subject_read g = named_read g.subject longest_narrow_file narrow (reads_names g.keeps g.functions g.except)
 
 abbrev pub instrument_plan : Given → (target : List ℕ) → Plan
-instrument_plan g target = reads (subject_read g) (λ named. output_plan g target named.0 named.1)
+instrument_plan g target = reads (subject_read g) (λ named. selected_plan g target named.0 named.1)
 
 -- the mode needs a target, and the target is not the name of the information
 abbrev pub is_name : Option (List ℕ) → List ℕ → Bool
@@ -70,23 +79,3 @@ target_of g = option_and_then (λ target. cond (is_name g.info target) None (Som
 
 abbrev pub instrument_mode : Mode
 instrument_mode = record { name = codes "instrument"; plan = λ (g : Given). option_map (instrument_plan g) (target_of g) }
-
--- ---- what a reader of the program's contract asks of the mode
-
--- the work of the mode was done
-abbrev pub IsDone : (status : ℕ) → Type 0
-IsDone status = (status ≡ 0) ⊎ (status ≡ 15)
-
--- The subject's bytes are an accepted module. Under the target's name is its output, with its names if they are kept.
--- Under the information's name, if one is given, is the information on the module. What is written first is no longer
--- than the bound. All other names of the shelf are as before.
-abbrev pub IsWritten : Given → (target : List ℕ) → (old new : Option Contents) → Type 0
-IsWritten g target old new =
-    (subject : List ℕ) × (output : List ℕ) × (is : IsOutput subject g.hooks g.keeps output)
-    × IsRead old (subject_read g) subject × (length output ≤ g.bound)
-    × WroteAll (file target output ∷ info_files g.info (information_text is.original g.hooks)) old new
-
--- if the words ask for the mode and its work was done, all of this holds
-abbrev pub IsInstrumentedBy : (words : List (List ℕ)) → (old new : Option Contents) → (status : ℕ) → Type 0
-IsInstrumentedBy words old new status =
-    (g : Given) (target : List ℕ) → Asks words (codes "instrument") g → target_of g ≡ Some target → IsDone status → IsWritten g target old new

@@ -2,7 +2,8 @@
 use Rattle.std.specs.Prelude.{ℕ, ◌%◌, ◌^◌, pos, List, [], ◌∷◌, length, codes, decimal, nat_le, nat_lt, ◌&&◌, true, cond, Option, Some, None, option_map}
 use Rattle.std.specs.Str.Parse.{digits_value}
 use Rattle.clap.specs.ValueTests.{is_numeral}
-use Rattle.wasm_sem.specs.Types.{Module, Event, Hooks}
+use Rattle.wasm_sem.specs.Types.{Module, Event, Selection}
+use Rattle.hook_select.specs.Selections.{everywhere}
 use Rattle.module_ast.specs.Binary.{module_bytes}
 use Rattle.module_ast.specs.Structure.{funcs_of}
 use Rattle.module_ast.specs.Validation.Limits.{longest_file}
@@ -29,8 +30,8 @@ use Rattle.wasabi_app.specs.Mode.{Mode}
 abbrev pub trial_number : (text : List ℕ) → Option ℕ
 trial_number text = cond (is_numeral text && nat_lt (digits_value 10 text) (2 ^ 64)) (Some (digits_value 10 text)) None
 
-abbrev pub all_hooks : Hooks
-all_hooks = hooks_of (λ group. true)
+abbrev pub all_hooks : Selection
+all_hooks = everywhere (hooks_of (λ group. true))
 
 -- ---- the script
 

@@ -1,4 +1,6 @@
 -- It may get hooks.
+use Rattle.std.proofs.Common.{ap}
+use Rattle.hook_select.specs.Selections.{everywhere}
 use Rattle.wasabi_app.proofs.Modes.Trial.{few_of}
 use Rattle.app_tests.proofs.Stored.{two_narrow, two_short}
 use Rattle.app_tests.proofs.following.hooked.Goals as goal
@@ -10,4 +12,4 @@ pub instrument-requires-clause-short : goal.instrument-requires-clause-short
 instrument-requires-clause-short g c = λ _ _. two_short c.args.m.now c.requires
 
 pub returns-in-Ok-clause-few : goal.returns-in-Ok-clause-few
-returns-in-Ok-clause-few g c = few_of c.args.m.now c.all.result _ _ c.all.ensures c.in-Ok.ensures.made c.in-Ok.ensures.fits
+returns-in-Ok-clause-few g c = few_of c.args.m.now (everywhere c.all.result) _ _ (ap everywhere c.all.ensures) c.in-Ok.ensures.made c.in-Ok.ensures.fits

@@ -9,4 +9,4 @@ pub returns-clause-formed : goal.returns-clause-formed
 returns-clause-formed c =
     let m = c.args.m.now in
     IfOk-weaker c.module_info.result _ IsWellFormed
-    (λ info is. subst (λ (i : Info). IsWellFormed i) (sym is) (infos_have_form m c.args.hooks c.module.ensures.valid c.module.ensures.whole)) c.module_info.ensures
+    (λ info is. subst (λ (i : Info). IsWellFormed i) (sym is) (infos_have_form m c.args.hooks.now c.module.ensures.valid c.module.ensures.whole)) c.module_info.ensures

@@ -7,7 +7,7 @@ use Rattle.wasabi_app.proofs.making.hooked.Goals as goal
 
 pub returns-in-Err-HookModuleTaken-clause-refused : goal.returns-in-Err-HookModuleTaken-clause-refused
 returns-in-Err-HookModuleTaken-clause-refused g c =
-    unhooked_taken c.args.subject.now.name.now c.args.subject.now.module.now (named_length c.args.subject.now.module.now c.args.hooks c.args.subject.now.names.now) c.args.bound
+    unhooked_taken c.args.subject.now.name.now c.args.subject.now.module.now (named_length c.args.subject.now.module.now c.args.hooks.now c.args.subject.now.names.now) c.args.bound
     c.refused.result (c.in-Err-HookModuleTaken.ensures.taken (ap Err c.in-Err-HookModuleTaken.field-0-is))
     (c.refused.ensures (taken_text c.args.subject.now.name.now) c.taken_line.ensures)
 
@@ -23,4 +23,4 @@ too_large-requires-clause-over g c = λ _ _.
 
 pub returns-in-Err-NoMemory-clause-refused : goal.returns-in-Err-NoMemory-clause-refused
 returns-in-Err-NoMemory-clause-refused g c =
-    unhooked_no_memory c.args.subject.now.name.now c.args.subject.now.module.now (named_length c.args.subject.now.module.now c.args.hooks c.args.subject.now.names.now) c.args.bound
+    unhooked_no_memory c.args.subject.now.name.now c.args.subject.now.module.now (named_length c.args.subject.now.module.now c.args.hooks.now c.args.subject.now.names.now) c.args.bound

@@ -11,10 +11,10 @@ pub map_names-requires-clause-functions : goal.map_names-requires-clause-functio
 map_names-requires-clause-functions c =
     let m = c.args.subject.now.module.now in
     maps_below (λ (n : Named). n.index) c.args.remap (length (funcs_of m)) c.args.subject.now.names.now.functions c.requires.proper.below
-    (omega (arith, ap (λ (r : Remap). r.added) c.requires.remap, few_mapped m c.args.hooks c.requires.limits))
+    (omega (arith, ap (λ (r : Remap). r.added) c.requires.remap, few_mapped m c.args.hooks.now c.requires.limits))
 
 pub map_names-requires-clause-locals : goal.map_names-requires-clause-locals
 map_names-requires-clause-locals c =
     let m = c.args.subject.now.module.now in
     maps_below (λ (l : Locals). l.func) c.args.remap (length (funcs_of m)) c.args.subject.now.names.now.locals c.requires.proper.owners_below
-    (omega (arith, ap (λ (r : Remap). r.added) c.requires.remap, few_mapped m c.args.hooks c.requires.limits))
+    (omega (arith, ap (λ (r : Remap). r.added) c.requires.remap, few_mapped m c.args.hooks.now c.requires.limits))

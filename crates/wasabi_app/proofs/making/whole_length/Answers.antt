@@ -16,8 +16,8 @@ summed e sum whole P (Some n) result there same is = subst (λ r. IfOk r (λ n. 
 pub returns : goal.returns
 returns g c =
     let m = c.args.subject.now.module.now in
-    let out = output_bytes m c.args.hooks in
-    let section = name_section_bytes (output_names m c.args.hooks c.args.subject.now.names.now) in
+    let out = output_bytes m c.args.hooks.now in
+    let section = name_section_bytes (output_names m c.args.hooks.now c.args.subject.now.names.now) in
     let added : c.len.result ≡ length section = c.len.ensures ∙ c.put_names.new.out.ok.0 ∙ ap length (c.in_ok-put_names.ensures ∙ ap (λ (l : List ℕ). l ++ section) c.new-section.ensures.items) in
     let same = ap (λ n. n + c.len.result) c.requires.is ∙ ap (λ n. length out + n) added ∙ sym (length-append out section) in
     summed _ (c.args.bare + c.len.result) _ _ c.checked_add.result c.ok_or.result c.checked_add.ensures same c.ok_or.ensures.value

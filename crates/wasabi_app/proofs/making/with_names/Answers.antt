@@ -13,7 +13,7 @@ use Rattle.wasabi_app.proofs.making.with_names.Goals as goal
 
 pub remap-requires : goal.remap-requires
 remap-requires c =
-    let few = few_mapped c.args.subject.now.module.now c.args.hooks c.requires.limits in
+    let few = few_mapped c.args.subject.now.module.now c.args.hooks.now c.requires.limits in
     omega (arith, few, ap (λ (i : Info). length i.hooks) c.requires.made.information)
 
 pub put_names-requires-clause-remap : goal.put_names-requires-clause-remap
@@ -21,13 +21,13 @@ put_names-requires-clause-remap c = c.remap.ensures ∙ ap info_remap c.requires
 
 pub returns-in_default-clause-refused : goal.returns-in_default-clause-refused
 returns-in_default-clause-refused c =
-    unhooked_no_memory c.args.subject.now.name.now c.args.subject.now.module.now (named_length c.args.subject.now.module.now c.args.hooks c.args.subject.now.names.now) c.args.bound
+    unhooked_no_memory c.args.subject.now.name.now c.args.subject.now.module.now (named_length c.args.subject.now.module.now c.args.hooks.now c.args.subject.now.names.now) c.args.bound
 
 pub returns-then-length-bytes-clause-refused : goal.returns-then-length-bytes-clause-refused
 returns-then-length-bytes-clause-refused c =
     let m = c.args.subject.now.module.now in
     let names = c.args.subject.now.names.now in
-    let hooks = c.args.hooks in
+    let hooks = c.args.hooks.now in
     let long : c.len-length.result ≡ length c.put_names.new.out.items = search rules in
     let whole : c.len-length.result ≡ named_length m hooks names =
     long ∙ ap length (c.in-Ok.ensures ∙ ap (λ b. b ++ name_section_bytes (output_names m hooks names)) c.requires.made.written) in
@@ -39,7 +39,7 @@ pub returns-clause-within : goal.returns-clause-within
 returns-clause-within c =
     let m = c.args.subject.now.module.now in
     let names = c.args.subject.now.names.now in
-    let hooks = c.args.hooks in
+    let hooks = c.args.hooks.now in
     let long : c.len-length.result ≡ length c.put_names.new.out.items = search rules in
     let whole : c.len-length.result ≡ named_length m hooks names =
     long ∙ ap length (c.in-Ok.ensures ∙ ap (λ b. b ++ name_section_bytes (output_names m hooks names)) c.requires.made.written) in

@@ -12,21 +12,21 @@ typed-body-requires c =
 pub size_of-requires-clause-numbers : goal.size_of-requires-clause-numbers
 size_of-requires-clause-numbers c =
     let held = c.self.inside in
-    planned_numbers c.args.self.now (record { «module» = held.module.now; hooks = held.hooks }) c.typed-body.result c.args.defined held.table held.remap
-    c.self.view_is c.typed-body.ensures.of c.typed-body.ensures.at c.self.invariant
+    planned_numbers c.args.self.now (record { «module» = held.module.now; hooks = held.hooks.now }) c.typed-body.result c.args.defined held.table held.remap
+    c.self.view_is c.typed-body.ensures.of c.typed-body.ensures.at c.self.invariant c.hooks_of.result c.hooks_of.ensures
 
 pub returns-clause-size : goal.returns-clause-size
 returns-clause-size c =
     let held = c.self.inside in
     IfOk-weaker c.size_of.result _ _
-    (planned_size c.args.self.now (record { «module» = held.module.now; hooks = held.hooks }) c.typed-body.result c.args.defined held.table held.remap
-    c.self.view_is c.typed-body.ensures.of c.typed-body.ensures.at c.self.invariant)
+    (planned_size c.args.self.now (record { «module» = held.module.now; hooks = held.hooks.now }) c.typed-body.result c.args.defined held.table held.remap
+    c.self.view_is c.typed-body.ensures.of c.typed-body.ensures.at c.self.invariant c.hooks_of.result c.hooks_of.ensures)
     c.size_of.ensures.length
 
 pub returns-clause-bound : goal.returns-clause-bound
 returns-clause-bound c =
     let held = c.self.inside in
     IfOk-weaker c.size_of.result _ _
-    (planned_bound c.args.self.now (record { «module» = held.module.now; hooks = held.hooks }) c.typed-body.result c.args.defined held.table held.remap
-    c.self.view_is c.typed-body.ensures.of c.typed-body.ensures.at c.self.invariant c.requires)
+    (planned_bound c.args.self.now (record { «module» = held.module.now; hooks = held.hooks.now }) c.typed-body.result c.args.defined held.table held.remap
+    c.self.view_is c.typed-body.ensures.of c.typed-body.ensures.at c.self.invariant c.hooks_of.result c.hooks_of.ensures c.requires)
     c.size_of.ensures.bound

@@ -11,9 +11,9 @@ typed-requires c =
 pub returns : goal.returns
 returns c =
     let held = c.self.inside in
-    let q : HookPlan = record { «module» = held.module.now; hooks = held.hooks } in
+    let q : HookPlan = record { «module» = held.module.now; hooks = held.hooks.now } in
     record {
-      added = planned_added c.args.self.now q c.typed.result c.args.defined held.table held.remap c.self.view_is c.typed.ensures.of c.typed.ensures.at c.self.invariant;
-      numbers = planned_numbers c.args.self.now q c.typed.result c.args.defined held.table held.remap c.self.view_is c.typed.ensures.of c.typed.ensures.at c.self.invariant;
-      makes = planned_body c.args.self.now q c.typed.result c.args.defined held.table held.remap c.self.view_is c.typed.ensures.of c.typed.ensures.at c.self.invariant;
+      added = planned_added c.args.self.now q c.typed.result c.args.defined held.table held.remap c.self.view_is c.typed.ensures.of c.typed.ensures.at c.self.invariant c.hooks_of.result c.hooks_of.ensures;
+      numbers = planned_numbers c.args.self.now q c.typed.result c.args.defined held.table held.remap c.self.view_is c.typed.ensures.of c.typed.ensures.at c.self.invariant c.hooks_of.result c.hooks_of.ensures;
+      makes = planned_body c.args.self.now q c.typed.result c.args.defined held.table held.remap c.self.view_is c.typed.ensures.of c.typed.ensures.at c.self.invariant c.hooks_of.result c.hooks_of.ensures;
     }

@@ -4,6 +4,7 @@ use Rattle.module_ast.specs.Binary.{Fits, IsModule, module_bytes, tree_of, witho
 use Rattle.module_ast.proofs.ReadFits.{read_fits}
 use Rattle.wasm_sem.specs.Types.{Module}
 use Rattle.instrument.specs.Plan.{HookPlan}
+use Rattle.instrument.proofs.NoneNeeded.{none_is_empty}
 use Rattle.instrument.proofs.Unhooked.{output_same}
 use Rattle.instrument.proofs.plan.HookPlan.write.Goals as goal
 
@@ -32,8 +33,8 @@ both_ok (Err e) P Q R f p q = tt
 
 pub returns-then-is_empty-clause-ok : goal.returns-then-is_empty-clause-ok
 returns-then-is_empty-clause-ok g c =
-    let q : HookPlan = record { «module» = c.self.inside.module.now; hooks = c.self.inside.hooks } in
-    let same = output_same q c.args.self.now c.module.result.now c.self.view_is c.module.ensures.module (c.if-is_empty.ensures.0 refl) c.module.ensures.whole.bodies in
+    let q : HookPlan = record { «module» = c.self.inside.module.now; hooks = c.self.inside.hooks.now } in
+    let same = output_same q c.args.self.now c.module.result.now c.self.view_is c.module.ensures.module (none_is_empty q.hooks (c.if-is_empty.ensures.0 refl)) c.module.ensures.whole.bodies in
     IfOk-weaker c.encode.result _ _ (λ bytes is. is ∙ same) c.encode.ensures.ok
 
 pub returns-then-is_empty-clause-fit : goal.returns-then-is_empty-clause-fit
@@ -49,6 +50,6 @@ returns-clause-fit g c =
 
 pub returns-then-is_empty-clause-large : goal.returns-then-is_empty-clause-large
 returns-then-is_empty-clause-large g c =
-    let q : HookPlan = record { «module» = c.self.inside.module.now; hooks = c.self.inside.hooks } in
-    let same = output_same q c.args.self.now c.module.result.now c.self.view_is c.module.ensures.module (c.if-is_empty.ensures.0 refl) c.module.ensures.whole.bodies in
+    let q : HookPlan = record { «module» = c.self.inside.module.now; hooks = c.self.inside.hooks.now } in
+    let same = output_same q c.args.self.now c.module.result.now c.self.view_is c.module.ensures.module (none_is_empty q.hooks (c.if-is_empty.ensures.0 refl)) c.module.ensures.whole.bodies in
     λ n is. let large = c.encode.ensures.large n is in (large.0 ∙ ap length same, large.1)

@@ -1,34 +1,30 @@
--- How many host calls a run makes is how many its trace has, one in a step at most.
-use Rattle.std.proofs.Common.{◌≡◌, ℕ, zero, suc, ◌+◌, ◌≤◌, List, [], ◌∷◌, ◌++◌, Bool, true, false, refl, sym, ap, subst, ◌∙◌, arith, add-one}
-use Rattle.wasm_sem.specs.Types.{Value, Module}
+-- The store counts the calls of the host. A run makes as many as its trace has, and a step one at most.
+use Rattle.std.proofs.Common.{◌≡◌, ℕ, zero, suc, ◌+◌, ◌≤◌, List, [], ◌∷◌, ◌++◌, map, Bool, true, false, refl, sym, ap, subst, ◌∙◌, arith, add-one}
+use Rattle.wasm_sem.specs.Types.{Value, Event, Module}
 use Rattle.module_ast.specs.Places.{function_scope}
 use Rattle.wasm_sem.specs.declared.Answer.{Answer}
 use Rattle.wasm_sem.specs.declared.Answer.TheVariants.{Returned, Trapped}
 use Rattle.wasm_sem.specs.declared.Script.{Script}
-use Rattle.wasm_sem.specs.Execution.{TraceItem, entry, host_call, event, hook_call, shown_items, Callee, Instance, instance, Label, Frame, Phase, starting, calling, over, Env, Configuration, configuration, Next, reduces, traps, ends, stuck, env_after, return_to, step, after_step, opening_configuration, run, run_of, told_items, items_by, items, trace, trace_of}
-use Rattle.wasm_sem.specs.Rules.{answered_env, AreEvents, no_more, an_event, Invokes, begins, too_deep, replies, hears, Jumps, lands, leaves, crosses, unfed, unheld, StepRule, computes, halts, jumps, stays, calls, misses, opens, skips, falls, finishes, enters, rests, lacks}
-use Rattle.wasm_sem.proofs.Rules.{begin_events, post_events, jump_events, only_quiet, quiet_events, rule_of}
-use Rattle.wasm_run.specs.Beside.{hosts_in}
+use Rattle.wasm_sem.specs.Execution.{hosts_in, TraceItem, entry, host_call, event, hook_call, host_calls, shown_items, Callee, Instance, instance, Label, Frame, Phase, starting, calling, over, Env, Configuration, configuration, Next, reduces, traps, ends, stuck, env_after, return_to, step, after_step, opening_configuration, run, run_of, told_items, items_by, items, trace, trace_of}
+use Rattle.wasm_sem.specs.Laws.{HostCallsAreCounted}
+use Rattle.wasm_sem.proofs.Runs.{run_add}
+use Rattle.wasm_sem.proofs.Rules.{answered_env, AreEvents, no_more, an_event, Invokes, begins, too_deep, replies, hears, Jumps, lands, leaves, crosses, unfed, unheld, StepRule, computes, halts, jumps, stays, calls, misses, opens, skips, falls, finishes, enters, rests, lacks, begin_events, post_events, jump_events, only_quiet, quiet_events, rule_of}
 
--- how many host calls are among items
-abbrev pub host_count : List TraceItem → ℕ
-host_count [] = 0
-host_count (entry c ∷ is) = host_count is
-host_count (host_call f vs rs ws ∷ is) = suc (host_count is)
-host_count (event e ∷ is) = host_count is
-host_count (hook_call h ∷ is) = host_count is
-
-pub count_append : (is js : List TraceItem) → host_count (is ++ js) ≡ host_count is + host_count js
-count_append [] js = omega arith
-count_append (entry c ∷ is) js = count_append is js
-count_append (host_call f vs rs ws ∷ is) js = omega (arith, count_append is js)
-count_append (event e ∷ is) js = count_append is js
-count_append (hook_call h ∷ is) js = count_append is js
+pub calls-append : (is js : List TraceItem) → host_calls (is ++ js) ≡ host_calls is + host_calls js
+calls-append [] js = omega arith
+calls-append (entry c ∷ is) js = calls-append is js
+calls-append (host_call f vs rs ws ∷ is) js = omega (arith, calls-append is js)
+calls-append (event e ∷ is) js = calls-append is js
+calls-append (hook_call h ∷ is) js = calls-append is js
 
 -- events are none
-events_none : {is : List TraceItem} → AreEvents is → host_count is ≡ 0
+events_none : {is : List TraceItem} → AreEvents is → host_calls is ≡ 0
 events_none no_more = refl
 events_none (an_event e h more) = events_none more
+
+pub mapped_none : (es : List Event) → host_calls (map event es) ≡ 0
+mapped_none [] = refl
+mapped_none (e ∷ es) = mapped_none es
 
 -- ---- a step
 
@@ -39,9 +35,9 @@ Made hosts more _ = more ≡ 0
 
 -- what is shown and told has as many, which are one at most
 record Counts (hosts : ℕ) (shown told : List TraceItem) (next : Next) : Type 0 where
-  same : host_count shown ≡ host_count told
-  few : host_count told ≤ 1
-  made : Made hosts (host_count told) next
+  same : host_calls shown ≡ host_calls told
+  few : host_calls told ≤ 1
+  made : Made hosts (host_calls told) next
 
 answer_made : (inst : Instance) (ph : Phase) (e : Env) (a : Answer) → (env_after inst ph e a).store.hosts ≡ e.store.hosts
 answer_made inst starting e a = refl
@@ -108,8 +104,8 @@ settled inst e frames more stuck h = omega (arith, h)
 
 -- one step makes the host calls of its items, one at most
 record Steps (inst : Instance) (c : Configuration) : Type 0 where
-  made : hosts_in (after_step inst c (step inst c)) ≡ hosts_in c + host_count (items inst c)
-  few : host_count (items inst c) ≤ 1
+  made : hosts_in (after_step inst c (step inst c)) ≡ hosts_in c + host_calls (items inst c)
+  few : host_calls (items inst c) ≤ 1
 
 step_counts : (inst : Instance) (c : Configuration) → Steps inst c
 step_counts inst (configuration e frames) = by inst.hooked
@@ -117,10 +113,10 @@ step_counts inst (configuration e frames) = by inst.hooked
     counts : Counts e.store.hosts (shown_items inst (configuration e frames)) (told_items inst (configuration e frames)) (step inst (configuration e frames))
     counts = rule_counts inst (rule_of inst (configuration e frames))
 
-    by_told : hosts_in (after_step inst (configuration e frames) (step inst (configuration e frames))) ≡ e.store.hosts + host_count (told_items inst (configuration e frames))
-    by_told = settled inst e frames (host_count (told_items inst (configuration e frames))) (step inst (configuration e frames)) counts.made
+    by_told : hosts_in (after_step inst (configuration e frames) (step inst (configuration e frames))) ≡ e.store.hosts + host_calls (told_items inst (configuration e frames))
+    by_told = settled inst e frames (host_calls (told_items inst (configuration e frames))) (step inst (configuration e frames)) counts.made
 
-    here : (hooked : Bool) → host_count (items_by hooked inst (configuration e frames)) ≡ host_count (told_items inst (configuration e frames))
+    here : (hooked : Bool) → host_calls (items_by hooked inst (configuration e frames)) ≡ host_calls (told_items inst (configuration e frames))
     here true = refl
     here false = counts.same
 
@@ -132,19 +128,22 @@ step_counts inst (configuration e frames) = by inst.hooked
 
 -- ---- a run
 
-pub step_few : (m : Module) (s : Script) (n : ℕ) → host_count (items (instance m s) (run_of m s n)) ≤ 1
-step_few m s n = (step_counts (instance m s) (run_of m s n)).few
+-- each step makes those of its items
+pub next_counts : (inst : Instance) (n : ℕ) (c : Configuration) → hosts_in (run inst (suc n) c) ≡ hosts_in (run inst n c) + host_calls (items inst (run inst n c))
+next_counts inst n c =
+    let one : n + 1 ≡ suc n = omega arith in
+    ap hosts_in (ap (λ k. run inst k c) (sym one) ∙ run_add inst n 1 c) ∙ (step_counts inst (run inst n c)).made
 
--- the host calls of a run are those of its trace
-run_counts : (inst : Instance) (n : ℕ) (c : Configuration) → hosts_in (run inst n c) ≡ hosts_in c + host_count (trace inst n c)
+-- a run makes those of its trace
+run_counts : (inst : Instance) (n : ℕ) (c : Configuration) → hosts_in (run inst n c) ≡ hosts_in c + host_calls (trace inst n c)
 run_counts inst zero c = no_more_hosts (hosts_in c)
 run_counts inst (suc n) c =
     let next = after_step inst c (step inst c) in
     let later = run_counts inst n next in
-    omega (arith, later, (step_counts inst c).made, count_append (items inst c) (trace inst n next))
+    omega (arith, later, (step_counts inst c).made, calls-append (items inst c) (trace inst n next))
 
 opened_none : (m : Module) (s : Script) → hosts_in (opening_configuration m s) ≡ 0
 opened_none m s = refl
 
-pub hosts_counted : (m : Module) (s : Script) (n : ℕ) → hosts_in (run_of m s n) ≡ host_count (trace_of m s n)
-hosts_counted m s n = omega (arith, run_counts (instance m s) n (opening_configuration m s), opened_none m s)
+pub hosts_counted : HostCallsAreCounted
+hosts_counted m s n = (omega (arith, run_counts (instance m s) n (opening_configuration m s), opened_none m s), (step_counts (instance m s) (run_of m s n)).few)
