@@ -4,197 +4,302 @@
 //     run.exports.f(1);
 //
 // docs/RUNTIME.md says what each event has, and what a run has.
-import {hookNamed} from "./hooks.mjs";
+import {Callees} from "./callees.mjs";
+import {checkCallbacks} from "./callbacks.mjs";
+import {callIn, valuesFor} from "./calls.mjs";
+import {checkOutput} from "./check.mjs";
+import {CallError, InformationError, MissingImportError, OptionError, StackError} from "./errors.mjs";
+import {isOfModule} from "./frames.mjs";
+import {handlerOf} from "./handlers.mjs";
+import {EVENTS, KINDS, hookNamed} from "./hooks.mjs";
+import {choicesOf, informationOf, partOf} from "./information.mjs";
+import {HOOKS, exportedFunctions} from "./module.mjs";
 import {namesOf, originalIndex} from "./names.mjs";
+import {isBytes, viewOf} from "./reader.mjs";
+import {Stack} from "./stack.mjs";
 
-export const EVENTS = [
-  "start", "nop", "unreachable", "if", "br", "br_if", "br_table", "begin", "end", "const", "unary", "binary", "drop", "select",
-  "local", "global", "load", "store", "memory_size", "memory_grow", "call_pre", "call_indirect_pre", "call_post", "return",
-];
-const KINDS = ["function", "block", "loop", "if", "else"];
-const HOOKS = "__wasabi_hooks";
-const FOREIGN = "the information does not belong to the module";
+export * from "./errors.mjs";
+export {EVENTS, HOOKS, KINDS, hookNamed, informationOf};
+
+/** @typedef {import("./types.js").Callbacks} Callbacks */
+/** @typedef {import("./information.mjs").Information} Information */
+/** @typedef {ArrayBuffer | SharedArrayBuffer | ArrayBufferView} Bytes */
+/**
+ * @typedef {object} Options
+ * @property {"refuse" | "zeros"} [missing] what is done about a function that the imports lack: "zeros" supplies one that returns zeros
+ * @property {"refuse" | "ignore"} [unselected] what is done about a callback whose group the output lacks
+ * @property {boolean} [stack] false: the stack is not kept, which makes begins and ends faster
+ * @property {boolean} [check] false: the bodies of the output are not compared with the information
+ * @property {Bytes} [bytes] the bytes of the output, if a WebAssembly.Module is given
+ */
+
+/**
+ * @param {Options} options
+ * @returns {Options}
+ */
+function checkOptions(options) {
+  const isFlag = (/** @type {unknown} */ value) => value === undefined || typeof value === "boolean";
+  /** @type {Record<string, (value: any) => boolean>} */
+  const allowed = {
+    missing: it => [undefined, "refuse", "zeros"].includes(it), unselected: it => [undefined, "refuse", "ignore"].includes(it),
+    stack: isFlag, check: isFlag, bytes: it => it === undefined || isBytes(it),
+  };
+  for (const [name, value] of Object.entries(options)) {
+    if (!Object.hasOwn(allowed, name)) throw new OptionError(`no option is named ${name}; options are ${Object.keys(allowed).join(", ")}`);
+    if (!allowed[name](value)) throw new OptionError(`the option ${name} can't be ${String(value)}`);
+  }
+  return options;
+}
 
 export class Run {
-  stack = []; // the functions that are open, the outermost first
-  parts = []; // the parts that are open, functions among them
-  names = new Map(); // the names of functions
-  exports = {};
+  /**
+   * The exports of the instance, which are the engine's own.
+   * @type {Record<string, any>}
+   */
+  exports = Object.create(null);
+  /**
+   * The names of functions that have names, by their indices in the original.
+   * @type {Map<number, string>}
+   */
+  names = new Map();
+  /**
+   * Undefined while the start function runs.
+   * @type {WebAssembly.Instance | undefined}
+   */
   instance = undefined;
-  #callbacks;
-  #entries = 0; // how many calls by the host are open
-  #labels = new Map(); // of each br_table that came
-  #keeps; // whether the stack is kept
-  #table;
+  /**
+   * All that the output imports: the given imports and the hooks.
+   * @type {WebAssembly.Imports}
+   */
+  imports;
+  #read;
+  #stack;
+  /** Why the stack is not kept, or "". */
+  #lacks;
+  /** @type {Callees} */
+  #callees;
 
-  constructor(module, information, callbacks = {}, imports = {}) {
-    const unknown = Object.keys(callbacks).filter(name => !EVENTS.includes(name) && name !== "stray");
-    if (unknown.length) throw new Error(`no event is named ${unknown.join(", ")}; events are ${EVENTS.join(", ")} and stray`);
-    const {functions, groups, hooks} = information ?? {};
-    if (![functions, groups, hooks].every(Array.isArray)) throw new Error(FOREIGN);
+  /**
+   * @param {WebAssembly.Module} module the output
+   * @param {Information | string | Bytes} information what `instrument --info` wrote: parsed, as text or as bytes
+   * @param {Callbacks} [callbacks]
+   * @param {WebAssembly.Imports} [imports] what the original imports
+   * @param {Options} [options]
+   */
+  constructor(module, information, callbacks = {}, imports = {}, options = {}) {
+    if (!(module instanceof WebAssembly.Module)) throw new InformationError("the module is no WebAssembly.Module; start takes bytes too");
+    const {missing = "refuse", unselected = "refuse", stack = true, check, bytes} = checkOptions(options);
     this.module = module;
-    this.information = information;
-    this.#callbacks = callbacks;
-    this.#keeps = groups.includes("begin") && groups.includes("end");
-    this.imports = this.#allImports(imports);
+    this.information = informationOf(information);
+    const {groups, hooks} = this.information;
+    const {module: read, isVerified} = checkOutput(module, bytes && viewOf(bytes), this.information, check);
+    checkCallbacks(callbacks, groups, unselected);
+    this.#read = read;
+    this.#lacks = stack ? lackOf(["begin", "end"].filter(group => !groups.includes(group))) : "the option stack is false";
+    this.#stack = new Stack(this.#reachable());
+    const context = this.#context(callbacks, isVerified);
+    const handlers = hooks.map((name, place) => handlerOf(hookNamed(name), place, context));
+    this.imports = this.#allImports(imports, handlers, missing === "zeros");
+    this.#callees = this.#calleesOf(this.imports);
   }
 
-  // Takes the instance that was made of the module and the imports.
+  /**
+   * Takes the instance that was made of the module and the imports.
+   * @param {WebAssembly.Instance} instance
+   */
   attach(instance) {
     this.instance = instance;
-    this.names = namesOf(this.module, instance.exports, this.information);
-    for (const [name, value] of Object.entries(instance.exports)) {
-      if (value instanceof WebAssembly.Table) this.#table ??= value;
-      this.exports[name] = typeof value === "function" ? this.#entry(value) : value;
-    }
+    this.exports = instance.exports;
+    this.names = namesOf(this.module, this.#exported(), this.information);
+    this.#callees.attach(instance.exports);
     return this;
   }
 
-  // What is printed for a function: its name, or its number if it has no name.
+  /** The functions that are open, the outermost first. Needs the groups begin and end. */
+  get stack() {
+    if (this.#lacks) throw new StackError(`there is no stack: ${this.#lacks}`);
+    return this.#stack.settle().functions;
+  }
+
+  /** The parts that are open, functions among them, the innermost last. Needs the groups begin and end. */
+  get parts() {
+    if (this.#lacks) throw new StackError(`there are no open parts: ${this.#lacks}`);
+    return this.#stack.settle().places().map(({func, begin}) => {
+      const found = this.partsOf(func).find(it => it.begin === begin);
+      return {func, kind: found?.kind ?? "function", begin};
+    });
+  }
+
+  /**
+   * The name of a function, or its number if it has no name.
+   * @param {number} func
+   */
   nameOf(func) {
     return this.names.get(func) ?? `function ${func}`;
   }
 
-  // Calls an export as it is written in JavaScript, such as "f(1, 2)". Each number becomes the i32 or i64 that the function takes.
-  call(text) {
-    const [, name, list] = /^\s*([^(]*?)\s*\((.*)\)\s*$/s.exec(text) ?? [];
-    const called = this.instance.exports[name];
-    if (name === undefined) throw new Error(`no call: ${text}; a call is written as f(1, 2)`);
-    if (typeof called !== "function") throw new Error(`no exported function ${name}`);
-    const [params] = this.information.functions[originalIndex(Number(called.name), this.information)];
-    const words = list.split(",").map(word => word.trim()).filter(Boolean);
-    if (words.length !== params.length) throw new Error(`${name} takes ${params.length} arguments, and ${words.length} were given`);
-    const numbers = words.map(word => BigInt(word.replace(/n$/, "")));
-    return this.exports[name](...numbers.map((value, place) => (params[place] === "l" ? value : Number(value))));
+  /**
+   * The parts of a function, itself first, in ascending order of their begins; none if the original imports it.
+   * @param {number} func
+   */
+  partsOf(func) {
+    return (this.information.functions[func]?.[2] ?? []).map(partOf);
   }
 
-  #allImports(given) {
-    const {functions, hooks} = this.information, all = {}, found = [];
-    let hosts = 0;
+  /**
+   * Whether an error that a call threw is a trap of the module or a call that was too deep, and not an error of a callback or of the host.
+   * @param {unknown} error
+   */
+  isTrap(error) {
+    return isOfModule(error, !this.#stack.telling);
+  }
+
+  /**
+   * Calls an export: `call("f", 1, 2)`, or as it is written, `call("f(1, 2)")`. Each number becomes the i32 or i64 that the
+   * function takes.
+   * @param {string} text
+   * @param {(number | bigint)[]} values
+   * @returns {any}
+   */
+  call(text, ...values) {
+    if (!this.instance) throw new CallError("there is no instance to call: attach was not called, or the start function runs");
+    const isName = values.length > 0 || Object.hasOwn(this.exports, text);
+    /** @type {[string, (string | number | bigint)[]]} */
+    const [name, args] = isName ? [text, values] : callIn(text);
+    const [, index] = this.#exported().find(([it]) => it === name) ?? [];
+    if (index === undefined) throw new CallError(`no exported function ${name}`);
+    const [params] = this.information.functions[originalIndex(index, this.information)];
+    const numbers = valuesFor(name, args, params);
+    this.#stack.telling = false; // even if a callback threw before
+    return this.exports[name](...numbers);
+  }
+
+  /**
+   * The exported functions with their indices in the output.
+   * @returns {[name: string, index: number][]}
+   */
+  #exported() {
+    if (this.#read) return exportedFunctions(this.#read);
+    const functions = Object.entries(this.exports).filter(([, value]) => typeof value === "function");
+    return functions.map(([name, value]) => [name, Number(value.name)]);
+  }
+
+  /**
+   * @param {Callbacks} callbacks
+   * @param {boolean} isVerified
+   * @returns {import("./handlers.mjs").Context}
+   */
+  #context(callbacks, isVerified) {
+    const {information} = this;
+    return {
+      run: this, callbacks, isVerified, groups: new Set(information.groups), stack: this.#stack, keeps: this.#lacks === "",
+      isDefined: func => func >= information.imports && func < information.functions.length,
+      choicesAt: choicesOf(information),
+      calleeAt: slot => this.#callees.at(slot),
+      entered: (type, callee) => this.#callees.entered(type, callee),
+    };
+  }
+
+  /**
+   * Whether the host can call a function of the original.
+   * @returns {(func: number) => boolean}
+   */
+  #reachable() {
+    const read = this.#read;
+    if (!read) return () => true;
+    const isShared = read.exports.some(it => it.kind === 1) || read.imports.some(it => it.kind === "table");
+    const given = [...exportedFunctions(read).map(([, index]) => index), ...(isShared ? read.segments.flatMap(it => it.functions) : [])];
+    const reachable = new Uint8Array(this.information.functions.length);
+    for (const index of given) reachable[originalIndex(index, this.information)] = 1;
+    return func => reachable[func] === 1;
+  }
+
+  /**
+   * @param {any} given
+   * @param {Function[]} handlers
+   * @param {boolean} fills whether missing functions are supplied
+   * @returns {WebAssembly.Imports}
+   */
+  #allImports(given, handlers, fills) {
+    const all = Object.create(null);
+    /** @type {{module: string, name: string, kind: string}[]} */
+    const missing = [];
+    let hosts = 0, hooks = 0;
     for (const {module, name, kind} of WebAssembly.Module.imports(this.module)) {
-      all[module] ??= {};
-      if (module === HOOKS) found.push(name);
-      const own = module === HOOKS ? this.#hook(name, found.length - 1) : given[module]?.[name];
-      if (kind === "function") hosts += module === HOOKS ? 0 : 1;
-      if (own === undefined && kind !== "function") throw new Error(`the imports lack the ${kind} ${module}.${name}`);
-      if (kind === "table") this.#table ??= own;
-      all[module][name] = own ?? zeros(functions[hosts - 1]?.[1] ?? "");
+      const fields = all[module] ??= Object.create(null);
+      if (module === HOOKS && kind === "function") fields[name] = handlers[hooks++];
+      else {
+        let value = given?.[module]?.[name];
+        if (kind === "function") {
+          const func = hosts++, [params, results] = this.information.functions[func];
+          if (value === undefined && fills) value = zeros(results);
+          if (typeof value === "function" && !this.#lacks && !this.#mustStay(func, value)) value = this.#stack.hosted(value, params.length);
+        }
+        if (value === undefined) missing.push({module, name, kind});
+        fields[name] = value;
+      }
     }
-    if (hosts !== this.information.imports || found.join() !== hooks.join()) {
-      throw new Error(FOREIGN);
-    }
+    if (missing.length > 0) throw new MissingImportError(missing);
     return all;
   }
 
-  // A call by the host. What it leaves open at a trap is closed.
-  #entry(called) {
-    return (...args) => {
-      if (this.#entries === 0) this.#cut(0, 0);
-      const [functions, parts] = [this.stack.length, this.parts.length];
-      this.#entries++;
-      try {
-        return called(...args);
-      } catch (trap) {
-        this.#cut(functions, parts);
-        throw trap;
-      } finally {
-        this.#entries--;
-      }
-    };
+  /**
+   * Whether the host may see again that a function is the one that it gave: an instance's function that the module exports, or that is in
+   * its table.
+   * @param {number} func
+   * @param {Function} value
+   */
+  #mustStay(func, value) {
+    const read = this.#read;
+    if (!read || !isOfInstance(value)) return false;
+    return exportedFunctions(read).some(([, index]) => index === func) || read.segments.some(it => it.functions.includes(func));
   }
 
-  #cut(functions, parts) {
-    this.stack.length = functions;
-    this.parts.length = parts;
-  }
-
-  // The function to import for a hook, which is the one of this place in the information.
-  #hook(name, place) {
-    const {event, read} = hookNamed(name);
-    const {stray} = this.#callbacks;
-    const isBranch = event === "br_table";
-    const moves = event === "begin" || event === "end" || isBranch; // the stack
-    const needed = stray ?? this.#callbacks[event] ?? (isBranch ? this.#callbacks.end : undefined) ?? (this.#keeps && moves);
-    if (!needed) return () => {};
-    return (func, position, ...words) => {
-      func >>>= 0;
-      const fields = read(words);
-      const taken = isBranch ? this.#labelsAt(func, position)?.(fields.index) : undefined;
-      if (!(this.information.functions[func]?.length > 2) || (isBranch && !taken)) {
-        stray?.({hook: place, words: [func, position, ...words]}, this);
-      } else if (isBranch) {
-        this.#branch(func, position, fields.index, taken);
-      } else {
-        if (event === "call_indirect_pre") fields.callee = this.#callee(fields.slot);
-        this.#tell(event, {location: {func, position}, ...fields});
-      }
-    };
-  }
-
-  // What the br_table at a position does, by its index: the label, and the parts that it leaves, the innermost first.
-  #labelsAt(func, position) {
-    const key = `${func}:${position}`;
-    if (!this.#labels.has(key)) {
-      const [, , blocks = [], tables = []] = this.information.functions[func] ?? [];
-      const [, labels] = tables.find(([at]) => at === position) ?? [];
-      const around = blocks.filter(([, begin, end]) => begin < position && position < end).reverse()
-        .map(([kind, begin, end, target]) => ({kind: KINDS[kind], begin, end, target}));
-      this.#labels.set(key, labels && (index => {
-        const label = labels[Math.min(index, labels.length - 1)];
-        return label < around.length ? {label, target: around[label].target, left: around.slice(0, label + 1)} : undefined;
-      }));
-    }
-    return this.#labels.get(key);
-  }
-
-  #branch(func, position, index, {label, target, left}) {
-    const {groups} = this.information;
-    if (groups.includes("br_table")) this.#tell("br_table", {location: {func, position}, index, label, target, left});
-    if (!groups.includes("end")) return;
-    for (const {kind, begin, end} of left) this.#tell("end", {location: {func, position: end}, kind, begin});
-  }
-
-  // The function of the original in a slot of the table: null if there is none, undefined if the table is not known.
-  #callee(slot) {
-    if (!this.#table) return undefined;
-    const found = slot < this.#table.length ? this.#table.get(slot) : null;
-    const index = found ? Number(found.name) : -1;
-    const {imports, hooks} = this.information;
-    return index < 0 || (index >= imports && index < imports + hooks.length) ? null : originalIndex(index, this.information);
-  }
-
-  #tell(event, fields) {
-    if (this.#keeps && event === "begin") this.#open(fields);
-    this.#callbacks[event]?.(fields, this);
-    if (this.#keeps && event === "end") this.#close(fields);
-  }
-
-  #open({location: {func, position}, kind}) {
-    this.parts.push({func, kind, begin: position});
-    if (kind === "function") this.stack.push(func);
-  }
-
-  #close({location: {func}, kind, begin}) {
-    const is = part => part.func === func && part.begin === begin && part.kind === kind;
-    while (this.parts.length && !is(this.parts.at(-1))) this.#drop();
-    this.#drop();
-  }
-
-  #drop() {
-    if (this.parts.pop()?.kind === "function") this.stack.pop();
+  /** @param {any} imports */
+  #calleesOf(imports) {
+    const given = WebAssembly.Module.imports(this.module).map(({module, name, kind}) => ({kind, value: imports[module][name]}));
+    const globals = given.filter(it => it.kind === "global").map(it => it.value);
+    return new Callees(this.information, this.#read, given.find(it => it.kind === "table")?.value, globals);
   }
 }
 
-// A function of the host that answers zeros.
+/** @param {string[]} groups that an output lacks */
+const lackOf = groups => (groups.length === 0 ? "" : `the output lacks the ${groups.length > 1 ? "groups" : "group"} ${groups.join(", ")}`);
+
+/**
+ * Whether a function is one of an instance, which a table takes.
+ * @param {Function} func
+ */
+function isOfInstance(func) {
+  try {
+    new WebAssembly.Table({element: "anyfunc", initial: 1}).set(0, func);
+    return true;
+  } catch {
+    return false;
+  }
+}
+
+/**
+ * A function of the host that returns zeros.
+ * @param {string} results
+ */
 function zeros(results) {
   const values = [...results].map(letter => (letter === "l" ? 0n : 0));
   return () => (values.length > 1 ? values : values[0]);
 }
 
-// Makes an instance of the output, which runs its start function. The output is its bytes or the module that was compiled of
-// them, the information its text or what JSON.parse makes of that.
-export async function start(output, information, callbacks = {}, imports = {}) {
-  const module = output instanceof WebAssembly.Module ? output : await WebAssembly.compile(output);
-  const run = new Run(module, typeof information === "string" ? JSON.parse(information) : information, callbacks, imports);
+/**
+ * Makes an instance of the output, which runs its start function.
+ * @param {WebAssembly.Module | Bytes} output its bytes, or the module that was compiled of them
+ * @param {Information | string | Bytes} information what `instrument --info` wrote: as text, as bytes or parsed
+ * @param {Callbacks} [callbacks]
+ * @param {WebAssembly.Imports} [imports] what the original imports
+ * @param {Options} [options]
+ */
+export async function start(output, information, callbacks = {}, imports = {}, options = {}) {
+  const isModule = output instanceof WebAssembly.Module;
+  if (!isModule && !isBytes(output)) throw new InformationError("the output is neither bytes nor a WebAssembly.Module");
+  const module = isModule ? output : await WebAssembly.compile(viewOf(output));
+  const run = new Run(module, information, callbacks, imports, isModule ? options : {...options, bytes: output});
   return run.attach(await WebAssembly.instantiate(module, run.imports));
 }

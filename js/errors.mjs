@@ -1,0 +1,41 @@
+// The refusals of the runtime. Each has a sentence. An error of an analysis, or of the module, is never one of these.
+
+export class WasabiError extends Error {}
+
+/** The output is no output, or the information is none, or does not belong to the output. */
+export class InformationError extends WasabiError {}
+
+/** The callbacks have a name that is no event, or an event that the output does not tell. */
+export class CallbackError extends WasabiError {}
+
+/** The stack of open functions can't be kept. */
+export class StackError extends WasabiError {}
+
+/** There is no such option, or it can't have this value. */
+export class OptionError extends WasabiError {}
+
+/** A call of `run.call` can't be made. */
+export class CallError extends WasabiError {}
+
+/** A script is not of its form. */
+export class ScriptError extends WasabiError {}
+
+/** A recorder has no trace, or one that is too long, or a text is no report. */
+export class RecordError extends WasabiError {}
+
+/** Imports of the original are missing. It is a LinkError, as engines throw one. */
+export class MissingImportError extends WebAssembly.LinkError {
+  /** @param {{module: string, name: string, kind: string}[]} missing */
+  constructor(missing) {
+    super(`the imports lack ${missing.map(({module, name, kind}) => `the ${kind} ${module}.${name}`).join(", ")}`);
+    this.missing = missing;
+  }
+}
+
+const ALL = {
+  WasabiError, InformationError, CallbackError, StackError, OptionError, CallError, ScriptError, RecordError, MissingImportError,
+};
+// As of the engine's own errors, the prototype has the name. A bundler may shorten the names of classes, but not these.
+for (const [name, {prototype}] of Object.entries(ALL)) {
+  Object.defineProperty(prototype, "name", {value: name, writable: true, configurable: true});
+}
