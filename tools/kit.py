@@ -1,4 +1,6 @@
 """The kit's own scripts as a library: which crates there are, how one is checked and built, and what its text has."""
+from __future__ import annotations
+
 import functools
 import importlib.machinery
 import importlib.util
@@ -7,15 +9,17 @@ import re
 import shutil
 import sys
 import threading
+from typing import Any, NoReturn
 
 TOP = os.path.dirname(os.path.dirname(os.path.realpath(__file__)))
 BIN = os.path.dirname(os.path.realpath(shutil.which("rt") or "/opt/rattle/bin/rt"))
 
 
-def load(name):
+def load(name: str) -> Any:
     """Loads a script of the kit, from the folder of its command rt."""
     loader = importlib.machinery.SourceFileLoader(re.sub(r"\W", "_", name.removesuffix(".py")), f"{BIN}/{name}")
     spec = importlib.util.spec_from_loader(loader.name, loader)
+    assert spec
     made = importlib.util.module_from_spec(spec)
     sys.modules[loader.name] = made
     try:
@@ -25,9 +29,9 @@ def load(name):
     return made
 
 
-def stop():
+def stop() -> NoReturn:
     """Ends with status 3, if the kit's scripts are others than those that are known here."""
-    print("tools: this kit's scripts are others than those of the kits that README names", file=sys.stderr)
+    print("tools: this kit's scripts are others than those of the kits that docs/PROVED.md names", file=sys.stderr)
     sys.exit(3)
 
 
@@ -36,8 +40,8 @@ with open(f"{os.path.dirname(BIN)}/KIT-ID", encoding="utf-8") as it:
     KIT_ID = it.read().strip()
 # What is used of them, here and in what stands on this file.
 USED = {
-    rtlib: "crates_below guarded lock number_in text_of PARTS RATTLE Crate",
-    rtlib.Crate: "below build_and_run build_rlib count is_built makes_rlib stamp words",
+    rtlib: "crates_below guarded kit_sources lock number_in text_of PARTS RATTLE Crate",
+    rtlib.Crate: "below build_and_run build_rlib count is_built makes_rlib sources_below stamp words",
     bodies: "Source named",
 }
 if not all(hasattr(it, name) for it, names in USED.items() for name in names.split()):
@@ -45,7 +49,7 @@ if not all(hasattr(it, name) for it, names in USED.items() for name in names.spl
 _sums, _sum = threading.local(), rtlib.Crate.stamp
 
 
-def _sum_once(crate):
+def _sum_once(crate: Any) -> Any:
     """The kit's sum of what a crate is made from. The kit takes it once for each path to a crate below; this takes it once a call."""
     if getattr(_sums, "known", None) is None:
         _sums.known = {}
@@ -61,21 +65,21 @@ def _sum_once(crate):
 rtlib.Crate.stamp = _sum_once
 
 
-def crates(folder=f"{TOP}/crates"):
+def crates(folder: str = f"{TOP}/crates") -> list[Any]:
     """Returns the crates at or below a folder, and those below them, lowest first."""
-    return rtlib.crates_below(folder)
+    return list(rtlib.crates_below(folder))
 
 
-def files_in(folder, parts=rtlib.PARTS):
+def files_in(folder: str, parts: Any = rtlib.PARTS) -> list[str]:
     """Returns the files of a crate's parts, in order."""
-    found = []
+    found: list[str] = []
     for part in parts:
         for at, folders, names in os.walk(f"{folder}/{part}"):
             found += [f"{at}/{it}" for it in names]
     return sorted(found)
 
 
-def source_at(folder):
+def source_at(folder: str) -> Any:
     """Reads the functions and types of the crate in a folder."""
     source = bodies.Source(folder)
     source.read("src/main.rt" if os.path.isfile(f"{folder}/src/main.rt") else "src/lib.rt")
@@ -87,7 +91,7 @@ SAYS_NOTHING = re.compile(rb"(?m)^[ \t]*(//.*|#\[(inline|cold)\b.*\])?\n")
 
 
 @functools.lru_cache(maxsize=None)
-def stated_by(folder):
+def stated_by(folder: str) -> list[tuple[str, bytes]]:
     """Returns what a crate states to those above it: its definitions, and its code without private functions, bodies and comments."""
     found = []
     for file in files_in(folder, ("specs",)):
@@ -95,7 +99,7 @@ def stated_by(folder):
     source = source_at(folder)
     for file, data in sorted(source.data.items()):
         kept, at = b"", 0
-        for f in sorted((it for it in source.functions if it.file == file and it.has_body), key=lambda it: it.opens):
+        for f in sorted((it for it in source.functions if it.file == file and it.has_body), key=lambda it: int(it.opens)):
             begins = f.opens if f.is_pub else f.first
             if begins >= at:
                 kept, at = kept + data[at:begins], f.end
@@ -103,7 +107,7 @@ def stated_by(folder):
     return found
 
 
-def is_made(crate):
+def is_made(crate: Any) -> bool:
     """Returns whether a library stands as its sources are: by the kit's sum or, behind the gate, which keeps none, by when it was put there."""
     if crate.is_built():
         return True
@@ -111,4 +115,4 @@ def is_made(crate):
         return False
     files = [file for it in [crate, *crate.below()] for file in files_in(it.folder)]
     # what an earlier run of the gate proved is put there with the time of that run as its own
-    return max(map(os.path.getmtime, files)) < os.stat(f"{crate.rlib}/format").st_ctime
+    return max(os.path.getmtime(it) for it in files) < os.stat(f"{crate.rlib}/format").st_ctime

@@ -3,6 +3,9 @@
 With all hooks each instruction that is done tells an event, so the one that trapped comes behind that of the last event. It is named
 only if it is one that traps for the cause that the program prints.
 """
+from __future__ import annotations
+
+import collections
 import json
 import os
 import re
@@ -10,85 +13,53 @@ import resource
 import subprocess
 import tempfile
 import time
+from typing import TYPE_CHECKING, Any, Iterator, Sequence
 
 import files
 import scripts
-from module import Module, Stop
+from front.words import Line
+from search import named
+from wasabi_tools.faults import Fault
+from wasabi_tools.module import Module
 
-# The seconds are of a processor, for each command, and by the clock, for all.
-LARGEST_MODULE, LONGEST_TRACE, SECONDS, WAIT = 1 << 20, 1 << 20, 3, 60
-# What stands behind the place of an event, by its tag: a number, a byte, a value, values, or a function or none.
-FIELDS = {
-    1: "", 2: "", 3: "", 4: "n", 5: "nn", 6: "nnn", 7: "nnn", 8: "b", 9: "bn", 10: "v", 11: "bvv", 12: "bvvv", 13: "v", 14: "vvn",
-    15: "bnv", 16: "bnv", 17: "bnnv", 18: "bnnv", 19: "n", 20: "nn", 21: "nV", 22: "nnfV", 23: "V", 24: "V",
-}
-UNREACHABLE, IF, BR_TABLE, CALL, CALL_INDIRECT, STRAY = 3, 4, 7, 21, 22, 25
+if TYPE_CHECKING:
+    from wasabi_tools.traces import Event
+
+# The seconds are of a processor, and for all commands together; the clock may show more of them on a machine that is busy.
+LARGEST_MODULE, LONGEST_TRACE, SECONDS, WAIT = 1 << 20, 1 << 20, 1, 20
 NUMBERS = [*range(0x6D, 0x71), *range(0x7F, 0x83)]
-TRAPS = {
+TRAPS: dict[str, Sequence[int]] = {
     "unreachable": [0], "divide by zero": NUMBERS, "integer overflow": NUMBERS, "out of bounds": range(0x28, 0x3F),
     "no slot": [0x11], "empty slot": [0x11], "wrong type": [0x11], "call depth": [0x10, 0x11],
 }
 
 
-class Trace:
-    """The events of a trace, from the front."""
-
-    def __init__(self, data):
-        self.data, self.at = data, 4
-
-    def number(self, signed=False):
-        value = shift = 0
-        while True:
-            byte = self.data[self.at]
-            self.at += 1
-            value |= (byte & 127) << shift
-            shift += 7
-            if byte < 128:
-                return value - (1 << shift) if signed and byte & 64 else value
-
-    def field(self, form):
-        if form == "b":
-            self.at += 1
-        elif form == "n":
-            return self.number()
-        elif form == "v":
-            self.at += 1
-            self.number()
-        elif form == "f":
-            self.at += 1
-            if self.data[self.at - 1]:
-                self.number()
-        else:
-            for _ in range(self.number()):
-                self.field("v")
-        return None
-
-    def last(self):
-        """Returns the last event: its tag, function, position and fields; None if there is none, or a stray."""
-        event = None
-        while self.data[self.at]:
-            tag = self.data[self.at]
-            self.at += 1
-            if tag == STRAY:
-                return None
-            event = tag, self.number(), self.number(signed=True), [self.field(it) for it in FIELDS[tag]]
-        return event
+def last_event(path: str) -> Event | None:
+    """Returns the last event of a trace, or None if there is none or it is a stray."""
+    from wasabi_tools.traces import Trace  # (only here, because it takes a while)
+    events = collections.deque(Trace(path).events(), maxlen=1)
+    return events[0] if events and events[0].name != "stray" else None
 
 
 class Runs:
     """Runs of the output of a module with all hooks, in a folder, till a time."""
 
-    def __init__(self, program, folder):
+    def __init__(self, program: str, folder: str) -> None:
         self.program, self.folder, self.end = program, folder, time.monotonic() + WAIT
-        self.path = lambda name: os.path.join(folder, name)
 
-    def run(self, *words):
+    def path(self, name: str) -> str:
+        return os.path.join(self.folder, name)
+
+    def run(self, *words: str) -> tuple[int, str]:
         left = max(self.end - time.monotonic(), 0.01)
+        used = resource.getrusage(resource.RUSAGE_CHILDREN)
+        if used.ru_utime + used.ru_stime > SECONDS:
+            raise subprocess.TimeoutExpired(words, SECONDS)
         limit = lambda: resource.setrlimit(resource.RLIMIT_CPU, (SECONDS, SECONDS))
         done = subprocess.run([self.program, *words], capture_output=True, timeout=left, check=False, preexec_fn=limit)
         return done.returncode, done.stdout.decode("utf-8", "replace")
 
-    def record(self, script):
+    def record(self, script: dict[str, Any]) -> str:
         """Returns what is printed of a run by a script whose steps do not end it."""
         with open(self.path("s.json"), "w", encoding="utf-8") as file:
             json.dump({**script, "steps": scripts.RANGES["steps"][1]}, file)
@@ -96,25 +67,25 @@ class Runs:
         return self.run("record", self.path("b.wasm"), *names, "--max-output", str(LONGEST_TRACE))[1]
 
 
-def first_trap(text):
+def first_trap(text: str) -> tuple[int, str] | None:
     """Returns the number of the first call that trapped, -1 for the start, and the cause; None if none did."""
     found = re.search(r"^(?:start|call (\d+) .*): trap ([a-z ]+)$", text, re.M)
-    return found and (int(found[1] or -1), found[2])
+    return (int(found[1] or -1), found[2]) if found else None
 
 
-def place_behind(event, blocks):
+def place_behind(event: Event, blocks: list[list[int]]) -> int | None:
     """Returns the position of the instruction that comes behind an event, by the blocks of its function."""
-    tag, _, position, fields = event
-    if tag in (UNREACHABLE, CALL, CALL_INDIRECT):
+    position, target = event.position, event.fields.get("target")
+    if position is None or event.name in ("unreachable", "call_pre", "call_indirect_pre"):
         return position
-    if tag == BR_TABLE:
-        return fields[2]
-    if tag == IF and not fields[0]:
+    if event.name == "br_table":
+        return target if isinstance(target, int) else None
+    if event.name == "if" and not event.fields["condition"]:
         return next(it[3] for it in blocks if it[1] == position)
     return position + 1
 
 
-def trap_of(runs, data, script):
+def trap_of(runs: Runs, data: bytes, script: dict[str, Any]) -> Iterator[str]:
     """Yields the instruction that trapped first in the run of a script."""
     trap = first_trap(runs.record(script))
     if trap and trap[0] + 1 < len(script["calls"]):
@@ -122,25 +93,31 @@ def trap_of(runs, data, script):
         trap = first_trap(runs.record(script))
     if not trap:
         return
-    event = Trace(files.read(runs.path("t"))).last()
-    blocks = json.loads(files.read(runs.path("b.json")))["functions"][event[1]][2]
+    event = last_event(runs.path("t"))
+    if event is None or event.func is None:
+        return
+    blocks = json.loads(files.read(runs.path("b.json")) or b"{}")["functions"][event.func][2]
     place, module = place_behind(event, blocks), Module(data)
-    for position, code, at in module.instructions(event[1]):
-        if position == place and code in TRAPS.get(trap[1], []):
-            yield "the first trap, %s, was in %s at position %d, byte %#x of the file" % (trap[1], module.named(event[1]), place, at)
+    body = module.body(event.func)
+    if place is not None and place < len(body) and body[place].opcode in TRAPS.get(trap[1], []):
+        yield "the first trap, %s, was in %s at position %d, byte %#x of the file" % (trap[1], named(module, event.func), place, body[place].offset)
 
 
-def trapped(program, line):
+def trapped(program: str, line: Line) -> Iterator[str]:
     """Yields the place at which a run trapped first, if that is found in a few seconds."""
     if line.mode in ("report", "record", "tree"):
         yield "run looks for the instruction that trapped, if it is given the module that %s was made from" % line.subject
     data, text = files.read(line.subject), files.read(line.value("--script"))
-    if line.mode not in ("run", "taint") or data is None or text is None or len(data) > LARGEST_MODULE:
+    if line.mode not in ("run", "taint") or line.subject is None or data is None or text is None:
         return
+    found = []
     try:
         with tempfile.TemporaryDirectory() as folder:
             runs, script = Runs(program, folder), scripts.parse(text)[0]
-            if runs.run("instrument", "--out", runs.path("b.wasm"), "--info", runs.path("b.json"), "--", line.subject)[0] == 0:
-                yield from trap_of(runs, data, script)
-    except (subprocess.TimeoutExpired, OSError, LookupError, TypeError, StopIteration, Stop):
+            names = ["--out", runs.path("b.wasm"), "--info", runs.path("b.json")]
+            if len(data) <= LARGEST_MODULE and runs.run("instrument", *names, "--", line.subject)[0] == 0:
+                found = list(trap_of(runs, data, script))
+    except (subprocess.TimeoutExpired, OSError, LookupError, TypeError, StopIteration, Fault):
         pass
+    yield from found or [
+        "the instruction that trapped is not found at once; the trace that record makes of an output with all hooks ends right before the last trap"]

@@ -1,0 +1,5 @@
+int f(int a) {
+  if (a)
+    a += 2;
+  return a;
+}

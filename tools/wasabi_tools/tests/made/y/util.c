@@ -1,0 +1,7 @@
+
+
+int g(int a) {
+  if (a)
+    a += 3;
+  return a;
+}
