@@ -30,7 +30,7 @@ async function main() {
   const {command} = await import("../js/command.mjs");
   const print = event => ({location: {func, position}, ...fields}) =>
     console.log(`  ${func}:${position} ${hookOf(event, fields)} ${fieldsOf(event, fields)}`);
-  await command(USAGE, Object.fromEntries(EVENTS.map(event => [event, print(event)])));
+  await command(USAGE, Object.fromEntries(EVENTS.map(event => [event, print(event)])), process.argv.slice(2), {unselected: "ignore"});
 }
 
 main();

@@ -1,7 +1,6 @@
 // Runs a module for live.html, and tells it some twenty times a second how often each block began and each call came.
-import {start} from "../js/wasabi.mjs";
+import {KINDS, start} from "../js/wasabi.mjs";
 
-const KINDS = ["function", "block", "loop", "if", "else"];
 const INTERVAL = 50; // milliseconds between two messages
 const SHOWN = 8; // open functions that are shown, the innermost ones
 
@@ -57,7 +56,7 @@ onmessage = async ({data}) => {
   try {
     began = performance.now();
     ({speed} = data);
-    const run = await start(data.output, data.information, callbacks);
+    const run = await start(data.output, data.information, callbacks, {}, {missing: "zeros"});
     let answer;
     try {
       answer = `${data.call} = ${run.call(data.call)}`;

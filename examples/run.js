@@ -24,7 +24,7 @@ function programOf(name) {
 
 const program = programOf(file);
 const counts = new Map();
-const hooks = {};
+const hooks = Object.create(null);
 const others = WebAssembly.Module.imports(program).filter(({module}) => module !== "__wasabi_hooks");
 const known = WebAssembly.Module.exports(program).map(({name}) => name);
 if (others.length > 0 || !["memory", "place", "crc32"].every(name => known.includes(name))) {
