@@ -3,9 +3,9 @@ const fs = require("fs");
 const program = new WebAssembly.Module(fs.readFileSync(process.argv[2]));
 const {calls} = JSON.parse(fs.readFileSync(process.argv[3], "utf8"));
 const told = [];
-const imports = {};
+const imports = Object.create(null);
 for (const {module, name} of WebAssembly.Module.imports(program)) {
-  imports[module] ??= {};
+  imports[module] ??= Object.create(null);
   imports[module][name] = module === "__wasabi_hooks"
     ? (...words) => { told.push({hook: name, words: words.map(word => word >>> 0)}); }
     : () => 0;
