@@ -1,89 +1,122 @@
 #!/usr/bin/env python3
-"""Compares the documents with what ./wasabi --help says: they name the same modes, options, groups of hooks and statuses. It also looks
-for files that a document names and that are not there, for lemmas and definitions that docs/PROOFS.md names beside a file that lacks
-them, and for cells of tables that are longer than 200 characters. It prints what is wrong, and ends with 1 if something is."""
+"""Compares the table of tools/front with the program, and the documents with the table: they name the same modes, options, groups of
+hooks, kinds of reports and statuses, and the version of the file VERSION. It also looks for cells of tables that are longer than 200
+characters. It prints what is wrong, and ends with 1 if something is, with --check and without. Links and names of files are
+docs/links.py's."""
+from __future__ import annotations
+
 import glob
+import json
 import os
 import re
-import subprocess
 import sys
+from typing import Dict, Iterator, List, Tuple
 
 TOP = os.path.dirname(os.path.dirname(os.path.abspath(__file__)))
+sys.dont_write_bytecode = True
+sys.path.insert(0, os.path.join(TOP, "tools"))
+from front import pages, table
 LONGEST_CELL = 200
 
 
-def read(name):
+def read(name: str) -> str:
     with open(os.path.join(TOP, name), encoding="utf-8") as source:
         return source.read()
 
 
-def under(heading, page):
+def found_in(form: str, text: str, flags: int = 0) -> re.Match[str]:
+    """The first match of a form; that there is none is a fault of this script or of a file that it reads."""
+    found = re.search(form, text, flags)
+    assert found, form
+    return found
+
+
+def under(heading: str, page: str) -> str:
     """What stands under a heading of a document, up to the next one that is not below it."""
     level = heading.split(" ")[0]
     text = page.partition("\n%s\n" % heading)[2]
     return re.split(r"^#{1,%d} " % len(level), text, maxsplit=1, flags=re.M)[0]
 
 
-def of_help(page, heading):
-    """The first words of the entries under a line of the page on the usage."""
-    part = re.search(r"^%s\b.*\n((?:  .*\n)+)" % heading, page, re.M)
-    return re.findall(r"^  (\S+)", part[1], re.M) if part else []
-
-
-def cells(page):
+def cells(page: str) -> Iterator[str]:
     for line in page.splitlines():
         if line.startswith("|"):
             yield from (it.strip() for it in re.split(r"(?<!\\)\|", line.strip("| ")))
 
 
-def wrong_names():
-    """The documents that name other modes, options, groups or statuses, or name them in another order."""
-    usage = subprocess.run([os.path.join(TOP, "wasabi"), "--help"], capture_output=True, check=True, encoding="utf-8").stdout
-    formats, hooks, readme = read("docs/FORMATS.md"), read("docs/HOOKS.md"), read("README.md")
-    options = under("## Options", formats)
-    groups = re.search(r"The groups of hooks are (.*?)\.", readme, re.S)[1]
-    told = {
-        ("Modes", "docs/FORMATS.md"): re.findall(r"^### (\w+)$", under("## Modes", formats), re.M),
-        ("Modes", "README.md"): re.findall(r"^- `(\w+)`", under("## Modes and groups", readme), re.M),
-        ("Options", "docs/FORMATS.md"): re.findall(r"^\| `(--[a-z-]+)", options, re.M),
-        ("Groups", "docs/HOOKS.md"): list(dict.fromkeys(re.findall(r"^\| `(\w+)` \|", under("## The hooks", hooks), re.M))),
-        ("Groups", "README.md"): re.findall(r"`(\w+)`", groups),
-        ("Statuses", "docs/FORMATS.md"): list(dict.fromkeys(re.findall(r"^\| (\d+) \|", under("## Statuses", formats), re.M))),
-        # (the script alone gives 70)
-        ("Statuses", "crates/app_load/src/status.rt"): re.findall(r"=> (\d+),", read("crates/app_load/src/status.rt")) + ["70"],
+def stated() -> Dict[str, List[str]]:
+    """The names that the table has, by what they are."""
+    return {
+        "modes": [it.name for it in table.MODES],
+        "options": [it.name for it in table.OPTIONS],
+        "groups": [it.name for it in table.GROUPS],
+        "kinds": [it.name for it in table.KINDS],
+        "statuses": [str(it.number) for it in table.STATUSES],
     }
-    for (heading, document), names in told.items():
-        stated = of_help(usage, heading)
-        if names != stated or not stated:
-            yield "%s: the %s are %s, and in ./wasabi --help %s" % (document, heading.lower(), " ".join(names), " ".join(stated))
 
 
-def lost_in_proofs():
-    """Files of crates/ that docs/PROOFS.md names and that are not there, and names beside a file that are not in it."""
-    page = read("docs/PROOFS.md")
-    places = set(re.findall(r"`(\w+/(?:src|specs|proofs)/[\w+/]+)", page))
-    # (a name, and its file behind it, in brackets or after "of"; or in a table the file first, and its names in the next cell)
-    named = re.findall(r"`(\w+)`\s+(?:\(|of\s+)`(\w+/(?:specs|proofs)/\w+(?:/\w+)*)`", page)
-    for place, names in re.findall(r"^\| `(\w+/proofs/\w+)` \| (`[^|]*`) \|", page, re.M):
-        named += [(name, place) for name in re.findall(r"`(\w+)`", names)]
-    for place in sorted(places):
-        path = os.path.join(TOP, "crates", place)
-        if not any(map(os.path.exists, (path, path + ".antt", path + ".rt"))):
-            yield "docs/PROOFS.md: there is no crates/%s" % place
-    for name, place in named:
-        path = os.path.join("crates", place + ".antt")
-        if os.path.isfile(os.path.join(TOP, path)) and not re.search(r"^ *(?:\w+ )*%s\b" % name, read(path), re.M):
-            yield "docs/PROOFS.md: %s has no %s" % (path, name)
+def of_program() -> Dict[Tuple[str, str], List[str]]:
+    """The names in the sources of the program, by what they are and where they stand. The script alone has --in-place and 70."""
+    command, groups = read("crates/command_line/src/command.rt"), read("crates/hook_select/src/lib.rt")
+    options = found_in(r"const OPTIONS: .*?\[(.*?)\n\];", command, re.S)[1]
+    rows = found_in(r"macro_rules! each_group .*?\n}", groups, re.S)[0]
+    modes = re.findall(r'"(\w+)" => \w+\(', read("crates/wasabi_app/src/app.rt"))
+    found = {
+        ("modes", "crates/wasabi_app/src/app.rt"): modes,
+        ("options", "crates/command_line/src/command.rt"): ["--" + it for it in re.findall(r'\(\s*"([\w-]+)", *\n? *Takes', options)] + ["--in-place"],
+        ("groups", "crates/hook_select/src/lib.rt"): re.findall(r'"(\w+)"', rows),
+        ("statuses", "crates/app_load/src/status.rt"): re.findall(r"=> (\d+),", read("crates/app_load/src/status.rt")) + ["70"],
+        ("kinds", "crates/app_load/src/kinds.rt"): re.findall(r"^    (\w+): bool", read("crates/app_load/src/kinds.rt"), re.M),
+    }
+    most = dict(re.findall(r"pub(?:\(crate\))? const (\w+): u64 = ([\d_]+);", command + read("crates/module_ast/src/module.rt")))
+    numbers = re.findall(r'"([\w-]+)",\s*Takes::NumberTo\((\w+)', options)
+    found["greatest numbers", "crates/command_line/src/command.rt"] = [f"--{name} {int(most[limit])}" for name, limit in numbers]
+    return found
 
 
-def main():
-    wrong = [*wrong_names(), *lost_in_proofs()]
+def wrong_names() -> Iterator[str]:
+    """What the program or a document has otherwise than the table, or in another order if a document has an order."""
+    commands, hooks, readme = read("docs/CLI.md"), read("docs/HOOKS.md"), read("README.md")
+    groups = found_in(r"The groups of hooks are (.*?)\.", readme, re.S)[1]
+    told = {
+        ("modes", "docs/CLI.md"): re.findall(r"^### (\w+)$", under("## Modes", commands), re.M),
+        ("modes", "README.md"): re.findall(r"^- `(\w+)`", under("## Modes and groups", readme), re.M),
+        ("options", "docs/CLI.md"): re.findall(r"^\| `(--[a-z-]+)", under("## Options", commands), re.M),
+        ("groups", "docs/HOOKS.md"): list(dict.fromkeys(re.findall(r"^\| `(\w+)` \|", under("## The hooks", hooks), re.M))),
+        ("groups", "README.md"): re.findall(r"`(\w+)`", groups),
+        ("statuses", "docs/CLI.md"): list(dict.fromkeys(re.findall(r"^\| (\d+) \|", under("## Statuses", commands), re.M))),
+    }
+    rows = stated()
+    for (what, document), names in told.items():
+        if names != rows[what] or not names:
+            yield f"{document}: the {what} are {' '.join(names)}, and in tools/front/table.py {' '.join(rows[what])}"
+    rows["greatest numbers"] = [f"{it.name} {it.most}" for it in table.OPTIONS if it.most]
+    for (what, source), names in of_program().items():
+        if sorted(names) != sorted(rows[what]) or not names:
+            yield f"tools/front/table.py: the {what} are {' '.join(rows[what])}, and in {source} {' '.join(names)}"
+    for line in [it for mode in table.MODES for it in pages.page(mode)] + pages.main_page():
+        if len(line) > pages.WIDTH:
+            yield f"tools/front: a line of a page is too long: {line}"
+
+
+def wrong_versions() -> Iterator[str]:
+    """Where another version is told than the one of the file VERSION."""
+    version = read("VERSION").strip()
+    told = {"CHANGELOG.md": found_in(r"^## (\S+)", read("CHANGELOG.md"), re.M)[1]}
+    if os.path.exists(os.path.join(TOP, "js/package.json")):
+        told["js/package.json"] = json.loads(read("js/package.json"))["version"]
+    for document in ("README.md", "docs/RUNTIME.md"):
+        told.update((document, it) for it in re.findall(r"\bwasabi (\d+\.\d+\.\d+)", read(document)))
+    for document, other in told.items():
+        if other != version:
+            yield f"{document}: the version is {other}, and in VERSION {version}"
+
+
+def main() -> int:
+    wrong = [*wrong_names(), *wrong_versions()]
     for path in sorted(glob.glob(os.path.join(TOP, "*.md")) + glob.glob(os.path.join(TOP, "*", "*.md"))):
         name = os.path.relpath(path, TOP)
         page = read(name)
-        for other in set(re.findall(r"\b(?:docs|examples|js|tests|bench)/\w+(?:\.(?:md|py|d\.m?ts|mjs|js|html|c|wasm|json|png|svg|trace))?\b", page)):
-            if not os.path.exists(os.path.join(TOP, other)):
-                wrong.append("%s: there is no %s" % (name, other))
         for cell in cells(page):
             if len(cell) > LONGEST_CELL:
                 wrong.append("%s: a cell has %d characters: %s" % (name, len(cell), cell[:40]))

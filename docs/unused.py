@@ -1,15 +1,20 @@
 #!/usr/bin/env python3
 """Lists the lemmas and definitions of proofs/ that nothing names, each with its file and line: python3 docs/unused.py [CRATE ..]
 
+It ends with 1 if there are any; docs/unused.py --check looks at all crates.
+
 A name counts as used if its file has it outside its own definition. A name that is `pub` also counts as used if another file has it
 in a list of imports, or beside the name of its file. Worked examples are left out: the files that are named Examples, and those
 that export nothing. What a record or a data type lists is not a definition here. This script reads text and proves nothing: a check
 says whether a proof can do without a name.
 """
+from __future__ import annotations
+
 import collections
 import pathlib
 import re
 import sys
+from typing import Iterator, List, Tuple
 
 CRATES = pathlib.Path(__file__).resolve().parent.parent / "crates"
 WORD = re.compile(r"[^\s(){}\[\].,;:∷λ]+")
@@ -17,11 +22,11 @@ HEAD = re.compile(r"( *)(abbrev )?(pub )?([A-Za-z_][^\s:(){}]*) : ")
 PROOF_FILES = {"Answers.antt", "Invariants.antt", "Proof.antt", "Lib.antt"}
 
 
-def indent(line):
+def indent(line: str) -> int:
     return len(line) - len(line.lstrip())
 
 
-def end_of(lines, at, name):
+def end_of(lines: List[str], at: int, name: str) -> int:
     """The line behind a definition: its clauses, and what is deeper, also behind an empty line."""
     depth, end, seen = indent(lines[at]), at + 1, at + 1
     while seen < len(lines):
@@ -35,7 +40,7 @@ def end_of(lines, at, name):
     return end
 
 
-def definitions(lines):
+def definitions(lines: List[str]) -> Iterator[Tuple[int, int, str, bool]]:
     """Each definition with a clause of its own: its line, the one behind it, its name, and whether others may name it."""
     for at, line in enumerate(lines):
         head = HEAD.match(line)
@@ -47,8 +52,9 @@ def definitions(lines):
             yield at, end, name, bool(head[3])
 
 
-def main():
-    wanted = sys.argv[1:]
+def main() -> int:
+    wanted = [it for it in sys.argv[1:] if it != "--check"]
+    is_any = False
     texts = {it: it.read_text() for it in CRATES.rglob("*") if it.suffix in (".rt", ".antt") and "out" not in it.parts}
     words = {it: collections.Counter(WORD.findall(text)) for it, text in texts.items()}
     lists = {it: set(WORD.findall(" ".join(re.findall(r"(?m)use [^\n{]*\{([^}]*)\}", text)))) for it, text in texts.items()}
@@ -63,7 +69,9 @@ def main():
             others = (it for it in texts if is_public and it != file and name in words[it])
             if words[file][name] == own and not any(name in lists[it] or file.stem in words[it] or it.suffix == ".rt" for it in others):
                 print(f"{file.relative_to(CRATES.parent)}:{at + 1}: {name}")
+                is_any = True
+    return int(is_any)
 
 
 if __name__ == "__main__":
-    main()
+    sys.exit(main())
